@@ -7,7 +7,9 @@ use Rattle.urlpattern.specs.UrlPatternMatchInput.{UrlPatternMatchInput}
 
 -- The rule at the index of the first pattern of the list that matches the input. `None` if no
 -- pattern matches.
-abbrev pub IsOfFirst : {E A : Type 0} → (answer : E → List ℕ → Option Captures) → List (PatternView E) → (rules : List A) → UrlPatternMatchInput → Option A → Type 0
+abbrev pub IsOfFirst : {E A : Type 0} → (answer : E → List ℕ → Option Captures)
+    → List (PatternView E) → (rules : List A) → UrlPatternMatchInput → Option A → Type 0
 IsOfFirst answer patterns rules input (Some rule) =
-    (first : FirstView) × IsFirstMatch answer patterns input (Some first) × (slice_get rules first.0 ≡ Some rule)
+    (first : FirstView) × IsFirstMatch answer patterns input (Some first)
+    × (slice_get rules first.0 ≡ Some rule)
 IsOfFirst answer patterns rules input None = IsFirstMatch answer patterns input None

@@ -14,28 +14,39 @@ use Rattle.urlpattern.specs.ComponentName.TheVariants.{Pathname}
 
 -- The pattern matches the input, and the group of the component with this name captures this text;
 -- `None` if there is no such group or it takes no part.
-abbrev pub IsCaptured : {E : Type 0} → (answer : E → List ℕ → Option Captures) → PatternView E → UrlPatternMatchInput → ComponentName → (name : List ℕ) → Option (List ℕ) → Type 0
+abbrev pub IsCaptured : {E : Type 0} → (answer : E → List ℕ → Option Captures) → PatternView E
+    → UrlPatternMatchInput → ComponentName → (name : List ℕ) → Option (List ℕ) → Type 0
 IsCaptured answer pattern input component name capture =
-    (result : ComponentName → ResultView) × IsMatch answer pattern input result × (captured_text (result component) name ≡ capture)
+    (result : ComponentName → ResultView) × IsMatch answer pattern input result
+    × (captured_text (result component) name ≡ capture)
 
 -- The user that the URL names: the capture of the group `id` of the path.
-abbrev pub NamesUser : {E : Type 0} → (answer : E → List ℕ → Option Captures) → (users : PatternView E) → Parts → Option (List ℕ) → Type 0
-NamesUser answer users url user = IsCaptured answer users (inputs.Url url) Pathname (chars (codes "id")) user
+abbrev pub NamesUser : {E : Type 0} → (answer : E → List ℕ → Option Captures)
+    → (users : PatternView E) → Parts → Option (List ℕ) → Type 0
+NamesUser answer users url user =
+    IsCaptured answer users (inputs.Url url) Pathname (chars (codes "id")) user
 
 -- The URL names no user: the pattern of users does not match it, or the group takes no part.
-abbrev pub NamesNone : {E : Type 0} → (answer : E → List ℕ → Option Captures) → (users : PatternView E) → Parts → Type 0
-NamesNone answer users url = HasNoMatch answer users (inputs.Url url) ⊎ NamesUser answer users url None
+abbrev pub NamesNone : {E : Type 0} → (answer : E → List ℕ → Option Captures)
+    → (users : PatternView E) → Parts → Type 0
+NamesNone answer users url =
+    HasNoMatch answer users (inputs.Url url) ⊎ NamesUser answer users url None
 
 -- The capture of the group `id` for a path that the pattern of users matches, all other components
 -- being empty.
-abbrev pub CapturesIdOfPath : {E : Type 0} → (answer : E → List ℕ → Option Captures) → (users : PatternView E) → (path : List ℕ) → Option (List ℕ) → Type 0
+abbrev pub CapturesIdOfPath : {E : Type 0} → (answer : E → List ℕ → Option Captures)
+    → (users : PatternView E) → (path : List ℕ) → Option (List ℕ) → Type 0
 CapturesIdOfPath answer users path id =
-    (result : ComponentName → ResultView) × IsMatchOf answer users (pathname_alone path) result × (captured_text (result Pathname) (chars (codes "id")) ≡ id)
+    (result : ComponentName → ResultView) × IsMatchOf answer users (pathname_alone path) result
+    × (captured_text (result Pathname) (chars (codes "id")) ≡ id)
 
 -- The user that a path names.
-abbrev pub PathNamesUser : {E : Type 0} → (answer : E → List ℕ → Option Captures) → (users : PatternView E) → (path user : List ℕ) → Type 0
+abbrev pub PathNamesUser : {E : Type 0} → (answer : E → List ℕ → Option Captures)
+    → (users : PatternView E) → (path user : List ℕ) → Type 0
 PathNamesUser answer users path user = CapturesIdOfPath answer users path (Some user)
 
 -- The path names no user: the pattern of users does not match it, or the group takes no part.
-abbrev pub PathNamesNone : {E : Type 0} → (answer : E → List ℕ → Option Captures) → (users : PatternView E) → (path : List ℕ) → Type 0
-PathNamesNone answer users path = DoesNotMatch answer users (pathname_alone path) ⊎ CapturesIdOfPath answer users path None
+abbrev pub PathNamesNone : {E : Type 0} → (answer : E → List ℕ → Option Captures)
+    → (users : PatternView E) → (path : List ℕ) → Type 0
+PathNamesNone answer users path =
+    DoesNotMatch answer users (pathname_alone path) ⊎ CapturesIdOfPath answer users path None

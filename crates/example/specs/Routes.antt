@@ -12,12 +12,14 @@ use Rattle.urlpattern.specs.UrlPattern.{UrlPattern}
 use Rattle.urlpattern.specs.UrlPatternMatchInput.TheVariants as inputs
 
 -- The first route that matches the URL has this value, and its group `id` has this capture.
-abbrev pub ShowsValue : {E T : Type 0} → (answer : E → List ℕ → Option Captures) → (routes : List (UrlPattern E × T)) → Parts → (value : T) → (id : Option (List ℕ)) → Type 0
+abbrev pub ShowsValue : {E T : Type 0} → (answer : E → List ℕ → Option Captures)
+    → (routes : List (UrlPattern E × T)) → Parts → (value : T) → (id : Option (List ℕ)) → Type 0
 ShowsValue answer routes url value id =
     (first : FirstView) × IsFirstMatch answer (entry_patterns routes) (inputs.Url url) (Some first)
     × (slice_get (values_of routes) first.0 ≡ Some value)
     × (captured_text (first.1 Pathname) (chars (codes "id")) ≡ id)
 
 -- No route matches the URL.
-abbrev pub ShowsNothing : {E T : Type 0} → (answer : E → List ℕ → Option Captures) → (routes : List (UrlPattern E × T)) → Parts → Type 0
+abbrev pub ShowsNothing : {E T : Type 0} → (answer : E → List ℕ → Option Captures)
+    → (routes : List (UrlPattern E × T)) → Parts → Type 0
 ShowsNothing answer routes url = IsFirstMatch answer (entry_patterns routes) (inputs.Url url) None

@@ -15,4 +15,5 @@ AreJoined parts again = parts_view again.items ≡ joined (parts_view parts)
 
 -- The new parts mean the same as the old ones.
 abbrev pub KeepMeaning : Options → List Part → (again : Vec Part Global) → Type 0
-KeepMeaning options parts again = MeanTheSame (options_view options) (parts_view again.items) (parts_view parts)
+KeepMeaning options parts again =
+    MeanTheSame (options_view options) (parts_view again.items) (parts_view parts)

@@ -19,7 +19,8 @@ pub fn max_age<R: RegExp>(
     url: &Url,
 ) -> Result<Option<u32>, Error>
     requires { length ages.now ≡ length patterns.now }
-    ensures first { IfOk result (IsOfFirst R.answer (patterns_view patterns.now) ages.now (UrlPatternMatchInput.Url url.now)) }
+    ensures first { IfOk result (IsOfFirst R.answer (patterns_view patterns.now) ages.now
+        (UrlPatternMatchInput.Url url.now)) }
     ensures memory { OnlyOutOfMemory result }
 {
     // docs: max_age

@@ -35,7 +35,8 @@ impl Grants {
     /// Whether a granted pattern is known to cover the asked one. Everything that the asked one
     /// matches is then matched by that pattern.
     pub fn check(&self, alloc: Global, asked: &PatternParts) -> Result<bool, AllocError>
-        ensures { IfOk result (λ permitted. IsTrue permitted → IsGranted self.now.patterns.items asked.now) }
+        ensures { IfOk result (λ permitted.
+            IsTrue permitted → IsGranted self.now.patterns.items asked.now) }
     {
         let granted = self.granted(alloc)?;
         let found = first_covering(alloc, &granted, asked)?;
@@ -44,7 +45,8 @@ impl Grants {
 
     /// References to the patterns.
     fn granted(&self, alloc: Global) -> Result<Vec<&PatternParts>, AllocError>
-        ensures { IfOk result (λ granted. map (λ pattern. pattern.now) granted.items ≡ self.now.patterns.items) }
+        ensures { IfOk result (λ granted.
+            map (λ pattern. pattern.now) granted.items ≡ self.now.patterns.items) }
     {
         self.patterns.iter().collect(alloc)
     }

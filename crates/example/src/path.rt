@@ -21,8 +21,10 @@ pub fn user<'u, R: RegExp>(
     users: &UrlPattern<R>,
     path: &'u str,
 ) -> Result<Option<&'u str>, Error>
-    ensures some { IfOk result (λ found. IfSome found (λ id. PathNamesUser R.answer (pattern_view users.now) (chars path.now) (chars id.now))) }
-    ensures none { IfOk result (λ found. IfNone found (PathNamesNone R.answer (pattern_view users.now) (chars path.now))) }
+    ensures some { IfOk result (λ found. IfSome found (λ id.
+        PathNamesUser R.answer (pattern_view users.now) (chars path.now) (chars id.now))) }
+    ensures none { IfOk result (λ found.
+        IfNone found (PathNamesNone R.answer (pattern_view users.now) (chars path.now))) }
     ensures memory { OnlyOutOfMemory result }
 {
     // docs: path

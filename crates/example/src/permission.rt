@@ -25,9 +25,12 @@ pub fn refusal<R: RegExp>(
     permitted: &UrlPattern<R>,
     url: &Url,
 ) -> Result<Option<ComponentName>, Error>
-    ensures permitted { IfOk result (λ refused. IfNone refused (HasMatch R.answer (pattern_view permitted.now) (inputs.Url url.now))) }
-    ensures refused { IfOk result (λ refused. IfSome refused (λ _. ¬ HasMatch R.answer (pattern_view permitted.now) (inputs.Url url.now))) }
-    ensures first { IfOk result (λ refused. IfSome refused (IsMismatch R.answer (pattern_view permitted.now) (texts_of_url url.now))) }
+    ensures permitted { IfOk result (λ refused.
+        IfNone refused (HasMatch R.answer (pattern_view permitted.now) (inputs.Url url.now))) }
+    ensures refused { IfOk result (λ refused. IfSome refused (λ _.
+        ¬ HasMatch R.answer (pattern_view permitted.now) (inputs.Url url.now))) }
+    ensures first { IfOk result (λ refused.
+        IfSome refused (IsMismatch R.answer (pattern_view permitted.now) (texts_of_url url.now))) }
     ensures memory { OnlyOutOfMemory result }
 {
     // By a law of the library, which costs nothing to call, a pattern that matches a URL has no

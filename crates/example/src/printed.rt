@@ -23,13 +23,17 @@ pub fn printed_and_read(
     parts: &[Part],
     options: &Options,
 ) -> Result<Vec<Part>, Error>
-    ensures same { IsPrintable (options_view options.now) (parts_view parts.now) → IfOk result (AreJoined parts.now) }
-    ensures meaning { IsPrintable (options_view options.now) (parts_view parts.now) → IfOk result (KeepMeaning options.now parts.now) }
-    ensures memory { IsPrintable (options_view options.now) (parts_view parts.now) → OnlyOutOfMemory result }
+    ensures same { IsPrintable (options_view options.now) (parts_view parts.now)
+        → IfOk result (AreJoined parts.now) }
+    ensures meaning { IsPrintable (options_view options.now) (parts_view parts.now)
+        → IfOk result (KeepMeaning options.now parts.now) }
+    ensures memory { IsPrintable (options_view options.now) (parts_view parts.now)
+        → OnlyOutOfMemory result }
 {
     joining_keeps_meaning();
     let unchanged = |text: &str| -> Result<String, Error>
-        ensures { MatchResult result (λ copy. string_bytes copy ≡ text.now) (λ error. error ≡ Error.OutOfMemory) }
+        ensures { MatchResult result (λ copy. string_bytes copy ≡ text.now) (λ error.
+            error ≡ Error.OutOfMemory) }
     { Ok(String::from_str(alloc, text)?) };
     normalize_part_list(alloc, parts, options, unchanged)
 }

@@ -24,8 +24,10 @@ pub fn user<'u, R: RegExp>(
     users: &UrlPattern<R>,
     url: &'u Url,
 ) -> Result<Option<&'u str>, Error>
-    ensures some { IfOk result (λ found. IfSome found (λ id. NamesUser R.answer (pattern_view users.now) url.now (Some (chars id.now)))) }
-    ensures none { IfOk result (λ found. IfNone found (NamesNone R.answer (pattern_view users.now) url.now)) }
+    ensures some { IfOk result (λ found. IfSome found (λ id.
+        NamesUser R.answer (pattern_view users.now) url.now (Some (chars id.now)))) }
+    ensures none { IfOk result (λ found.
+        IfNone found (NamesNone R.answer (pattern_view users.now) url.now)) }
     ensures memory { OnlyOutOfMemory result }
 {
     // docs: user

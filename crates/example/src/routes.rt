@@ -20,7 +20,8 @@ pub fn shown<'m, 'u, T, R: RegExp>(
     routes: &'m UrlPatternMap<T, R>,
     url: &'u Url,
 ) -> Result<Option<(&'m T, Option<&'u str>)>, Error>
-    ensures some { IfOk result (λ found. IfSome found (λ shown. ShowsValue R.answer routes.now url.now shown.0.now (option_text shown.1))) }
+    ensures some { IfOk result (λ found. IfSome found (λ shown.
+        ShowsValue R.answer routes.now url.now shown.0.now (option_text shown.1))) }
     ensures none { IfOk result (λ found. IfNone found (ShowsNothing R.answer routes.now url.now)) }
     ensures memory { OnlyOutOfMemory result }
 {

@@ -14,23 +14,34 @@ use Rattle.urlpat_lines.specs.declared.flags.Flags.{Flags}
 -- The arguments are those of a command that compares patterns or reads a table.
 abbrev pub AskForRules : (words : List (List ℕ)) → Type 0
 AskForRules words =
-    (rest : List (List ℕ)) × (AreArgumentsAfter (codes "covers") words rest ⊎ AreArgumentsAfter (codes "unreachable") words rest ⊎ AreArgumentsAfter (codes "route") words rest)
+    (rest : List (List ℕ))
+    × (AreArgumentsAfter (codes "covers") words rest
+    ⊎ AreArgumentsAfter (codes "unreachable") words rest
+    ⊎ AreArgumentsAfter (codes "route") words rest)
 
 -- A command that compares patterns or reads a table ends with the status, and its output turns
 -- `old` into `new`. `Has` says which file has which table.
-abbrev pub DoesRules : Flags → (Has : (name table : List ℕ) → Type 0) → (words : List (List ℕ)) → (status : ℕ) → (input old new : Option (List ℕ)) → Type 0
+abbrev pub DoesRules : Flags → (Has : (name table : List ℕ) → Type 0) → (words : List (List ℕ))
+    → (status : ℕ) → (input old new : Option (List ℕ)) → Type 0
 DoesRules flags Has words status input old new =
-    ((rest : List (List ℕ)) × AreArgumentsAfter (codes "covers") words rest × PrintsWhether rest status old new)
-    ⊎ ((rest : List (List ℕ)) × AreArgumentsAfter (codes "unreachable") words rest × Lists Has rest status old new)
-    ⊎ ((rest : List (List ℕ)) × AreArgumentsAfter (codes "route") words rest × RoutesLines flags Has rest status input old new)
+    ((rest : List (List ℕ)) × AreArgumentsAfter (codes "covers") words rest
+    × PrintsWhether rest status old new)
+    ⊎ ((rest : List (List ℕ)) × AreArgumentsAfter (codes "unreachable") words rest
+    × Lists Has rest status old new)
+    ⊎ ((rest : List (List ℕ)) × AreArgumentsAfter (codes "route") words rest
+    × RoutesLines flags Has rest status input old new)
 
 -- A command of any kind ends with the status, and its output turns `old` into `new`.
-abbrev pub DoesAny : Flags → (Has : (name table : List ℕ) → Type 0) → (words : List (List ℕ)) → (status : ℕ) → (input old new : Option (List ℕ)) → Type 0
-DoesAny flags Has words status input old new = DoesRules flags Has words status input old new ⊎ Does flags words status input old new
+abbrev pub DoesAny : Flags → (Has : (name table : List ℕ) → Type 0) → (words : List (List ℕ))
+    → (status : ℕ) → (input old new : Option (List ℕ)) → Type 0
+DoesAny flags Has words status input old new =
+    DoesRules flags Has words status input old new ⊎ Does flags words status input old new
 
 -- `DoesAny` unless the run failed.
-abbrev pub RunsAny : Flags → (Has : (name table : List ℕ) → Type 0) → (words : List (String Global)) → (status : ℕ) → (input old new : Option (List ℕ)) → Type 0
-RunsAny flags Has words status input old new = status ≢ FAILED → DoesAny flags Has (words_view words) status input old new
+abbrev pub RunsAny : Flags → (Has : (name table : List ℕ) → Type 0) → (words : List (String Global))
+    → (status : ℕ) → (input old new : Option (List ℕ)) → Type 0
+RunsAny flags Has words status input old new =
+    status ≢ FAILED → DoesAny flags Has (words_view words) status input old new
 
 -- A run that succeeds may also report something: a note that `url` rejects the input, if errors are
 -- explained, or anything if the command is `filter`, compares patterns or reads a table.
@@ -40,4 +51,5 @@ MayReport flags words = HasNote flags words ⊎ AskToFilter words ⊎ AskForRule
 -- What is known of a failed run: the arguments have no output, and `IsSo` holds; or they have one,
 -- which may be printed in part; or their command is `filter`, compares patterns or reads a table.
 abbrev pub FailsAny : Flags → (words : List (List ℕ)) → (IsSo : Type 0) → Type 0
-FailsAny flags words IsSo = FailsWhere flags words IsSo ⊎ AreAnswered flags words ⊎ AskToFilter words ⊎ AskForRules words
+FailsAny flags words IsSo =
+    FailsWhere flags words IsSo ⊎ AreAnswered flags words ⊎ AskToFilter words ⊎ AskForRules words

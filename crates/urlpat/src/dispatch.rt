@@ -24,7 +24,8 @@ pub fn run<T: Tables, In: BufRead, Out: Write, Err: Write>(
     err: &mut Err,
 ) -> u8
     ensures status { (result ≡ DONE) ⊎ (result ≡ NO_MATCH) ⊎ (result ≡ FAILED) }
-    ensures answers { RunsAny flags (T.Has tables.now) words.now result (In.remaining input.old) (Out.contents out.old) (Out.contents out.new) }
+    ensures answers { RunsAny flags (T.Has tables.now) words.now result (In.remaining input.old)
+        (Out.contents out.old) (Out.contents out.new) }
     ensures quiet { result ≢ FAILED → (err.new ≡ err.old) ⊎ MayReport flags (words_view words.now) }
     ensures fails { result ≡ FAILED → FailsAny flags (words_view words.now) (out.new ≡ out.old) }
 {

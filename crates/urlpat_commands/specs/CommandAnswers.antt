@@ -57,10 +57,14 @@ pub record IsComponentText (kind pattern text : List ℕ) : Type 0 where
   pub parts : List PartView
   pub is_named : NamesOptions kind options
   pub reads : Reads (chars pattern) options kept parts
-  pub means : All (λ part. part.kind ≢ Regexp) parts → HasMeaningOf (regexp_text options parts) options parts
-  pub reads_back : (answers : EncodingResults) → IsPrintable options parts → Keeps (listed answers) parts
+  pub means : All (λ part. part.kind ≢ Regexp) parts
+      → HasMeaningOf (regexp_text options parts) options parts
+  pub reads_back : (answers : EncodingResults) → IsPrintable options parts
+      → Keeps (listed answers) parts
       → ReadsBack (printed options parts) options (listed answers) parts
-  pub is_text : text ≡ component_lines (map encode_utf8_all (group_names parts)) (encode_utf8_all (regexp_text options parts)) (encode_utf8_all (printed options parts))
+  pub is_text : text
+      ≡ component_lines (map encode_utf8_all (group_names parts))
+      (encode_utf8_all (regexp_text options parts)) (encode_utf8_all (printed options parts))
 
 -- The pattern is rejected with this error under the options with this name.
 pub record RejectsComponentText (kind pattern : List ℕ) (error : ErrorView) : Type 0 where
@@ -72,16 +76,20 @@ pub record RejectsComponentText (kind pattern : List ℕ) (error : ErrorView) : 
 -- ran out.
 abbrev pub FailsComponent : (kind pattern : List ℕ) → Failure → Type 0
 FailsComponent kind pattern failures.Usage = ¬ IsKind kind
-FailsComponent kind pattern (failures.Refused error) = MemoryOr (RejectsComponentText kind pattern) error
+FailsComponent kind pattern (failures.Refused error) =
+    MemoryOr (RejectsComponentText kind pattern) error
 
 -- ---- the captures of the first match
 
 -- The constructor strings with this base URL are compiled to the patterns, in order.
-abbrev pub ArePatterns : (ignores : Bool) → (texts : List (List ℕ)) → (base : Option (List ℕ)) → List (PatternView PatternRegexp) → Type 0
-ArePatterns ignores texts base patterns = AllZip (λ text pattern. IsPatternOf ignores text base pattern) texts patterns
+abbrev pub ArePatterns : (ignores : Bool) → (texts : List (List ℕ))
+    → (base : Option (List ℕ)) → List (PatternView PatternRegexp) → Type 0
+ArePatterns ignores texts base patterns =
+    AllZip (λ text pattern. IsPatternOf ignores text base pattern) texts patterns
 
 -- A constructor string is rejected with this error, and the ones before it are compiled.
-pub record RejectsOneOf (ignores : Bool) (texts : List (List ℕ)) (base : Option (List ℕ)) (error : ErrorView) : Type 0 where
+pub record RejectsOneOf (ignores : Bool) (texts : List (List ℕ)) (base : Option (List ℕ))
+    (error : ErrorView) : Type 0 where
   pub index : ℕ
   pub text : List ℕ
   pub earlier : List (PatternView PatternRegexp)
@@ -90,13 +98,17 @@ pub record RejectsOneOf (ignores : Bool) (texts : List (List ℕ)) (base : Optio
   pub refuses : RejectsPatternOf ignores text base error
 
 -- The text has the index of the first pattern that matches, and its captures.
-abbrev pub ShowsFirst : (json : Bool) → (index : ℕ) → (ComponentName → ResultView) → (text : List ℕ) → Type 0
+abbrev pub ShowsFirst : (json : Bool) → (index : ℕ) → (ComponentName → ResultView)
+    → (text : List ℕ) → Type 0
 ShowsFirst true index result text = IsFirstJson index result text
-ShowsFirst false index result text = (lines : List ℕ) × AreLines (all_named_results result) lines × (text ≡ first_line index ++ lines)
+ShowsFirst false index result text =
+    (lines : List ℕ) × AreLines (all_named_results result) lines
+    × (text ≡ first_line index ++ lines)
 
 -- A pattern of the list is the first that matches the input, a URL under this base URL, and the
 -- text has its index and its captures.
-pub record IsFirstTextBy (json : Bool) (compiled : List (PatternView PatternRegexp)) (input : List ℕ) (base : Option (List ℕ)) (text : List ℕ) : Type 0 where
+pub record IsFirstTextBy (json : Bool) (compiled : List (PatternView PatternRegexp))
+    (input : List ℕ) (base : Option (List ℕ)) (text : List ℕ) : Type 0 where
   pub url : Parts
   pub index : ℕ
   pub result : ComponentName → ResultView
@@ -105,34 +117,45 @@ pub record IsFirstTextBy (json : Bool) (compiled : List (PatternView PatternRege
   pub shows : ShowsFirst json index result text
 
 -- The pattern texts compile to patterns, and the text has the first match of the input.
-abbrev pub IsFirstMatchText : Flags → (patterns : List (List ℕ)) → (input : List ℕ) → (base : Option (List ℕ)) → (text : List ℕ) → Type 0
+abbrev pub IsFirstMatchText : Flags → (patterns : List (List ℕ)) → (input : List ℕ)
+    → (base : Option (List ℕ)) → (text : List ℕ) → Type 0
 IsFirstMatchText flags patterns input base text =
-    (compiled : List (PatternView PatternRegexp)) × ArePatterns flags.ignore_case patterns base compiled × IsFirstTextBy flags.json compiled input base text
+    (compiled : List (PatternView PatternRegexp))
+    × ArePatterns flags.ignore_case patterns base compiled
+    × IsFirstTextBy flags.json compiled input base text
 
 -- No pattern of the list matches the input.
-abbrev pub IsUnmatchedByAll : (compiled : List (PatternView PatternRegexp)) → (input : List ℕ) → (base : Option (List ℕ)) → Type 0
+abbrev pub IsUnmatchedByAll : (compiled : List (PatternView PatternRegexp)) → (input : List ℕ)
+    → (base : Option (List ℕ)) → Type 0
 IsUnmatchedByAll compiled input base = IsUnmatchedByAllUnder compiled input (base_view base)
 
 -- The pattern texts compile to patterns, none of which matches the input.
-abbrev pub IsUnmatchedByEach : (ignores : Bool) → (patterns : List (List ℕ)) → (input : List ℕ) → (base : Option (List ℕ)) → Type 0
+abbrev pub IsUnmatchedByEach : (ignores : Bool) → (patterns : List (List ℕ))
+    → (input : List ℕ) → (base : Option (List ℕ)) → Type 0
 IsUnmatchedByEach ignores patterns input base =
-    (compiled : List (PatternView PatternRegexp)) × ArePatterns ignores patterns base compiled × IsUnmatchedByAll compiled input base
+    (compiled : List (PatternView PatternRegexp)) × ArePatterns ignores patterns base compiled
+    × IsUnmatchedByAll compiled input base
 
 -- The text of the first match by pattern texts. `None`: there is no match.
-abbrev pub FindsFirst : Flags → (patterns : List (List ℕ)) → (input : List ℕ) → (base : Option (List ℕ)) → Option (String Global) → Type 0
+abbrev pub FindsFirst : Flags → (patterns : List (List ℕ)) → (input : List ℕ)
+    → (base : Option (List ℕ)) → Option (String Global) → Type 0
 FindsFirst flags patterns input base found =
-    MatchOption found (IsUnmatchedByEach flags.ignore_case patterns input base) (λ text. IsFirstMatchText flags patterns input base (string_bytes text))
+    MatchOption found (IsUnmatchedByEach flags.ignore_case patterns input base) (λ text.
+    IsFirstMatchText flags patterns input base (string_bytes text))
 
 -- The text of the first match by compiled patterns. `None`: there is no match.
-abbrev pub FindsFirstBy : (json : Bool) → List (PatternView PatternRegexp) → (input : List ℕ) → (base : Option (List ℕ)) → Option (String Global) → Type 0
+abbrev pub FindsFirstBy : (json : Bool) → List (PatternView PatternRegexp)
+    → (input : List ℕ) → (base : Option (List ℕ)) → Option (String Global) → Type 0
 FindsFirstBy json compiled input base found =
-    MatchOption found (IsUnmatchedByAll compiled input base) (λ text. IsFirstTextBy json compiled input base (string_bytes text))
+    MatchOption found (IsUnmatchedByAll compiled input base) (λ text.
+    IsFirstTextBy json compiled input base (string_bytes text))
 
 -- ---- the arguments of `component`
 
 -- The output and the exit status of `component`.
 abbrev pub IsComponentAnswer : (words : List (List ℕ)) → (text : List ℕ) → (status : ℕ) → Type 0
-IsComponentAnswer (kind ∷ pattern ∷ []) text status = IsComponentText kind pattern text × (status ≡ 0)
+IsComponentAnswer (kind ∷ pattern ∷ []) text status =
+    IsComponentText kind pattern text × (status ≡ 0)
 IsComponentAnswer words text status = ⊥
 
 -- The reason why `component` has no output.
@@ -143,8 +166,10 @@ IsComponentFailure words failure = failure ≡ failures.Usage
 -- ---- the arguments of `match`
 
 -- The output is a match, with status 0, or that there is none, with status 1.
-abbrev pub AnswersMatch : (json : Bool) → (Matched Unmatched : Type 0) → (text : List ℕ) → (status : ℕ) → Type 0
-AnswersMatch json Matched Unmatched text status = (Matched × (status ≡ 0)) ⊎ (Unmatched × (text ≡ no_match_text json) × (status ≡ 1))
+abbrev pub AnswersMatch : (json : Bool) → (Matched Unmatched : Type 0)
+    → (text : List ℕ) → (status : ℕ) → Type 0
+AnswersMatch json Matched Unmatched text status =
+    (Matched × (status ≡ 0)) ⊎ (Unmatched × (text ≡ no_match_text json) × (status ≡ 1))
 
 -- The reason is a rejection of this kind, or that memory ran out.
 abbrev pub IsRejection : (Rejects : ErrorView → Type 0) → Failure → Type 0
@@ -160,7 +185,8 @@ IsMatchAnswer flags words text status = ⊥
 
 -- The reason why `match` has no output.
 abbrev pub IsMatchFailure : (ignores : Bool) → (words : List (List ℕ)) → Failure → Type 0
-IsMatchFailure ignores (pattern ∷ base ∷ input ∷ []) failure = IsRejection (RejectsPatternOf ignores pattern (base_of base)) failure
+IsMatchFailure ignores (pattern ∷ base ∷ input ∷ []) failure =
+    IsRejection (RejectsPatternOf ignores pattern (base_of base)) failure
 IsMatchFailure ignores words failure = failure ≡ failures.Usage
 
 -- ---- the arguments of `first`
@@ -174,20 +200,25 @@ IsFirstAnswer flags words text status = ⊥
 
 -- The reason why `first` has no output.
 abbrev pub IsFirstFailure : (ignores : Bool) → (words : List (List ℕ)) → Failure → Type 0
-IsFirstFailure ignores (base ∷ input ∷ pattern ∷ patterns) failure = IsRejection (RejectsOneOf ignores (pattern ∷ patterns) (base_of base)) failure
+IsFirstFailure ignores (base ∷ input ∷ pattern ∷ patterns) failure =
+    IsRejection (RejectsOneOf ignores (pattern ∷ patterns) (base_of base)) failure
 IsFirstFailure ignores words failure = failure ≡ failures.Usage
 
 -- ---- the short form: a pattern and an input, without a base URL
 
 -- The output and the exit status of the short form.
-abbrev pub IsShortAnswer : Flags → (pattern : List ℕ) → (words : List (List ℕ)) → (text : List ℕ) → (status : ℕ) → Type 0
+abbrev pub IsShortAnswer : Flags → (pattern : List ℕ) → (words : List (List ℕ))
+    → (text : List ℕ) → (status : ℕ) → Type 0
 IsShortAnswer flags pattern (input ∷ []) text status =
-    AnswersMatch flags.json (IsMatchText flags pattern input None text) (IsUnmatched flags.ignore_case pattern input None) text status
+    AnswersMatch flags.json (IsMatchText flags pattern input None text)
+    (IsUnmatched flags.ignore_case pattern input None) text status
 IsShortAnswer flags pattern words text status = ⊥
 
 -- The reason why the short form has no output.
-abbrev pub IsShortFailure : (ignores : Bool) → (pattern : List ℕ) → (words : List (List ℕ)) → Failure → Type 0
-IsShortFailure ignores pattern (input ∷ []) failure = IsRejection (RejectsPatternOf ignores pattern None) failure
+abbrev pub IsShortFailure : (ignores : Bool) → (pattern : List ℕ)
+    → (words : List (List ℕ)) → Failure → Type 0
+IsShortFailure ignores pattern (input ∷ []) failure =
+    IsRejection (RejectsPatternOf ignores pattern None) failure
 IsShortFailure ignores pattern words failure = failure ≡ failures.Usage
 
 -- ---- commands
@@ -197,7 +228,8 @@ abbrev pub IsCommand : List ℕ → Type 0
 IsCommand word = (word ≡ codes "component") ⊎ (word ≡ codes "match") ⊎ (word ≡ codes "first")
 
 -- The output for the arguments, and the exit status: 0, or 1 if the input does not match.
-abbrev pub IsCommandAnswer : Flags → (words : List (List ℕ)) → (text : List ℕ) → (status : ℕ) → Type 0
+abbrev pub IsCommandAnswer : Flags → (words : List (List ℕ)) → (text : List ℕ)
+    → (status : ℕ) → Type 0
 IsCommandAnswer flags [] text status = ⊥
 IsCommandAnswer flags (command ∷ words) text status =
     ((command ≡ codes "component") × IsComponentAnswer words text status)
@@ -219,12 +251,16 @@ IsFailure flags (command ∷ words) failure =
 
 -- The output for the arguments, with this exit status: the help text that they ask for, or the
 -- output of a command.
-abbrev pub IsProgramAnswer : Flags → (words : List (List ℕ)) → (text : List ℕ) → (status : ℕ) → Type 0
-IsProgramAnswer flags words text status = (IsHelp words text × (status ≡ 0)) ⊎ IsCommandAnswer flags words text status
+abbrev pub IsProgramAnswer : Flags → (words : List (List ℕ)) → (text : List ℕ)
+    → (status : ℕ) → Type 0
+IsProgramAnswer flags words text status =
+    (IsHelp words text × (status ≡ 0)) ⊎ IsCommandAnswer flags words text status
 
 -- The output for the arguments is printed, with this exit status.
-abbrev pub Prints : Flags → (words : List (List ℕ)) → (status : ℕ) → (old new : Option (List ℕ)) → Type 0
-Prints flags words status old new = (text : List ℕ) × IsProgramAnswer flags words text status × Appends old new text
+abbrev pub Prints : Flags → (words : List (List ℕ)) → (status : ℕ)
+    → (old new : Option (List ℕ)) → Type 0
+Prints flags words status old new =
+    (text : List ℕ) × IsProgramAnswer flags words text status × Appends old new text
 
 -- The arguments have an output, which may be printed in part or not at all.
 abbrev pub AreAnswered : Flags → (words : List (List ℕ)) → Type 0
@@ -237,5 +273,6 @@ FailsWhere flags words IsSo = (failure : Failure) × IsFailure flags words failu
 -- The output is the text that was found, or that there is none.
 abbrev pub IsPrintedOf : (json : Bool) → Option (String Global) → Printed → Type 0
 IsPrintedOf json found printed =
-    MatchOption found ((string_bytes printed.text ≡ no_match_text json) × (printed.status ≡ NO_MATCH))
+    MatchOption found
+    ((string_bytes printed.text ≡ no_match_text json) × (printed.status ≡ NO_MATCH))
     (λ text. (printed.text ≡ text) × (printed.status ≡ DONE))

@@ -40,12 +40,14 @@ capture_or_nothing (Some capture) = capture
 abbrev pub HasPiece : (ComponentName → ResultView) → Shape → (piece : List ℕ) → Type 0
 HasPiece result shapes.Line piece = piece ≡ []
 HasPiece result shapes.Count piece = piece ≡ []
-HasPiece result (shapes.Group component name) piece = piece ≡ capture_or_nothing (group_bytes ((result component).group (chars name.now)))
+HasPiece result (shapes.Group component name) piece =
+    piece ≡ capture_or_nothing (group_bytes ((result component).group (chars name.now)))
 HasPiece result shapes.Json piece = IsMatchJson result piece
 
 -- The pattern matches the URL in a text, under this base URL, and the piece is the output of the
 -- shape for the match.
-pub record IsPieceOf (compiled : PatternView PatternRegexp) (base : BaseView) (text : List ℕ) (shape : Shape) (piece : List ℕ) : Type 0 where
+pub record IsPieceOf (compiled : PatternView PatternRegexp) (base : BaseView) (text : List ℕ)
+    (shape : Shape) (piece : List ℕ) : Type 0 where
   pub url : Parts
   pub result : ComponentName → ResultView
   pub is_url : IsUrlUnder text base url
@@ -79,23 +81,29 @@ IsAskedPattern ignores query base compiled =
     IsPatternOf ignores query.pattern.now base compiled × HasAskedGroup compiled query.shape
 
 -- The verdict on a line and the output for it, by a pattern under this base URL.
-abbrev pub IsFiltered : PatternView PatternRegexp → BaseView → Query → (text line : List ℕ) → Verdict → (written : List ℕ) → Type 0
+abbrev pub IsFiltered : PatternView PatternRegexp → BaseView → Query
+    → (text line : List ℕ) → Verdict → (written : List ℕ) → Type 0
 IsFiltered compiled base query =
-    FilterAnswers (IsPieceOf compiled base) (λ line. IsUnmatchedUnder compiled line base) query.inverted query.shape
+    FilterAnswers (IsPieceOf compiled base) (λ line. IsUnmatchedUnder compiled line base)
+    query.inverted query.shape
 
 -- The output of `filter` with these arguments is written for the lines of the reader, if the
 -- contents of the reader are known.
-abbrev pub FiltersLines : Flags → (words : List (List ℕ)) → (status : ℕ) → (input old new : Option (List ℕ)) → Type 0
+abbrev pub FiltersLines : Flags → (words : List (List ℕ)) → (status : ℕ)
+    → (input old new : Option (List ℕ)) → Type 0
 FiltersLines flags words status input old new =
     (query : Query) × IsQueryOf flags.json words query
     × (compiled : PatternView PatternRegexp)
     × IsAskedPattern flags.ignore_case query (base_of query.base.now) compiled
     × IfSome input (λ text. (any : Bool) × (status ≡ status_of any)
-    × FiltersText (IsFiltered compiled (base_view (base_of query.base.now)) query) query.shape text any old new)
+    × FiltersText (IsFiltered compiled (base_view (base_of query.base.now)) query) query.shape text
+    any old new)
 
 -- `FiltersLines` unless the run failed.
-abbrev pub FilterReplies : Flags → (words : List (String Global)) → (status : ℕ) → (input old new : Option (List ℕ)) → Type 0
-FilterReplies flags words status input old new = status ≢ FAILED → FiltersLines flags (words_view words) status input old new
+abbrev pub FilterReplies : Flags → (words : List (String Global)) → (status : ℕ)
+    → (input old new : Option (List ℕ)) → Type 0
+FilterReplies flags words status input old new =
+    status ≢ FAILED → FiltersLines flags (words_view words) status input old new
 
 -- The arguments are those of `filter`.
 abbrev pub AskToFilter : (words : List (List ℕ)) → Type 0
@@ -103,14 +111,20 @@ AskToFilter words = (rest : List (List ℕ)) × AreArgumentsAfter (codes "filter
 
 -- The run succeeds: `filter` writes its output for the lines of the reader, or the output for the
 -- arguments is printed.
-abbrev pub Does : Flags → (words : List (List ℕ)) → (status : ℕ) → (input old new : Option (List ℕ)) → Type 0
+abbrev pub Does : Flags → (words : List (List ℕ)) → (status : ℕ)
+    → (input old new : Option (List ℕ)) → Type 0
 Does flags words status input old new =
-    ((rest : List (List ℕ)) × AreArgumentsAfter (codes "filter") words rest × FiltersLines flags rest status input old new) ⊎ Prints flags words status old new
+    ((rest : List (List ℕ)) × AreArgumentsAfter (codes "filter") words rest
+    × FiltersLines flags rest status input old new)
+    ⊎ Prints flags words status old new
 
 -- `Does` unless the run failed.
-abbrev pub RunsOne : Flags → (words : List (String Global)) → (status : ℕ) → (input old new : Option (List ℕ)) → Type 0
-RunsOne flags words status input old new = status ≢ FAILED → Does flags (words_view words) status input old new
+abbrev pub RunsOne : Flags → (words : List (String Global)) → (status : ℕ)
+    → (input old new : Option (List ℕ)) → Type 0
+RunsOne flags words status input old new =
+    status ≢ FAILED → Does flags (words_view words) status input old new
 
 -- The arguments have no output, and `IsSo` holds; or they have one, or are those of `filter`.
 abbrev pub FailsOne : Flags → (words : List (List ℕ)) → (IsSo : Type 0) → Type 0
-FailsOne flags words IsSo = FailsWhere flags words IsSo ⊎ AreAnswered flags words ⊎ AskToFilter words
+FailsOne flags words IsSo =
+    FailsWhere flags words IsSo ⊎ AreAnswered flags words ⊎ AskToFilter words

@@ -8,8 +8,10 @@ use Rattle.urlpattern_matches.specs.ResultViews.{ResultView}
 
 -- The JSON of the first match: the index of its pattern, and the match.
 abbrev pub first_tree : (index : ℕ) → (found : Data) → Data
-first_tree index found = object_of ((codes "index", Some (number (unsigned index))) ∷ (codes "match", Some found) ∷ [])
+first_tree index found =
+    object_of ((codes "index", Some (number (unsigned index))) ∷ (codes "match", Some found) ∷ [])
 
 -- The text is the line of the first match.
 abbrev pub IsFirstJson : (index : ℕ) → (ComponentName → ResultView) → (text : List ℕ) → Type 0
-IsFirstJson index result text = (tree : Data) × IsMatchTree result tree × (text ≡ json_line (first_tree index tree))
+IsFirstJson index result text =
+    (tree : Data) × IsMatchTree result tree × (text ≡ json_line (first_tree index tree))

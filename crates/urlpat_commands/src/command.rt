@@ -48,7 +48,8 @@ pub fn run<In: BufRead, Out: Write, Err: Write>(
     err: &mut Err,
 ) -> u8
     ensures status { (result ≡ DONE) ⊎ (result ≡ NO_MATCH) ⊎ (result ≡ FAILED) }
-    ensures answers { RunsOne flags words.now result (In.remaining input.old) (Out.contents out.old) (Out.contents out.new) }
+    ensures answers { RunsOne flags words.now result (In.remaining input.old) (Out.contents out.old)
+        (Out.contents out.new) }
     ensures quiet { result ≢ FAILED → (err.new ≡ err.old) ⊎ HasNote flags (words_view words.now)
         ⊎ AskToFilter (words_view words.now) }
     ensures fails { result ≡ FAILED → FailsOne flags (words_view words.now) (out.new ≡ out.old) }
@@ -68,9 +69,12 @@ fn run_once<Out: Write, Err: Write>(
     err: &mut Err,
 ) -> u8
     ensures status { (result ≡ DONE) ⊎ (result ≡ NO_MATCH) ⊎ (result ≡ FAILED) }
-    ensures answers { result ≢ FAILED → Prints flags (words_view words.now) result (Out.contents out.old) (Out.contents out.new) }
+    ensures answers { result ≢ FAILED
+        → Prints flags (words_view words.now) result (Out.contents out.old) (Out.contents out.new) }
     ensures quiet { result ≢ FAILED → (err.new ≡ err.old) ⊎ HasNote flags (words_view words.now) }
-    ensures fails { result ≡ FAILED → FailsWhere flags (words_view words.now) (out.new ≡ out.old) ⊎ AreAnswered flags (words_view words.now) }
+    ensures fails { result ≡ FAILED
+        → FailsWhere flags (words_view words.now) (out.new ≡ out.old)
+        ⊎ AreAnswered flags (words_view words.now) }
 {
     if let Some(text) = help_of(words) {
         return match print(text.as_bytes(), out) {
@@ -133,8 +137,9 @@ fn write_failure<Err: Write>(
     failure: &Failure,
     err: &mut Err,
 ) -> io::Result<()>
-    ensures alone { ¬ ExplainsErrors flags (words_view words.now) → IfSome (failure_lines failure.now)
-        (λ lines. OnOk result (Appends (Err.contents err.old) (Err.contents err.new) lines)) }
+    ensures alone { ¬ ExplainsErrors flags (words_view words.now)
+        → IfSome (failure_lines failure.now) (λ lines.
+        OnOk result (Appends (Err.contents err.old) (Err.contents err.new) lines)) }
     ensures first { IfSome (failure_lines failure.now)
         (λ lines. OnOk result (ReportsFirst lines (Err.contents err.old) (Err.contents err.new))) }
 {
@@ -152,7 +157,8 @@ fn write_failure<Err: Write>(
 
 /// The output for the arguments.
 fn answer(alloc: Global, words: &[String], flags: Flags) -> Result<Printed, Failure>
-    ensures answers { IfOk result (λ answer. IsCommandAnswer flags (words_view words.now) (string_bytes answer.text) answer.status) }
+    ensures answers { IfOk result (λ answer.
+        IsCommandAnswer flags (words_view words.now) (string_bytes answer.text) answer.status) }
     ensures fails { IfErr result (IsFailure flags (words_view words.now)) }
 {
     let [command, rest @ ..] = words else {
@@ -174,8 +180,11 @@ fn short_answer(
     words: &[String],
     flags: Flags,
 ) -> Result<Printed, Failure>
-    ensures answers { IfOk result (λ answer. IsShortAnswer flags pattern.now (words_view words.now) (string_bytes answer.text) answer.status) }
-    ensures fails { IfErr result (IsShortFailure flags.ignore_case pattern.now (words_view words.now)) }
+    ensures answers { IfOk result (λ answer.
+        IsShortAnswer flags pattern.now (words_view words.now) (string_bytes answer.text)
+        answer.status) }
+    ensures fails { IfErr result
+        (IsShortFailure flags.ignore_case pattern.now (words_view words.now)) }
 {
     let [input] = words else {
         return Err(Failure::Usage);
@@ -186,7 +195,8 @@ fn short_answer(
 
 /// The output for the arguments of `component`.
 fn component_answer(alloc: Global, words: &[String]) -> Result<Printed, Failure>
-    ensures answers { IfOk result (λ answer. IsComponentAnswer (words_view words.now) (string_bytes answer.text) answer.status) }
+    ensures answers { IfOk result (λ answer.
+        IsComponentAnswer (words_view words.now) (string_bytes answer.text) answer.status) }
     ensures fails { IfErr result (IsComponentFailure (words_view words.now)) }
 {
     let [kind, pattern] = words else {
@@ -200,7 +210,8 @@ fn component_answer(alloc: Global, words: &[String]) -> Result<Printed, Failure>
 
 /// The output for the arguments of `match`.
 fn match_answer(alloc: Global, words: &[String], flags: Flags) -> Result<Printed, Failure>
-    ensures answers { IfOk result (λ answer. IsMatchAnswer flags (words_view words.now) (string_bytes answer.text) answer.status) }
+    ensures answers { IfOk result (λ answer.
+        IsMatchAnswer flags (words_view words.now) (string_bytes answer.text) answer.status) }
     ensures fails { IfErr result (IsMatchFailure flags.ignore_case (words_view words.now)) }
 {
     let [pattern, base, input] = words else {
@@ -212,7 +223,8 @@ fn match_answer(alloc: Global, words: &[String], flags: Flags) -> Result<Printed
 
 /// The output for the arguments of `first`.
 fn first_answer(alloc: Global, words: &[String], flags: Flags) -> Result<Printed, Failure>
-    ensures answers { IfOk result (λ answer. IsFirstAnswer flags (words_view words.now) (string_bytes answer.text) answer.status) }
+    ensures answers { IfOk result (λ answer.
+        IsFirstAnswer flags (words_view words.now) (string_bytes answer.text) answer.status) }
     ensures fails { IfErr result (IsFirstFailure flags.ignore_case (words_view words.now)) }
 {
     let [base, input, patterns @ ..] = words else {
@@ -264,7 +276,8 @@ fn component(alloc: Global, kind: &str, pattern: &str) -> Result<String, Failure
 
 /// The options with this name, if there are any.
 pub fn options_of(alloc: Global, kind: &str) -> Result<Option<Options>, Error>
-    ensures some { IfOk result (λ found. IfSome found (λ options. NamesOptions kind.now (options_view options))) }
+    ensures some { IfOk result (λ found. IfSome found (λ options.
+        NamesOptions kind.now (options_view options))) }
     ensures none { result ≡ Ok None → ¬ IsKind kind.now }
     ensures memory { OnlyOutOfMemory result }
 {
@@ -283,7 +296,9 @@ fn component_report(
     regexp: &str,
     pattern: &str,
 ) -> Result<String, AllocError>
-    ensures { IfOk result (λ text. string_bytes text ≡ component_lines (map (λ name. string_bytes name) names.now) regexp.now pattern.now) }
+    ensures { IfOk result (λ text.
+        string_bytes text
+        ≡ component_lines (map (λ name. string_bytes name) names.now) regexp.now pattern.now) }
 {
     let mut text = String::from_str(alloc, "names:")?;
     for name in names {

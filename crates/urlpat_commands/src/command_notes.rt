@@ -60,7 +60,8 @@ pub fn input_note(alloc: Global, words: &[String]) -> Result<Option<String>, Err
 
 /// A note that the input of the short form is not a URL.
 fn short_note(alloc: Global, words: &[String]) -> Result<Option<String>, Error>
-    ensures { IfOk result (λ note. IfSome note (λ text. HasRejectedShortInput (words_view words.now))) }
+    ensures { IfOk result (λ note. IfSome note (λ text.
+        HasRejectedShortInput (words_view words.now))) }
 {
     let [input] = words else {
         return Ok(None);
@@ -70,7 +71,8 @@ fn short_note(alloc: Global, words: &[String]) -> Result<Option<String>, Error>
 
 /// A note that the input of `match` is not a URL.
 fn match_note(alloc: Global, words: &[String]) -> Result<Option<String>, Error>
-    ensures { IfOk result (λ note. IfSome note (λ text. HasRejectedMatchInput (words_view words.now))) }
+    ensures { IfOk result (λ note. IfSome note (λ text.
+        HasRejectedMatchInput (words_view words.now))) }
 {
     let [_, base, input] = words else {
         return Ok(None);
@@ -80,7 +82,8 @@ fn match_note(alloc: Global, words: &[String]) -> Result<Option<String>, Error>
 
 /// A note that the input of `first` is not a URL.
 fn first_note(alloc: Global, words: &[String]) -> Result<Option<String>, Error>
-    ensures { IfOk result (λ note. IfSome note (λ text. HasRejectedFirstInput (words_view words.now))) }
+    ensures { IfOk result (λ note. IfSome note (λ text.
+        HasRejectedFirstInput (words_view words.now))) }
 {
     let [base, input, ..] = words else {
         return Ok(None);

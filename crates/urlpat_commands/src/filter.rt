@@ -51,7 +51,8 @@ pub fn filter<In: BufRead, Out: Write, Err: Write>(
     err: &mut Err,
 ) -> u8
     ensures status { (result ≡ DONE) ⊎ (result ≡ NO_MATCH) ⊎ (result ≡ FAILED) }
-    ensures answers { FilterReplies flags words.now result (In.remaining input.old) (Out.contents out.old) (Out.contents out.new) }
+    ensures answers { FilterReplies flags words.now result (In.remaining input.old)
+        (Out.contents out.old) (Out.contents out.new) }
 {
     let Some(query) = query_of(words, flags.json) else {
         let _ = err.write_all(usage(flags.json).as_bytes());
@@ -144,9 +145,11 @@ fn report_missing_group<Err: Write>(
 }
 
 impl LineMatcher for UrlLines<'_> {
-    ghost Matches = { λ lines text shape piece. IsPieceOf (pattern_view lines.pattern.now) (kept_base lines.base.now) text shape piece };
+    ghost Matches = { λ lines text shape piece.
+        IsPieceOf (pattern_view lines.pattern.now) (kept_base lines.base.now) text shape piece };
 
-    ghost Differs = { λ lines text. IsUnmatchedUnder (pattern_view lines.pattern.now) text (kept_base lines.base.now) };
+    ghost Differs = { λ lines text.
+        IsUnmatchedUnder (pattern_view lines.pattern.now) text (kept_base lines.base.now) };
 
     fn outcome(
         &self,
@@ -180,7 +183,8 @@ fn push_piece(
     shape: Shape<'_>,
     written: &mut Vec<u8>,
 ) -> Result<(), AllocError>
-    ensures { OnOk result (GetsPiece (HasPiece (pattern_captures_view found.now) shape.entry) written.old.items written.new.items) }
+    ensures { OnOk result (GetsPiece (HasPiece (pattern_captures_view found.now) shape.entry)
+        written.old.items written.new.items) }
 {
     match shape {
         Shape::Group(component, name) => match capture_of(found, component, name) {

@@ -27,8 +27,10 @@ pub fn first_groups(
     input: &str,
     patterns: &[String],
 ) -> Result<Option<String>, Error>
-    ensures found { IfOk result (FindsFirst flags (words_view patterns.now) input.now (base_of base.now)) }
-    ensures refused { IfErr result (MemoryOr (RejectsOneOf flags.ignore_case (words_view patterns.now) (base_of base.now))) }
+    ensures found { IfOk result
+        (FindsFirst flags (words_view patterns.now) input.now (base_of base.now)) }
+    ensures refused { IfErr result
+        (MemoryOr (RejectsOneOf flags.ignore_case (words_view patterns.now) (base_of base.now))) }
 {
     let base = base_of(base);
     let list = compiled_list(alloc, patterns, base, flags.ignore_case)?;
@@ -46,8 +48,11 @@ fn compiled_list(
     base: Option<&str>,
     ignore_case: bool,
 ) -> Result<UrlPatternList<PatternRegexp>, Error>
-    ensures compiled { IfOk result (λ list. ArePatterns ignore_case (words_view patterns.now) (option_copied base.entry) (patterns_view list)) }
-    ensures refused { IfErr result (MemoryOr (RejectsOneOf ignore_case (words_view patterns.now) (option_copied base.entry))) }
+    ensures compiled { IfOk result (λ list.
+        ArePatterns ignore_case (words_view patterns.now) (option_copied base.entry)
+        (patterns_view list)) }
+    ensures refused { IfErr result
+        (MemoryOr (RejectsOneOf ignore_case (words_view patterns.now) (option_copied base.entry))) }
 {
     let mut list = UrlPatternList::new(alloc);
     for pattern in patterns {
@@ -69,7 +74,8 @@ fn groups_of_first(
     json: bool,
     input: &str,
 ) -> Result<Option<String>, Error>
-    ensures found { IfOk result (FindsFirstBy json (patterns_view list.now) input.now (option_copied base.entry)) }
+    ensures found { IfOk result
+        (FindsFirstBy json (patterns_view list.now) input.now (option_copied base.entry)) }
     ensures memory { OnlyOutOfMemory result }
 {
     let Some(url) = find_url(alloc, input, base)? else {
@@ -91,7 +97,8 @@ fn first_text(
     index: usize,
     found: &UrlPatternCaptures<'_, '_>,
 ) -> Result<String, AllocError>
-    ensures { IfOk result (λ text. ShowsFirst json index (pattern_captures_view found.now) (string_bytes text)) }
+    ensures { IfOk result (λ text.
+        ShowsFirst json index (pattern_captures_view found.now) (string_bytes text)) }
 {
     if json {
         return first_json(alloc, index, found);

@@ -16,7 +16,8 @@ pub fn first_json(
     index: usize,
     found: &UrlPatternCaptures<'_, '_>,
 ) -> Result<String, AllocError>
-    ensures { IfOk result (λ text. IsFirstJson index (pattern_captures_view found.now) (string_bytes text)) }
+    ensures { IfOk result (λ text.
+        IsFirstJson index (pattern_captures_view found.now) (string_bytes text)) }
 {
     let tree = first_tree(alloc, index, match_tree(alloc, found)?)?;
     json_line(alloc, &tree)

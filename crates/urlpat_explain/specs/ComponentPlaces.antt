@@ -13,16 +13,20 @@ pub record IsSpanOf (string text : List ℕ) (span : Span) : Type 0 where
 
 -- The place of a component's text in the string, if there is one.
 abbrev pub MayBeAt : (string : List ℕ) → (given : Option (List ℕ)) → (place : Option Span) → Type 0
-MayBeAt string given place = IfSome place (λ span. IsSomeAnd given (λ text. IsSpanOf string (encode_utf8_all text) span))
+MayBeAt string given place =
+    IfSome place (λ span. IsSomeAnd given (λ text. IsSpanOf string (encode_utf8_all text) span))
 
 -- The name of a component, and its place.
 abbrev pub place_cell : ComponentName → (place : Option Span) → List ℕ
 place_cell name None = []
-place_cell name (Some span) = codes " " ++ name_text name ++ codes " " ++ decimal span.start ++ codes ".." ++ decimal span.end
+place_cell name (Some span) =
+    codes " " ++ name_text name ++ codes " " ++ decimal span.start ++ codes ".." ++ decimal span.end
 
 -- The name of a component, and a place of its text.
-abbrev pub IsPlaceCell : (string : List ℕ) → (given : Values) → ComponentName → (cell : List ℕ) → Type 0
-IsPlaceCell string given name cell = (place : Option Span) × MayBeAt string (at given name) place × (cell ≡ place_cell name place)
+abbrev pub IsPlaceCell : (string : List ℕ) → (given : Values) → ComponentName
+    → (cell : List ℕ) → Type 0
+IsPlaceCell string given name cell =
+    (place : Option Span) × MayBeAt string (at given name) place × (cell ≡ place_cell name place)
 
 -- The names and places of all components.
 abbrev pub ArePlaceCells : (string : List ℕ) → (given : Values) → (cells : List ℕ) → Type 0

@@ -33,7 +33,9 @@ abbrev pub lent_texts : Option (Bor (Eight (Bor (List ℕ)))) → Option Texts
 lent_texts texts = option_map (λ lent. borrowed_texts lent.now) texts
 
 -- The captures of groups with these names.
-abbrev pub named_captures : (names : List (String Global)) → (captures : List (Option (Bor (List ℕ)))) → List (List ℕ × Option (List ℕ))
+abbrev pub named_captures : (names : List (String Global))
+    → (captures : List (Option (Bor (List ℕ))))
+    → List (List ℕ × Option (List ℕ))
 named_captures names captures = zip (texts_of names) (map option_text captures)
 
 -- A text is appended to another one.

@@ -32,13 +32,16 @@ origin None None = codes "left out"
 -- The place in the constructor string, if there is one.
 abbrev pub place_members : Option Span → Named
 place_members None = []
-place_members (Some span) = (codes "start", Some (number (unsigned span.start))) ∷ (codes "end", Some (number (unsigned span.end))) ∷ []
+place_members (Some span) =
+    (codes "start", Some (number (unsigned span.start)))
+    ∷ (codes "end", Some (number (unsigned span.end))) ∷ []
 
 -- The pattern of a component, its origin and its place.
 abbrev pub pattern_members : ExplainedView → ComponentName → Option Span → Named
 pattern_members explained name place =
     (codes "pattern", Some (string (encode_utf8_all (explained.pattern name).pattern_string)))
-    ∷ (codes "origin", Some (string (origin (at explained.given name) (at explained.values name)))) ∷ place_members place
+    ∷ (codes "origin", Some (string (origin (at explained.given name) (at explained.values name))))
+    ∷ place_members place
 
 -- ---- the match of a component
 
@@ -53,7 +56,9 @@ groups_named groups = map (λ group. (encode_utf8_all group.0, Some (capture_tre
 
 -- Whether a text matches, and the captures.
 abbrev pub verdict_members : (matches : Bool) → (groups : List (List ℕ × Option (List ℕ))) → Named
-verdict_members matches groups = (codes "matches", Some (boolean matches)) ∷ (codes "groups", Some (object_of (groups_named groups))) ∷ []
+verdict_members matches groups =
+    (codes "matches", Some (boolean matches))
+    ∷ (codes "groups", Some (object_of (groups_named groups))) ∷ []
 
 -- The outcome of a match, with the captures of groups with these names. There are none if the text
 -- does not match.
@@ -65,35 +70,48 @@ captured_members names (Some captures) = verdict_members true (zip names capture
 abbrev pub AreMatchMembers : ComponentView PatternRegexp → (text : List ℕ) → Named → Type 0
 AreMatchMembers component text members =
     (captures : Option Captures) × Returns pattern_result component.matcher text captures
-    × (members ≡ (codes "input", Some (string (encode_utf8_all text))) ∷ captured_members component.group_name_list captures)
+    × (members
+    ≡ (codes "input", Some (string (encode_utf8_all text)))
+    ∷ captured_members component.group_name_list captures)
 
 -- The text of a component and the outcome of its match are inserted into an object.
-abbrev pub GainsMatch : (before after : List (String Global × Value)) → ComponentView PatternRegexp → (text : List ℕ) → Type 0
-GainsMatch before after component text = (members : Named) × AreMatchMembers component text members × GainAll before after members
+abbrev pub GainsMatch : (before after : List (String Global × Value)) → ComponentView PatternRegexp
+    → (text : List ℕ) → Type 0
+GainsMatch before after component text =
+    (members : Named) × AreMatchMembers component text members × GainAll before after members
 
 -- The text of a component and the outcome of its match, if there are texts.
-abbrev pub AreInputMembers : PatternView PatternRegexp → (texts : Option Texts) → ComponentName → Named → Type 0
+abbrev pub AreInputMembers : PatternView PatternRegexp → (texts : Option Texts) → ComponentName
+    → Named → Type 0
 AreInputMembers pattern None name members = members ≡ []
-AreInputMembers pattern (Some texts) name members = AreMatchMembers (pattern name) (at texts name) members
+AreInputMembers pattern (Some texts) name members =
+    AreMatchMembers (pattern name) (at texts name) members
 
 -- ---- all components
 
 -- The JSON of a component.
 abbrev pub IsExplainedTree : ExplainedView → (texts : Option Texts) → ComponentName → Data → Type 0
 IsExplainedTree explained texts name tree =
-    (place : Option Span) × (members : Named) × MayBeAt explained.string (at explained.given name) place
-    × AreInputMembers explained.pattern texts name members × (tree ≡ object_of (pattern_members explained name place ++ members))
+    (place : Option Span) × (members : Named)
+    × MayBeAt explained.string (at explained.given name) place
+    × AreInputMembers explained.pattern texts name members
+    × (tree ≡ object_of (pattern_members explained name place ++ members))
 
 -- An object with a key for each component.
 abbrev pub IsExplanationTree : ExplainedView → (texts : Option Texts) → Data → Type 0
 IsExplanationTree explained texts tree =
-    (trees : Eight Data) × ((name : ComponentName) → IsExplainedTree explained texts name (at trees name))
+    (trees : Eight Data)
+    × ((name : ComponentName) → IsExplainedTree explained texts name (at trees name))
     × (tree ≡ object_of (each_member (λ name. Some (at trees name))))
 
 -- The explanation as a line of JSON.
 abbrev pub IsExplanationJson : ExplainedView → (texts : Option Texts) → (text : List ℕ) → Type 0
-IsExplanationJson explained texts text = (tree : Data) × IsExplanationTree explained texts tree × (text ≡ json_line tree)
+IsExplanationJson explained texts text =
+    (tree : Data) × IsExplanationTree explained texts tree × (text ≡ json_line tree)
 
 -- The JSON of a component is inserted into an object, under the component's name.
-abbrev pub GainsTree : (before after : List (String Global × Value)) → ExplainedView → (texts : Option Texts) → ComponentName → Type 0
-GainsTree before after explained texts name = (tree : Data) × IsExplainedTree explained texts name tree × Gain before after (name_text name) (Some tree)
+abbrev pub GainsTree : (before after : List (String Global × Value)) → ExplainedView
+    → (texts : Option Texts) → ComponentName → Type 0
+GainsTree before after explained texts name =
+    (tree : Data) × IsExplainedTree explained texts name tree
+    × Gain before after (name_text name) (Some tree)

@@ -33,12 +33,18 @@ pub record AskedView : Type 0 where
 
 -- The view of the arguments.
 abbrev pub asked_view : Asked → AskedView
-asked_view asked = record { string = asked.string.now; base = option_copied asked.base; input = option_copied asked.input }
+asked_view asked = record {
+  string = asked.string.now;
+  base = option_copied asked.base;
+  input = option_copied asked.input;
+}
 
 -- The arguments of `explain`.
 abbrev pub AskToExplain : (words : List (List ℕ)) → AskedView → Type 0
-AskToExplain (string ∷ word ∷ []) asked = asked ≡ record { string = string; base = base_of word; input = None }
-AskToExplain (string ∷ word ∷ last ∷ []) asked = asked ≡ record { string = string; base = base_of word; input = Some last }
+AskToExplain (string ∷ word ∷ []) asked =
+    asked ≡ record { string = string; base = base_of word; input = None }
+AskToExplain (string ∷ word ∷ last ∷ []) asked =
+    asked ≡ record { string = string; base = base_of word; input = Some last }
 AskToExplain words asked = ⊥
 
 -- ---- explanations
@@ -50,13 +56,19 @@ IsTable pattern (Some texts) table = IsMatchTable pattern texts table
 
 -- The output for a pattern, with or without texts: JSON, or a line for each component and the
 -- notes.
-abbrev pub IsShown : (json : Bool) → ExplainedView → (texts : Option Texts) → (text : List ℕ) → Type 0
+abbrev pub IsShown : (json : Bool) → ExplainedView → (texts : Option Texts) → (text : List ℕ)
+    → Type 0
 IsShown true explained texts text = IsExplanationJson explained texts text
-IsShown false explained texts text = (table notes : List ℕ) × IsTable explained.pattern texts table × AreNotes explained notes × (text ≡ table ++ notes)
+IsShown false explained texts text =
+    (table notes : List ℕ) × IsTable explained.pattern texts table
+    × AreNotes explained notes
+    × (text ≡ table ++ notes)
 
 -- The output for a pattern, with this exit status.
-abbrev pub IsShownBy : (json : Bool) → ExplainedView → (texts : Option Texts) → (status : ℕ) → Explanation → Type 0
-IsShownBy json explained texts status found = IsShown json explained texts (string_bytes found.text) × (found.status ≡ status)
+abbrev pub IsShownBy : (json : Bool) → ExplainedView → (texts : Option Texts) → (status : ℕ)
+    → Explanation → Type 0
+IsShownBy json explained texts status found =
+    IsShown json explained texts (string_bytes found.text) × (found.status ≡ status)
 
 -- The output for a pattern and a URL. The exit status says whether the pattern matches.
 abbrev pub IsShownOf : (json : Bool) → ExplainedView → Parts → Explanation → Type 0
@@ -65,31 +77,44 @@ IsShownOf json explained url found =
     × IsShownBy json explained (Some (texts_of_url url)) (status_of matched) found
 
 -- The output for a pattern and an input, whose texts are shown if it is a URL.
-abbrev pub IsExplained : (json : Bool) → ExplainedView → (base input : Option (List ℕ)) → Explanation → Type 0
+abbrev pub IsExplained : (json : Bool) → ExplainedView
+    → (base input : Option (List ℕ)) → Explanation → Type 0
 IsExplained json explained base None found = IsShownBy json explained None 0 found
 IsExplained json explained base (Some input) found =
     (IsRejectedText input base × IsShownBy json explained None 1 found)
     ⊎ ((url : Parts) × IsUrlOf input base url × IsShownOf json explained url found)
 
 -- The output for a constructor string with this init and this compiled pattern.
-abbrev pub IsExplanationOf : (json : Bool) → PatternView PatternRegexp → UrlPatternInit → AskedView → Explanation → Type 0
+abbrev pub IsExplanationOf : (json : Bool) → PatternView PatternRegexp → UrlPatternInit → AskedView
+    → Explanation → Type 0
 IsExplanationOf json compiled init asked found =
     (values : Values) × (pattern_values init ≡ Ok values)
-    × IsExplained json (record { string = asked.string; pattern = compiled; given = values_view init; values = values }) asked.base asked.input found
+    × IsExplained json (record {
+      string = asked.string;
+      pattern = compiled;
+      given = values_view init;
+      values = values;
+    }) asked.base asked.input found
 
 -- The output for a constructor string with this compiled pattern.
-abbrev pub IsExplanationBy : (json : Bool) → PatternView PatternRegexp → AskedView → Explanation → Type 0
+abbrev pub IsExplanationBy : (json : Bool) → PatternView PatternRegexp → AskedView → Explanation
+    → Type 0
 IsExplanationBy json compiled asked found =
-    (init : UrlPatternInit) × IsInitOfText pattern_engine (chars asked.string) asked.base init × IsExplanationOf json compiled init asked found
+    (init : UrlPatternInit) × IsInitOfText pattern_engine (chars asked.string) asked.base init
+    × IsExplanationOf json compiled init asked found
 
 -- The output for these arguments.
 abbrev pub IsExplanation : Flags → AskedView → Explanation → Type 0
 IsExplanation flags asked found =
-    (compiled : PatternView PatternRegexp) × IsPatternOf flags.ignore_case asked.string asked.base compiled
+    (compiled : PatternView PatternRegexp)
+    × IsPatternOf flags.ignore_case asked.string asked.base compiled
     × IsExplanationBy flags.json compiled asked found
 
 -- The output for the arguments of `explain` is printed, with this exit status.
-abbrev pub Explains : Flags → (words : List (List ℕ)) → (status : ℕ) → (old new : Option (List ℕ)) → Type 0
+abbrev pub Explains : Flags → (words : List (List ℕ)) → (status : ℕ)
+    → (old new : Option (List ℕ)) → Type 0
 Explains flags words status old new =
-    (asked : AskedView) × (found : Explanation) × AskToExplain words asked × IsExplanation flags asked found
+    (asked : AskedView) × (found : Explanation)
+    × AskToExplain words asked
+    × IsExplanation flags asked found
     × (status ≡ found.status) × Appends old new (string_bytes found.text)

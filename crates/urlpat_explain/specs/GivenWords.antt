@@ -43,14 +43,18 @@ LacksSuch is text = position_or_len is text ≡ length text
 
 -- The name of a component, a dot and the name of a group; or the name of a group without a dot,
 -- which the component alone has.
-abbrev pub IsGroupNamed : {E : Type 0} → PatternView E → (word : List ℕ) → ComponentName → (name : List ℕ) → Type 0
+abbrev pub IsGroupNamed : {E : Type 0} → PatternView E → (word : List ℕ) → ComponentName
+    → (name : List ℕ) → Type 0
 IsGroupNamed pattern word component name =
-    (HasSuch is_dot word × (before_first is_dot word ≡ name_text component) × (name ≡ after_first is_dot word))
+    (HasSuch is_dot word
+    × (before_first is_dot word ≡ name_text component)
+    × (name ≡ after_first is_dot word))
     ⊎ (LacksSuch is_dot word × IsOnlyOwner pattern (chars word) component × (name ≡ word))
 
 -- The word names no group.
 abbrev pub NamesNoGroup : {E : Type 0} → PatternView E → (word : List ℕ) → Type 0
-NamesNoGroup pattern word = (component : ComponentName) (name : List ℕ) → ¬ IsGroupNamed pattern word component name
+NamesNoGroup pattern word =
+    (component : ComponentName) (name : List ℕ) → ¬ IsGroupNamed pattern word component name
 
 -- ---- arguments
 
@@ -61,7 +65,8 @@ Given = ComponentName × Bor (List ℕ) × Bor (List ℕ)
 -- The argument names the group before its first equals sign, and has the text after it.
 abbrev pub WordGivesGroup : {E : Type 0} → PatternView E → (word : List ℕ) → Given → Type 0
 WordGivesGroup pattern word given =
-    HasSuch is_equals_sign word × IsGroupNamed pattern (before_first is_equals_sign word) given.0 given.1.now
+    HasSuch is_equals_sign word
+    × IsGroupNamed pattern (before_first is_equals_sign word) given.0 given.1.now
     × (given.2.now ≡ after_first is_equals_sign word)
 
 -- The argument gives no group.
@@ -73,6 +78,7 @@ abbrev pub AreGiven : {E : Type 0} → PatternView E → (words : List (List ℕ
 AreGiven pattern words groups = AllZip (WordGivesGroup pattern) words groups
 
 -- An argument gives no group, or memory ran out.
-abbrev pub RejectsWords : {E : Type 0} → PatternView E → (words : List (List ℕ)) → ArgumentError → Type 0
+abbrev pub RejectsWords : {E : Type 0} → PatternView E → (words : List (List ℕ)) → ArgumentError
+    → Type 0
 RejectsWords pattern words (misgiven.Word word) = Any (WordGivesNothing pattern) words
 RejectsWords pattern words misgiven.OutOfMemory = Unit {0}

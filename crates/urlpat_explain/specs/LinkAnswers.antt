@@ -17,33 +17,46 @@ use Rattle.urlpattern_generate.specs.declared.no_link.NoLink.TheVariants as no_l
 
 -- The URL is that of the pattern with the texts for groups that the arguments give.
 abbrev pub IsLinkBy : UrlPattern PatternRegexp → (words : List (List ℕ)) → Parts → Type 0
-IsLinkBy pattern words url = (groups : List Given) × AreGiven (pattern_view pattern) words groups × IsLink pattern_result pattern (given_groups groups) url
+IsLinkBy pattern words url =
+    (groups : List Given) × AreGiven (pattern_view pattern) words groups
+    × IsLink pattern_result pattern (given_groups groups) url
 
 -- The pattern has no URL with the texts for groups that the arguments give, for this reason.
 abbrev pub RejectsLinkBy : UrlPattern PatternRegexp → (words : List (List ℕ)) → NoLink → Type 0
-RejectsLinkBy pattern words error = (groups : List Given) × AreGiven (pattern_view pattern) words groups × RejectsLink pattern_result pattern (given_groups groups) error
+RejectsLinkBy pattern words error =
+    (groups : List Given) × AreGiven (pattern_view pattern) words groups
+    × RejectsLink pattern_result pattern (given_groups groups) error
 
 -- The reason why there is no URL: an argument gives no group, the pattern has no URL, or memory ran
 -- out.
 abbrev pub LacksUrl : UrlPattern PatternRegexp → (words : List (List ℕ)) → LinkError → Type 0
 LacksUrl pattern words (unlinked.Word word) = Any (WordGivesNothing (pattern_view pattern)) words
-LacksUrl pattern words (unlinked.NoLink error) = (error ≢ no_link.OutOfMemory) × RejectsLinkBy pattern words error
+LacksUrl pattern words (unlinked.NoLink error) =
+    (error ≢ no_link.OutOfMemory) × RejectsLinkBy pattern words error
 LacksUrl pattern words unlinked.OutOfMemory = Unit {0}
 
 -- ---- output
 
 -- `Is` is true of the compiled pattern among the arguments of `link`, which keeps its parts, and of
 -- the arguments after its base.
-abbrev pub OfPattern : (Is : UrlPattern PatternRegexp → List (List ℕ) → Type 0) → (words : List (List ℕ)) → Type 0
+abbrev pub OfPattern : (Is : UrlPattern PatternRegexp → List (List ℕ) → Type 0)
+    → (words : List (List ℕ))
+    → Type 0
 OfPattern Is (pattern ∷ base ∷ words) =
-    (compiled : UrlPattern PatternRegexp) × IsPatternOf false pattern (base_of base) (pattern_view compiled)
+    (compiled : UrlPattern PatternRegexp)
+    × IsPatternOf false pattern (base_of base) (pattern_view compiled)
     × KeepsPartsOfWord false pattern (base_of base) compiled × Is compiled words
 OfPattern Is words = ⊥
 
 -- The URL and a line end are written.
 abbrev pub WritesLink : (words : List (List ℕ)) → (old new : Option (List ℕ)) → Type 0
-WritesLink words old new = OfPattern (λ pattern given. (url : Parts) × IsLinkBy pattern given url × Appends old new (serialize url ++ codes "\n")) words
+WritesLink words old new =
+    OfPattern (λ pattern given.
+    (url : Parts) × IsLinkBy pattern given url × Appends old new (serialize url ++ codes "\n"))
+    words
 
 -- The pattern has no URL with these arguments.
 abbrev pub HasNoLink : (words : List (List ℕ)) → Type 0
-HasNoLink words = OfPattern (λ pattern given. (reason : LinkError) × (reason ≢ unlinked.OutOfMemory) × LacksUrl pattern given reason) words
+HasNoLink words =
+    OfPattern (λ pattern given.
+    (reason : LinkError) × (reason ≢ unlinked.OutOfMemory) × LacksUrl pattern given reason) words

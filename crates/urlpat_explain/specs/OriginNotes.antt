@@ -20,7 +20,8 @@ left_out_name name (Some value) = []
 
 -- The names of the components that are inherited.
 abbrev pub inherited_names : (given values : Values) → List ComponentName → List ℕ
-inherited_names given values names = flat_map (λ name. inherited_name name (at given name) (at values name)) names
+inherited_names given values names =
+    flat_map (λ name. inherited_name name (at given name) (at values name)) names
 
 -- The names of the components that have no value.
 abbrev pub left_out_names : (values : Values) → List ComponentName → List ℕ
@@ -32,14 +33,17 @@ names_line lead names = if length names == 0 then [] else (lead ++ names ++ code
 
 -- The note on a port that is given as empty, or removed since it is the default one.
 abbrev pub port_note : (given value : Option (List ℕ)) → List ℕ
-port_note (Some given) (Some value) = if length value == 0 then (if length given == 0 then EMPTY_PORT.now else DEFAULT_PORT.now) else []
+port_note (Some given) (Some value) =
+    if length value == 0 then (if length given == 0 then EMPTY_PORT.now else DEFAULT_PORT.now)
+    else []
 port_note (Some given) None = []
 port_note None value = []
 
 -- The notes on texts of components that have these values.
 abbrev pub value_notes : (given values : Values) → List ℕ
 value_notes given values =
-    names_line INHERITED.now (inherited_names given values components) ++ names_line LEFT_OUT.now (left_out_names values components)
+    names_line INHERITED.now (inherited_names given values components)
+    ++ names_line LEFT_OUT.now (left_out_names values components)
     ++ port_note given.port values.port
 
 -- The places of component texts in the constructor string.

@@ -43,7 +43,8 @@ widest cell = widest_of cell components
 
 -- The row of a component: its name and its pattern.
 abbrev pub pattern_row : PatternView PatternRegexp → ComponentName → List ℕ
-pattern_row pattern name = column NAME_WIDTH (name_text name) ++ pattern_cell pattern name ++ codes "\n"
+pattern_row pattern name =
+    column NAME_WIDTH (name_text name) ++ pattern_cell pattern name ++ codes "\n"
 
 -- A row for each component, without texts.
 abbrev pub pattern_table : PatternView PatternRegexp → List ℕ
@@ -53,7 +54,8 @@ pattern_table pattern = flat_map (pattern_row pattern) components
 
 -- The cell of a group: its name, and its capture if it took part.
 abbrev pub group_cell : List ℕ × Option (List ℕ) → List ℕ
-group_cell group = codes "  " ++ encode_utf8_all group.0 ++ capture_text (option_map encode_utf8_all group.1)
+group_cell group =
+    codes "  " ++ encode_utf8_all group.0 ++ capture_text (option_map encode_utf8_all group.1)
 
 -- Whether a matcher matches, and the captures of groups with these names.
 abbrev pub verdict_text : (names : List (List ℕ)) → Option Captures → List ℕ
@@ -63,23 +65,30 @@ verdict_text names (Some captures) = codes "matches" ++ flat_map group_cell (zip
 -- The verdict of a component's matcher on a text.
 abbrev pub IsVerdict : ComponentView PatternRegexp → (text : List ℕ) → (verdict : List ℕ) → Type 0
 IsVerdict component text verdict =
-    (captures : Option Captures) × Returns pattern_result component.matcher text captures × (verdict ≡ verdict_text component.group_name_list captures)
+    (captures : Option Captures) × Returns pattern_result component.matcher text captures
+    × (verdict ≡ verdict_text component.group_name_list captures)
 
 -- The cells of a row before the verdict.
 abbrev pub leading_cells : PatternView PatternRegexp → Texts → ComponentName → List ℕ
 leading_cells pattern texts name =
-    column NAME_WIDTH (name_text name) ++ column (widest (pattern_cell pattern)) (pattern_cell pattern name) ++ column (widest (text_cell texts)) (text_cell texts name)
+    column NAME_WIDTH (name_text name)
+    ++ column (widest (pattern_cell pattern)) (pattern_cell pattern name)
+    ++ column (widest (text_cell texts)) (text_cell texts name)
 
 -- The row of a component: its name, its pattern, its text and the verdict.
 abbrev pub IsMatchRow : PatternView PatternRegexp → Texts → ComponentName → (row : List ℕ) → Type 0
 IsMatchRow pattern texts name row =
-    (verdict : List ℕ) × IsVerdict (pattern name) (at texts name) verdict × (row ≡ leading_cells pattern texts name ++ verdict ++ codes "\n")
+    (verdict : List ℕ) × IsVerdict (pattern name) (at texts name) verdict
+    × (row ≡ leading_cells pattern texts name ++ verdict ++ codes "\n")
 
 -- The text is one piece for each component, in order.
-abbrev pub HasPieceForEach : (IsPiece : ComponentName → List ℕ → Type 0) → List ComponentName → (text : List ℕ) → Type 0
+abbrev pub HasPieceForEach : (IsPiece : ComponentName → List ℕ → Type 0) → List ComponentName
+    → (text : List ℕ) → Type 0
 HasPieceForEach IsPiece [] text = text ≡ []
 HasPieceForEach IsPiece (name ∷ names) text =
-    (first others : List ℕ) × (text ≡ first ++ others) × IsPiece name first × HasPieceForEach IsPiece names others
+    (first others : List ℕ) × (text ≡ first ++ others)
+    × IsPiece name first
+    × HasPieceForEach IsPiece names others
 
 -- A row for each component, with texts.
 abbrev pub IsMatchTable : PatternView PatternRegexp → Texts → (table : List ℕ) → Type 0

@@ -44,7 +44,8 @@ pub fn match_table(
     pattern: &UrlPattern<PatternRegexp>,
     texts: &Eight<&str>,
 ) -> Result<String, Error>
-    ensures { IfOk result (λ table. IsMatchTable (pattern_view pattern.now) (borrowed_texts texts.now) (string_bytes table)) }
+    ensures { IfOk result (λ table.
+        IsMatchTable (pattern_view pattern.now) (borrowed_texts texts.now) (string_bytes table)) }
 {
     let longest_pattern = pattern_width(pattern);
     let longest_text = text_width(texts);
@@ -132,7 +133,8 @@ fn push_verdict(
     component: &Component<PatternRegexp>,
     text: &str,
 ) -> Result<(), Error>
-    ensures { OnOk result (GetsLines (IsVerdict (component_view component.now) (chars text.now)) row.old row.new) }
+    ensures { OnOk result
+        (GetsLines (IsVerdict (component_view component.now) (chars text.now)) row.old row.new) }
 {
     let Some(captures) = component.matcher.matches(alloc, text)? else {
         row.push_str("differs")?;
@@ -149,7 +151,8 @@ fn push_group_cells(
     names: &[String],
     captures: &[Option<&str>],
 ) -> Result<(), AllocError>
-    ensures { OnOk result (GetsBytes row.old row.new (flat_map group_cell (named_captures names.now captures.now))) }
+    ensures { OnOk result
+        (GetsBytes row.old row.new (flat_map group_cell (named_captures names.now captures.now))) }
 {
     for (name, capture) in names.iter().zip(captures) {
         push_group_cell(row, name, *capture)?;
@@ -159,7 +162,8 @@ fn push_group_cells(
 
 /// Appends a group: its name, and its capture if it took part.
 fn push_group_cell(row: &mut String, name: &str, capture: Option<&str>) -> Result<(), AllocError>
-    ensures { OnOk result (GetsBytes row.old row.new (group_cell (chars name.now, option_text capture.entry))) }
+    ensures { OnOk result
+        (GetsBytes row.old row.new (group_cell (chars name.now, option_text capture.entry))) }
 {
     row.push_str("  ")?;
     row.push_str(name)?;

@@ -29,7 +29,9 @@ pub struct Explained<'a> {
 impl Explained<'_> {
     /// The origin of a component's value: `given`, `inherited` or `left out`.
     pub fn origin(&self, name: ComponentName) -> &'static str
-        ensures { result.now ≡ origin (at (explained_view self.now).given name) (at (explained_view self.now).values name) }
+        ensures { result.now
+            ≡ origin (at (explained_view self.now).given name)
+            (at (explained_view self.now).values name) }
     {
         origin_of(self.init.get(name), self.values.get(name))
     }
@@ -37,7 +39,8 @@ impl Explained<'_> {
     /// The place of a component's text in the constructor string, in bytes. `None`: the text is not
     /// in the string, or implied by it, or empty.
     pub fn place(&self, name: ComponentName) -> Option<Span>
-        ensures { MayBeAt (explained_view self.now).string (at (explained_view self.now).given name) result }
+        ensures { MayBeAt (explained_view self.now).string (at (explained_view self.now).given name)
+            result }
     {
         let text = self.init.get(name)?;
         span_at(

@@ -27,7 +27,9 @@ pub fn explanation_json(
     explained: &Explained<'_>,
     texts: Option<&Eight<&str>>,
 ) -> Result<String, Error>
-    ensures { IfOk result (λ text. IsExplanationJson (explained_view explained.now) (lent_texts texts.entry) (string_bytes text)) }
+    ensures { IfOk result (λ text.
+        IsExplanationJson (explained_view explained.now) (lent_texts texts.entry)
+        (string_bytes text)) }
 {
     let tree = explanation_tree(alloc, explained, texts)?;
     Ok(json_line(alloc, &tree)?)
@@ -39,7 +41,8 @@ fn explanation_tree(
     explained: &Explained<'_>,
     texts: Option<&Eight<&str>>,
 ) -> Result<Value, Error>
-    ensures { IfOk result (λ tree. IsExplanationTree (explained_view explained.now) (lent_texts texts.entry) (view tree)) }
+    ensures { IfOk result (λ tree.
+        IsExplanationTree (explained_view explained.now) (lent_texts texts.entry) (view tree)) }
 {
     let mut members = Map::new(alloc);
     for name in ComponentName::all() {
@@ -56,7 +59,8 @@ fn put_component(
     texts: Option<&Eight<&str>>,
     name: ComponentName,
 ) -> Result<(), Error>
-    ensures { OnOk result (GainsTree members.old.entries members.new.entries (explained_view explained.now) (lent_texts texts.entry) name) }
+    ensures { OnOk result (GainsTree members.old.entries members.new.entries
+        (explained_view explained.now) (lent_texts texts.entry) name) }
 {
     let tree = component_tree(alloc, explained, texts, name)?;
     serde_json::put(members, alloc, name.as_str(), tree)?;
@@ -70,7 +74,8 @@ fn component_tree(
     texts: Option<&Eight<&str>>,
     name: ComponentName,
 ) -> Result<Value, Error>
-    ensures { IfOk result (λ tree. IsExplainedTree (explained_view explained.now) (lent_texts texts.entry) name (view tree)) }
+    ensures { IfOk result (λ tree.
+        IsExplainedTree (explained_view explained.now) (lent_texts texts.entry) name (view tree)) }
 {
     let place = explained.place(name);
     let mut members = Map::new(alloc);
@@ -95,7 +100,8 @@ fn put_pattern(
     name: ComponentName,
     place: Option<Span>,
 ) -> Result<(), AllocError>
-    ensures { OnOk result (GainAll members.old.entries members.new.entries (pattern_members (explained_view explained.now) name place)) }
+    ensures { OnOk result (GainAll members.old.entries members.new.entries
+        (pattern_members (explained_view explained.now) name place)) }
 {
     let pattern = &explained.pattern.get(name).pattern_string;
     put_text(members, alloc, "pattern", pattern)?;
@@ -126,7 +132,8 @@ fn put_match(
     component: &Component<PatternRegexp>,
     text: &str,
 ) -> Result<(), Error>
-    ensures { OnOk result (GainsMatch members.old.entries members.new.entries (component_view component.now) (chars text.now)) }
+    ensures { OnOk result (GainsMatch members.old.entries members.new.entries
+        (component_view component.now) (chars text.now)) }
 {
     put_text(members, alloc, "input", text)?;
     let Some(captures) = component.matcher.matches(alloc, text)? else {
@@ -145,7 +152,8 @@ fn put_verdict(
     names: &[String],
     captures: &[Option<&str>],
 ) -> Result<(), AllocError>
-    ensures { OnOk result (GainAll members.old.entries members.new.entries (verdict_members matches (named_captures names.now captures.now))) }
+    ensures { OnOk result (GainAll members.old.entries members.new.entries
+        (verdict_members matches (named_captures names.now captures.now))) }
 {
     let groups = groups_tree(alloc, names, captures)?;
     serde_json::put(members, alloc, "matches", Value::from(matches))?;
@@ -158,7 +166,8 @@ fn groups_tree(
     names: &[String],
     captures: &[Option<&str>],
 ) -> Result<Value, AllocError>
-    ensures { IfOk result (λ tree. view tree ≡ object_of (groups_named (named_captures names.now captures.now))) }
+    ensures { IfOk result (λ tree.
+        view tree ≡ object_of (groups_named (named_captures names.now captures.now))) }
 {
     let mut groups = Map::new(alloc);
     for (name, capture) in names.iter().zip(captures) {

@@ -58,7 +58,9 @@ pub fn explain<Out: Write, Err: Write>(
     err: &mut Err,
 ) -> u8
     ensures status { (result ≡ DONE) ⊎ (result ≡ NO_MATCH) ⊎ (result ≡ FAILED) }
-    ensures answers { result ≢ FAILED → Explains flags (words_view words.now) result (Out.contents out.old) (Out.contents out.new) }
+    ensures answers { result ≢ FAILED
+        → Explains flags (words_view words.now) result (Out.contents out.old)
+        (Out.contents out.new) }
 {
     let Some(asked) = asked_by(words) else {
         let _ = err.write_all(EXPLAIN_USAGE.as_bytes());
@@ -85,7 +87,8 @@ pub fn explain<Out: Write, Err: Write>(
 
 /// Parses the arguments of `explain`. `None`: they are invalid.
 fn asked_by(words: &[String]) -> Option<Asked<'_>>
-    ensures asked { IfSome result (λ asked. AskToExplain (words_view words.now) (asked_view asked)) }
+    ensures asked { IfSome result (λ asked.
+        AskToExplain (words_view words.now) (asked_view asked)) }
     ensures other { IfNone result ((length words.now ≢ 2) × (length words.now ≢ 3)) }
 {
     match words {
@@ -137,7 +140,8 @@ fn explanation_of(
     pattern: &UrlPattern<PatternRegexp>,
     init: &UrlPatternInit,
 ) -> Result<Explanation, Error>
-    ensures text { IfOk result (IsExplanationOf json (pattern_view pattern.now) init.now (asked_view asked.entry)) }
+    ensures text { IfOk result
+        (IsExplanationOf json (pattern_view pattern.now) init.now (asked_view asked.entry)) }
     ensures status { IfOk result (λ found. (found.status ≡ DONE) ⊎ (found.status ≡ NO_MATCH)) }
 {
     let values = pattern_values(alloc, init)?;
@@ -160,7 +164,8 @@ fn answer(
     base: Option<&str>,
     input: Option<&str>,
 ) -> Result<Explanation, Error>
-    ensures text { IfOk result (IsExplained json (explained_view explained.now) (option_copied base.entry) (option_copied input.entry)) }
+    ensures text { IfOk result (IsExplained json (explained_view explained.now)
+        (option_copied base.entry) (option_copied input.entry)) }
     ensures status { IfOk result (λ found. (found.status ≡ DONE) ⊎ (found.status ≡ NO_MATCH)) }
 {
     let Some(input) = input else {
@@ -190,7 +195,8 @@ fn shown(
     json: bool,
     texts: Option<&Eight<&str>>,
 ) -> Result<String, Error>
-    ensures { IfOk result (λ text. IsShown json (explained_view explained.now) (lent_texts texts.entry) (string_bytes text)) }
+    ensures { IfOk result (λ text.
+        IsShown json (explained_view explained.now) (lent_texts texts.entry) (string_bytes text)) }
 {
     if json {
         return explanation_json(alloc, explained, texts);
@@ -206,7 +212,8 @@ fn table(
     pattern: &UrlPattern<PatternRegexp>,
     texts: Option<&Eight<&str>>,
 ) -> Result<String, Error>
-    ensures { IfOk result (λ table. IsTable (pattern_view pattern.now) (lent_texts texts.entry) (string_bytes table)) }
+    ensures { IfOk result (λ table.
+        IsTable (pattern_view pattern.now) (lent_texts texts.entry) (string_bytes table)) }
 {
     match texts {
         Some(texts) => match_table(alloc, pattern, texts),

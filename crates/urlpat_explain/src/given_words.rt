@@ -39,8 +39,10 @@ pub fn given_by<'w>(
     pattern: &UrlPattern<PatternRegexp>,
     words: &'w [String],
 ) -> Result<Vec<GivenGroup<'w>>, ArgumentError<'w>>
-    ensures given { IfOk result (λ groups. AreGiven (pattern_view pattern.now) (words_view words.now) groups.items) }
-    ensures refused { IfErr result (RejectsWords (pattern_view pattern.now) (words_view words.now)) }
+    ensures given { IfOk result (λ groups.
+        AreGiven (pattern_view pattern.now) (words_view words.now) groups.items) }
+    ensures refused { IfErr result
+        (RejectsWords (pattern_view pattern.now) (words_view words.now)) }
 {
     let mut groups = Vec::with_capacity(alloc, words.len())?;
     for word in words {
@@ -73,7 +75,8 @@ fn named_group<'w>(
     pattern: &UrlPattern<PatternRegexp>,
     name: &'w str,
 ) -> Option<(ComponentName, &'w str)>
-    ensures named { IfSome result (λ group. IsGroupNamed (pattern_view pattern.now) name.now group.0 group.1.now) }
+    ensures named { IfSome result (λ group.
+        IsGroupNamed (pattern_view pattern.now) name.now group.0 group.1.now) }
     ensures nothing { IfNone result (NamesNoGroup (pattern_view pattern.now) name.now) }
 {
     match name.split_once('.') {

@@ -41,7 +41,8 @@ pub fn link<Out: Write, Err: Write>(
     err: &mut Err,
 ) -> u8
     ensures status { (result ≡ DONE) ⊎ (result ≡ NO_MATCH) ⊎ (result ≡ FAILED) }
-    ensures written { result ≡ DONE → WritesLink (words_view words.now) (Out.contents out.old) (Out.contents out.new) }
+    ensures written { result ≡ DONE
+        → WritesLink (words_view words.now) (Out.contents out.old) (Out.contents out.new) }
     ensures refused { result ≡ NO_MATCH → HasNoLink (words_view words.now) × (out.new ≡ out.old) }
 {
     let [pattern_word, base_word, given @ ..] = words else {
@@ -99,7 +100,8 @@ fn linked<'w>(
 
 /// Writes a URL and a line end, and flushes the output.
 fn print_url<Out: Write>(url: &Url, out: &mut Out) -> io::Result<()>
-    ensures { OnOk result (Appends (Out.contents out.old) (Out.contents out.new) (serialize url.now ++ codes "\n")) }
+    ensures { OnOk result
+        (Appends (Out.contents out.old) (Out.contents out.new) (serialize url.now ++ codes "\n")) }
 {
     let text = url.as_str();
     writeln!(out, "{text}")?;

@@ -80,7 +80,8 @@ fn value_notes(
     init: &UrlPatternInit,
     values: &UrlPatternInit,
 ) -> Result<String, AllocError>
-    ensures { IfOk result (λ notes. string_bytes notes ≡ value_notes (values_view init.now) (values_view values.now)) }
+    ensures { IfOk result (λ notes.
+        string_bytes notes ≡ value_notes (values_view init.now) (values_view values.now)) }
 {
     let mut inherited = String::new(alloc);
     let mut left_out = String::new(alloc);
@@ -106,7 +107,8 @@ fn push_inherited(
     given: Option<&str>,
     value: Option<&str>,
 ) -> Result<(), AllocError>
-    ensures { OnOk result (GetsBytes names.old names.new (inherited_name name (option_text given.entry) (option_text value.entry))) }
+    ensures { OnOk result (GetsBytes names.old names.new
+        (inherited_name name (option_text given.entry) (option_text value.entry))) }
 {
     if given.is_none() && value.is_some() {
         names.push(' ')?;
@@ -121,7 +123,8 @@ fn push_left_out(
     name: ComponentName,
     value: Option<&str>,
 ) -> Result<(), AllocError>
-    ensures { OnOk result (GetsBytes names.old names.new (left_out_name name (option_text value.entry))) }
+    ensures { OnOk result
+        (GetsBytes names.old names.new (left_out_name name (option_text value.entry))) }
 {
     if value.is_none() {
         names.push(' ')?;
@@ -148,7 +151,8 @@ fn push_port_note(
     given: Option<&str>,
     value: Option<&str>,
 ) -> Result<(), AllocError>
-    ensures { OnOk result (GetsBytes notes.old notes.new (port_note (option_text given.entry) (option_text value.entry))) }
+    ensures { OnOk result (GetsBytes notes.old notes.new
+        (port_note (option_text given.entry) (option_text value.entry))) }
 {
     let (Some(given), Some(value)) = (given, value) else {
         return Ok(());

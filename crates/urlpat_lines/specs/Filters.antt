@@ -34,28 +34,37 @@ abbrev pub GetsPiece : (IsSuch : List ℕ → Type 0) → (old new : List ℕ) �
 GetsPiece IsSuch old new = (piece : List ℕ) × (new ≡ old ++ piece) × IsSuch piece
 
 -- The outcome for a text, and what is appended of its match.
-abbrev pub IsOutcome : (Matches : (piece : List ℕ) → Type 0) → (Differs : Type 0) → (old new : List ℕ) → Outcome → Type 0
+abbrev pub IsOutcome : (Matches : (piece : List ℕ) → Type 0) → (Differs : Type 0)
+    → (old new : List ℕ) → Outcome → Type 0
 IsOutcome Matches Differs old new outcomes.Match = GetsPiece Matches old new
 IsOutcome Matches Differs old new outcomes.NoMatch = Differs × (new ≡ old)
 IsOutcome Matches Differs old new outcomes.NoUrl = Differs × (new ≡ old)
 
 -- A line that matches is selected unless the query is inverted, and this is appended after what is
 -- printed of its match.
-abbrev pub AnswersMatched : (inverted : Bool) → Shape → (line : List ℕ) → Verdict → (written : List ℕ) → Type 0
+abbrev pub AnswersMatched : (inverted : Bool) → Shape → (line : List ℕ) → Verdict
+    → (written : List ℕ) → Type 0
 AnswersMatched true shape line verdict written = (verdict ≡ verdicts.Passed) × (written ≡ [])
-AnswersMatched false shape line verdict written = (verdict ≡ verdicts.Selected) × (written ≡ rest_text shape line)
+AnswersMatched false shape line verdict written =
+    (verdict ≡ verdicts.Selected) × (written ≡ rest_text shape line)
 
 -- A line that does not match is selected if the query is inverted.
-abbrev pub AnswersUnmatched : (inverted : Bool) → Shape → (line : List ℕ) → Verdict → (written : List ℕ) → Type 0
-AnswersUnmatched true shape line verdict written = (selected_by verdict ≡ 1) × (written ≡ other_text shape line)
+abbrev pub AnswersUnmatched : (inverted : Bool) → Shape → (line : List ℕ) → Verdict
+    → (written : List ℕ) → Type 0
+AnswersUnmatched true shape line verdict written =
+    (selected_by verdict ≡ 1) × (written ≡ other_text shape line)
 AnswersUnmatched false shape line verdict written = (selected_by verdict ≡ 0) × (written ≡ [])
 
 -- The verdict on a line and the output for it. If its text matches, the output begins with what is
 -- printed of its match.
-abbrev pub FilterAnswers : (Matches : (text : List ℕ) → Shape → (piece : List ℕ) → Type 0) → (Differs : (text : List ℕ) → Type 0) → (inverted : Bool) → Shape
+abbrev pub FilterAnswers : (Matches : (text : List ℕ) → Shape → (piece : List ℕ) → Type 0)
+    → (Differs : (text : List ℕ) → Type 0)
+    → (inverted : Bool) → Shape
     → (text line : List ℕ) → Verdict → (written : List ℕ) → Type 0
 FilterAnswers Matches Differs inverted shape text line verdict written =
-    ((piece rest : List ℕ) × Matches text (asked_shape inverted shape) piece × (written ≡ piece ++ rest) × AnswersMatched inverted shape line verdict rest)
+    ((piece rest : List ℕ) × Matches text (asked_shape inverted shape) piece
+    × (written ≡ piece ++ rest)
+    × AnswersMatched inverted shape line verdict rest)
     ⊎ (Differs text × AnswersUnmatched inverted shape line verdict written)
 
 -- The line with the count, if lines are counted.
@@ -66,16 +75,24 @@ count_line (shapes.Group component name) selected = []
 count_line shapes.Json selected = []
 
 -- The output for the lines of a text is written, with the count after it if lines are counted.
-abbrev pub FiltersText : (Answers : (text line : List ℕ) → Verdict → (written : List ℕ) → Type 0) → Shape → (text : List ℕ) → (any : Bool) → (old new : Option (List ℕ)) → Type 0
+abbrev pub FiltersText : (Answers : (text line : List ℕ) → Verdict → (written : List ℕ) → Type 0)
+    → Shape
+    → (text : List ℕ) → (any : Bool) → (old new : Option (List ℕ)) → Type 0
 FiltersText Answers shape text any old new =
     (selected : ℕ) × (written : List ℕ) × AreAnswersTo Answers (lines_of text) selected written
     × Appends old new (written ++ count_line shape selected) × (any ≡ nat_lt 0 selected)
 
 -- The output for the lines of a reader is written, if the contents of the reader are known.
-abbrev pub Filters : (Answers : (text line : List ℕ) → Verdict → (written : List ℕ) → Type 0) → Shape → (input old new : Option (List ℕ)) → (any : Bool) → Type 0
-Filters Answers shape input old new any = IfSome input (λ text. FiltersText Answers shape text any old new)
+abbrev pub Filters : (Answers : (text line : List ℕ) → Verdict → (written : List ℕ) → Type 0)
+    → Shape
+    → (input old new : Option (List ℕ)) → (any : Bool) → Type 0
+Filters Answers shape input old new any =
+    IfSome input (λ text. FiltersText Answers shape text any old new)
 
 -- The output of a query for the lines of a reader is written.
-abbrev pub FiltersFor : (Matches : (text : List ℕ) → Shape → (piece : List ℕ) → Type 0) → (Differs : (text : List ℕ) → Type 0) → Query
+abbrev pub FiltersFor : (Matches : (text : List ℕ) → Shape → (piece : List ℕ) → Type 0)
+    → (Differs : (text : List ℕ) → Type 0)
+    → Query
     → (input old new : Option (List ℕ)) → (any : Bool) → Type 0
-FiltersFor Matches Differs query = Filters (FilterAnswers Matches Differs query.inverted query.shape) query.shape
+FiltersFor Matches Differs query =
+    Filters (FilterAnswers Matches Differs query.inverted query.shape) query.shape

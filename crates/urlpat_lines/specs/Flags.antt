@@ -44,9 +44,11 @@ AreFlagsOf (Some command) flags = MayHave (string_bytes command) flags
 
 -- A flag that the command has is removed, and found if it was there. Any other flag is left in
 -- place.
-abbrev pub RemovesFlag : (may : Bool) → (flag : List ℕ) → (old new : List (String Global)) → (found : Bool) → Type 0
+abbrev pub RemovesFlag : (may : Bool) → (flag : List ℕ)
+    → (old new : List (String Global)) → (found : Bool) → Type 0
 RemovesFlag true flag old new found =
-    (found ≡ list_any (λ word. bytes_eq flag (string_bytes word)) old) × (new ≡ filter (λ word. not (bytes_eq flag (string_bytes word))) old)
+    (found ≡ list_any (λ word. bytes_eq flag (string_bytes word)) old)
+    × (new ≡ filter (λ word. not (bytes_eq flag (string_bytes word))) old)
 RemovesFlag false flag old new found = (found ≡ false) × (new ≡ old)
 
 -- Each flag that the command among the arguments has is removed.

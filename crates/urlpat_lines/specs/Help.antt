@@ -4,7 +4,8 @@ use Rattle.urlpat_lines.specs.declared.help.TheConstants.{HELP, VERSION, COMPONE
 
 -- The argument asks for this help text, or for the version.
 abbrev pub IsHelpBy : (help word text : List ℕ) → Type 0
-IsHelpBy help word text = ((word ≡ codes "--help") × (text ≡ help)) ⊎ ((word ≡ codes "--version") × (text ≡ VERSION.now))
+IsHelpBy help word text =
+    ((word ≡ codes "--help") × (text ≡ help)) ⊎ ((word ≡ codes "--version") × (text ≡ VERSION.now))
 
 -- The argument asks for help or for the version.
 abbrev pub IsHelpWord : (word : List ℕ) → Type 0
@@ -13,11 +14,15 @@ IsHelpWord word = (word ≡ codes "--help") ⊎ (word ≡ codes "--version")
 -- The help text of a command.
 abbrev pub IsHelpOn : (command text : List ℕ) → Type 0
 IsHelpOn command text =
-    ((command ≡ codes "component") × (text ≡ COMPONENT_HELP.now)) ⊎ ((command ≡ codes "match") × (text ≡ MATCH_HELP.now))
-    ⊎ ((command ≡ codes "first") × (text ≡ FIRST_HELP.now)) ⊎ ((command ≡ codes "filter") × (text ≡ FILTER_HELP.now))
-    ⊎ ((command ≡ codes "route") × (text ≡ ROUTE_HELP.now)) ⊎ ((command ≡ codes "explain") × (text ≡ EXPLAIN_HELP.now))
+    ((command ≡ codes "component") × (text ≡ COMPONENT_HELP.now))
+    ⊎ ((command ≡ codes "match") × (text ≡ MATCH_HELP.now))
+    ⊎ ((command ≡ codes "first") × (text ≡ FIRST_HELP.now))
+    ⊎ ((command ≡ codes "filter") × (text ≡ FILTER_HELP.now))
+    ⊎ ((command ≡ codes "route") × (text ≡ ROUTE_HELP.now))
+    ⊎ ((command ≡ codes "explain") × (text ≡ EXPLAIN_HELP.now))
     ⊎ ((command ≡ codes "link") × (text ≡ LINK_HELP.now))
-    ⊎ ((command ≡ codes "covers") × (text ≡ COVERS_HELP.now)) ⊎ ((command ≡ codes "unreachable") × (text ≡ UNREACHABLE_HELP.now))
+    ⊎ ((command ≡ codes "covers") × (text ≡ COVERS_HELP.now))
+    ⊎ ((command ≡ codes "unreachable") × (text ≡ UNREACHABLE_HELP.now))
 
 -- The arguments after a command ask for its help text, or for the version.
 abbrev pub AskForHelp : (words : List (List ℕ)) → Type 0

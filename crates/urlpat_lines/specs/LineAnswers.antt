@@ -14,8 +14,11 @@ abbrev pub lines_of : List ℕ → List (List ℕ)
 lines_of text = records 10 text
 
 -- The output for a line is appended.
-abbrev pub AppendsAnswer : (Answers : (text line : List ℕ) → Verdict → (written : List ℕ) → Type 0) → (text line old new : List ℕ) → Verdict → Type 0
-AppendsAnswer Answers text line old new verdict = (written : List ℕ) × (new ≡ old ++ written) × Answers text line verdict written
+abbrev pub AppendsAnswer : (Answers : (text line : List ℕ) → Verdict → (written : List ℕ) → Type 0)
+    → (text line old new : List ℕ)
+    → Verdict → Type 0
+AppendsAnswer Answers text line old new verdict =
+    (written : List ℕ) × (new ≡ old ++ written) × Answers text line verdict written
 
 -- A line that is rejected before any rule sees it: it is too long, or not UTF-8.
 abbrev pub IsRejectedLine : List ℕ → Type 0
@@ -35,19 +38,24 @@ module _ (Answers : (text line : List ℕ) → Verdict → (written : List ℕ) 
       ⊎ ((¬ IsRejectedLine line) × Answers (without_terminator line) line verdict written)
 
   -- The verdicts on lines: the number of selected lines, and the output for them.
-  unfoldable pub AreAnswersTo : (lines : List (List ℕ)) → (selected : ℕ) → (written : List ℕ) → Type 0
+  unfoldable pub AreAnswersTo : (lines : List (List ℕ)) → (selected : ℕ)
+      → (written : List ℕ) → Type 0
   AreAnswersTo [] selected written = (selected ≡ 0) × (written ≡ [])
   AreAnswersTo (line ∷ lines) selected written =
-      (verdict : Verdict) × (more : ℕ) × (piece rest : List ℕ) × IsAnswerTo line verdict piece × AreAnswersTo lines more rest
+      (verdict : Verdict) × (more : ℕ)
+      × (piece rest : List ℕ) × IsAnswerTo line verdict piece
+      × AreAnswersTo lines more rest
       × (selected ≡ selected_by verdict + more) × (written ≡ piece ++ rest)
 
   -- The output for a line is appended, by the rule or for a line that is rejected.
   abbrev pub AppendsAnswerTo : (line old new : List ℕ) → Verdict → Type 0
-  AppendsAnswerTo line old new verdict = (written : List ℕ) × (new ≡ old ++ written) × IsAnswerTo line verdict written
+  AppendsAnswerTo line old new verdict =
+      (written : List ℕ) × (new ≡ old ++ written) × IsAnswerTo line verdict written
 
   -- The output for the lines of a text is written, with this number of selected lines.
   abbrev pub WritesAnswers : (text : List ℕ) → (selected : ℕ) → (old new : Option (List ℕ)) → Type 0
-  WritesAnswers text selected old new = (written : List ℕ) × AreAnswersTo (lines_of text) selected written × Appends old new written
+  WritesAnswers text selected old new =
+      (written : List ℕ) × AreAnswersTo (lines_of text) selected written × Appends old new written
 
   -- The output for the lines of a reader is written, if the contents of the reader are known.
   abbrev pub WritesInput : (input old new : Option (List ℕ)) → Tally → Type 0

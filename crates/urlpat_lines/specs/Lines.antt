@@ -13,12 +13,15 @@ abbrev pub IsAppended : (old new part : List ℕ) → Type 0
 IsAppended old new part = (new ≡ old ++ part) ⊎ ((LONGEST < length old) × (new ≡ old))
 
 -- A line got a part of the bytes of a reader, and ended with it or not.
-pub record GetsPart (before after : Option (List ℕ)) (old new : List ℕ) (ended : Bool) : Type 0 where
-  pub part : List ℕ
-  pub consumed : Consumes before after part
-  pub is_appended : IsAppended old new part
-  pub stops : StopsAt part 10
-  pub ends : MatchBool ended (IsEmptyOrEndsWith part 10 × (length part ≡ 0 → OnSome before (IsAtEnd after))) (All (λ byte. byte ≢ 10) part)
+pub record GetsPart (before after : Option (List ℕ)) (old new : List ℕ) (ended : Bool) : Type 0
+  where
+    pub part : List ℕ
+    pub consumed : Consumes before after part
+    pub is_appended : IsAppended old new part
+    pub stops : StopsAt part 10
+    pub ends : MatchBool ended
+        (IsEmptyOrEndsWith part 10 × (length part ≡ 0 → OnSome before (IsAtEnd after)))
+        (All (λ byte. byte ≢ 10) part)
 
 -- `GetsPart` as a function.
 abbrev pub Gets : (before after : Option (List ℕ)) → (old new : List ℕ) → (ended : Bool) → Type 0

@@ -22,7 +22,8 @@ NamesGroup word (inverted, shapes.Json) = ⊥
 -- The argument asks for the lines that do not match, or for a count.
 abbrev pub IsAskedByOne : (flag : List ℕ) → Bool × Shape → Type 0
 IsAskedByOne flag asked =
-    ((flag ≡ codes "--not") × (asked ≡ (true, shapes.Line))) ⊎ ((flag ≡ codes "--count") × (asked ≡ (false, shapes.Count)))
+    ((flag ≡ codes "--not") × (asked ≡ (true, shapes.Line)))
+    ⊎ ((flag ≡ codes "--count") × (asked ≡ (false, shapes.Count)))
 
 -- Two arguments are these, in any order.
 abbrev pub AreInAnyOrder : (first second one other : List ℕ) → Type 0
@@ -53,7 +54,9 @@ IsQuery false words asked = IsAskedByFlags words asked
 -- The arguments of `filter` are this query.
 abbrev pub IsQueryOf : (json : Bool) → (words : List (List ℕ)) → Query → Type 0
 IsQueryOf json (pattern ∷ base ∷ rest) query =
-    (query.pattern.now ≡ pattern) × (query.base.now ≡ base) × IsQuery json rest (query.inverted, query.shape)
+    (query.pattern.now ≡ pattern)
+    × (query.base.now ≡ base)
+    × IsQuery json rest (query.inverted, query.shape)
 IsQueryOf json words query = ⊥
 
 -- ---- invalid arguments

@@ -15,7 +15,11 @@ pub record EntryView : Type 0 where
 
 -- The view of an entry.
 abbrev pub entry_view : Entry → EntryView
-entry_view entry = record { number = entry.number; pattern = entry.pattern.now; name = entry.name.now }
+entry_view entry = record {
+  number = entry.number;
+  pattern = entry.pattern.now;
+  name = entry.name.now;
+}
 
 -- The views of entries.
 abbrev pub entries_view : List Entry → List EntryView
@@ -37,7 +41,11 @@ is_tab c = c == slice_index (codes "\t") 0
 -- The entry of a line that is not skipped: the pattern is before the first tab, and the name after
 -- it.
 abbrev pub line_entry : (number : ℕ) → (line : List ℕ) → EntryView
-line_entry number line = record { number = number; pattern = before_first is_tab line; name = after_first is_tab line }
+line_entry number line = record {
+  number = number;
+  pattern = before_first is_tab line;
+  name = after_first is_tab line;
+}
 
 -- The entry of a line, if it has one.
 abbrev pub line_entries : (number : ℕ) → (line : List ℕ) → List EntryView
@@ -56,6 +64,9 @@ table_entries table = entries_from 1 (table_lines table)
 -- or memory ran out.
 abbrev pub HasNoEntries : (table : List ℕ) → NoTable → Type 0
 HasNoEntries table (NotUtf8 number) =
-    (index : ℕ) × (line : List ℕ) × (number ≡ index + 1) × (slice_get (table_lines table) index ≡ Some line) × (¬ IsUtf8 line)
+    (index : ℕ) × (line : List ℕ)
+    × (number ≡ index + 1)
+    × (slice_get (table_lines table) index ≡ Some line)
+    × (¬ IsUtf8 line)
     × All IsUtf8 (take index (table_lines table))
 HasNoEntries table OutOfMemory = Unit {0}

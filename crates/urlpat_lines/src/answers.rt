@@ -30,7 +30,8 @@ pub trait Rule {
 
     /// Decides on a line, and appends what is written for it. `text` is the line without its end.
     fn answer(&self, text: &str, line: &[u8], written: &mut Vec<u8>) -> Result<Verdict, AllocError>
-        ensures { IfOk result (AppendsAnswer (Answers self.now) text.now line.now written.old.items written.new.items) };
+        ensures { IfOk result (AppendsAnswer (Answers self.now) text.now line.now written.old.items
+            written.new.items) };
 }
 
 /// The numbers of lines of each kind.
@@ -79,7 +80,8 @@ pub fn answer_lines<In: BufRead, Out: Write, Err: Write, R: Rule>(
     out: &mut Out,
     err: &mut Err,
 ) -> Result<Tally, LinesError>
-    ensures { IfOk result (WritesInput (R.Answers rule.now) (In.remaining input.old) (Out.contents out.old) (Out.contents out.new)) }
+    ensures { IfOk result (WritesInput (R.Answers rule.now) (In.remaining input.old)
+        (Out.contents out.old) (Out.contents out.new)) }
 {
     let mut tally = Tally {
         selected: 0,
@@ -113,7 +115,8 @@ fn write_piece<Out: Write>(out: &mut Out, piece: &[u8]) -> Result<(), LinesError
 
 /// Decides on a line by a rule, and appends what is written for it.
 fn answer_line<R: Rule>(rule: &R, line: &[u8], written: &mut Vec<u8>) -> Result<Verdict, AllocError>
-    ensures { IfOk result (AppendsAnswerTo (R.Answers rule.now) line.now written.old.items written.new.items) }
+    ensures { IfOk result
+        (AppendsAnswerTo (R.Answers rule.now) line.now written.old.items written.new.items) }
 {
     if line.len() > LONGEST {
         return Ok(Verdict::Refused);

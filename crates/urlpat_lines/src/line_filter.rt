@@ -35,7 +35,8 @@ pub trait LineMatcher {
         shape: Shape<'_>,
         written: &mut Vec<u8>,
     ) -> Result<Outcome, AllocError>
-        ensures { IfOk result (IsOutcome (Matches self.now text.now shape.entry) (Differs self.now text.now) written.old.items written.new.items) };
+        ensures { IfOk result (IsOutcome (Matches self.now text.now shape.entry)
+            (Differs self.now text.now) written.old.items written.new.items) };
 }
 
 /// A rule that selects the lines that match, or those that do not.
@@ -57,7 +58,8 @@ pub fn filter_lines<In: BufRead, Out: Write, Err: Write, M: LineMatcher>(
     out: &mut Out,
     err: &mut Err,
 ) -> Option<bool>
-    ensures { IfSome result (FiltersFor (M.Matches matcher.now) (M.Differs matcher.now) query.entry (In.remaining input.old) (Out.contents out.old) (Out.contents out.new)) }
+    ensures { IfSome result (FiltersFor (M.Matches matcher.now) (M.Differs matcher.now) query.entry
+        (In.remaining input.old) (Out.contents out.old) (Out.contents out.new)) }
 {
     let rule = LineFilter {
         matcher,
@@ -78,7 +80,8 @@ pub fn write_answers<In: BufRead, Out: Write, Err: Write, R: Rule>(
     out: &mut Out,
     err: &mut Err,
 ) -> Option<bool>
-    ensures { IfSome result (Filters (R.Answers rule.now) shape.entry (In.remaining input.old) (Out.contents out.old) (Out.contents out.new)) }
+    ensures { IfSome result (Filters (R.Answers rule.now) shape.entry (In.remaining input.old)
+        (Out.contents out.old) (Out.contents out.new)) }
 {
     match answer_lines(alloc, rule, input, out, err) {
         Ok(tally) => finish(shape, tally, out, err),
@@ -94,7 +97,9 @@ fn finish<Out: Write, Err: Write>(
     out: &mut Out,
     err: &mut Err,
 ) -> Option<bool>
-    ensures written { IfSome result (λ any. Appends (Out.contents out.old) (Out.contents out.new) (count_line shape.entry tally.selected)) }
+    ensures written { IfSome result (λ any.
+        Appends (Out.contents out.old) (Out.contents out.new)
+        (count_line shape.entry tally.selected)) }
     ensures any { IfSome result (λ any. any ≡ nat_lt 0 tally.selected) }
 {
     match write_count(shape, tally.selected, out) {
@@ -108,7 +113,8 @@ fn finish<Out: Write, Err: Write>(
 
 /// Writes the count, if lines are counted, and flushes the output.
 fn write_count<Out: Write>(shape: Shape<'_>, selected: u64, out: &mut Out) -> io::Result<()>
-    ensures { OnOk result (Appends (Out.contents out.old) (Out.contents out.new) (count_line shape.entry selected)) }
+    ensures { OnOk result
+        (Appends (Out.contents out.old) (Out.contents out.new) (count_line shape.entry selected)) }
 {
     match shape {
         Shape::Count => {
@@ -147,7 +153,9 @@ fn report_fault<Err: Write>(fault: &LinesError, err: &mut Err) -> Option<bool>
 }
 
 impl<M: LineMatcher> Rule for LineFilter<'_, M> {
-    ghost Answers = { λ filter. FilterAnswers (M.Matches filter.matcher.now) (M.Differs filter.matcher.now) filter.inverted filter.shape };
+    ghost Answers = { λ filter.
+        FilterAnswers (M.Matches filter.matcher.now) (M.Differs filter.matcher.now) filter.inverted
+        filter.shape };
 
     fn answer(
         &self,
@@ -190,7 +198,9 @@ fn answer_match(
     line: &[u8],
     written: &mut Vec<u8>,
 ) -> Result<Verdict, AllocError>
-    ensures { IfOk result (λ verdict. GetsPiece (AnswersMatched inverted shape.entry line.now verdict) written.old.items written.new.items) }
+    ensures { IfOk result (λ verdict.
+        GetsPiece (AnswersMatched inverted shape.entry line.now verdict) written.old.items
+        written.new.items) }
 {
     if inverted {
         return Ok(Verdict::Passed);
@@ -213,7 +223,9 @@ fn answer_other(
     written: &mut Vec<u8>,
 ) -> Result<Verdict, AllocError>
     requires { selected_by verdict ≡ 0 }
-    ensures { IfOk result (λ answer. GetsPiece (AnswersUnmatched inverted shape.entry line.now answer) written.old.items written.new.items) }
+    ensures { IfOk result (λ answer.
+        GetsPiece (AnswersUnmatched inverted shape.entry line.now answer) written.old.items
+        written.new.items) }
 {
     if !inverted {
         return Ok(verdict);

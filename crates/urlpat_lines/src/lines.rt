@@ -18,9 +18,12 @@ pub const LONGEST: usize = 16_777_216;
 /// Only a part of a line longer than `LONGEST` is kept, which is still longer than `LONGEST`. The
 /// error is that of the reader, or that memory ran out.
 pub fn read_line<In: BufRead>(input: &mut In, line: &mut Vec<u8>) -> io::Result<bool>
-    ensures kept { IfOk result (λ more. IfSome (In.remaining input.old) (λ bytes. IsLineKept line.new.items (take_through 10 bytes))) }
-    ensures rest { IfOk result (λ more. IfSome (In.remaining input.old) (λ bytes. In.remaining input.new ≡ Some (drop_through 10 bytes))) }
-    ensures more { IfOk result (λ more. IfSome (In.remaining input.old) (λ bytes. IsTrue more ↔ 0 < length bytes)) }
+    ensures kept { IfOk result (λ more. IfSome (In.remaining input.old) (λ bytes.
+        IsLineKept line.new.items (take_through 10 bytes))) }
+    ensures rest { IfOk result (λ more. IfSome (In.remaining input.old) (λ bytes.
+        In.remaining input.new ≡ Some (drop_through 10 bytes))) }
+    ensures more { IfOk result (λ more. IfSome (In.remaining input.old) (λ bytes.
+        IsTrue more ↔ 0 < length bytes)) }
 {
     line.clear();
     'fills: for _ in 0..u64::MAX {
@@ -34,7 +37,8 @@ pub fn read_line<In: BufRead>(input: &mut In, line: &mut Vec<u8>) -> io::Result<
 /// Appends to a line what a reader has in its buffer, through the first line end. Returns whether
 /// the line is complete, by its end or by that of the input. An interrupted read appends nothing.
 fn append_some<In: BufRead>(input: &mut In, line: &mut Vec<u8>) -> io::Result<bool>
-    ensures { IfOk result (Gets (In.remaining input.old) (In.remaining input.new) line.old.items line.new.items) }
+    ensures { IfOk result
+        (Gets (In.remaining input.old) (In.remaining input.new) line.old.items line.new.items) }
 {
     let filled = match input.fill_buf() {
         Ok(filled) => filled,

@@ -43,7 +43,8 @@ impl From<AllocError> for NoTable {
 ///
 /// The error is that a line is not UTF-8, or that memory ran out.
 pub fn entries_of<'t>(alloc: Global, table: &'t [u8]) -> Result<Vec<Entry<'t>>, NoTable>
-    ensures entries { IfOk result (λ entries. entries_view entries.items ≡ table_entries table.now) }
+    ensures entries { IfOk result (λ entries.
+        entries_view entries.items ≡ table_entries table.now) }
     ensures text { IfOk result (λ entries. All IsUtf8 (table_lines table.now)) }
     ensures refused { IfErr result (HasNoEntries table.now) }
 {
@@ -65,7 +66,8 @@ fn push_entry<'t>(
     number: u64,
     line: &'t str,
 ) -> Result<(), AllocError>
-    ensures { OnOk result (entries_view entries.new.items ≡ entries_view entries.old.items ++ line_entries number line.now) }
+    ensures { OnOk result (entries_view entries.new.items
+        ≡ entries_view entries.old.items ++ line_entries number line.now) }
 {
     if !is_skipped(line) {
         entries.push(entry_of(number, line))?;

@@ -9,7 +9,8 @@ use crate::help::asks_for_help;
 /// The arguments after a command. `None`: the first argument is another command, or the arguments
 /// ask for help.
 pub fn arguments_after<'w>(words: &'w [String], command: &str) -> Option<&'w [String]>
-    ensures after { IfSome result (λ rest. AreArgumentsAfter command.now (words_view words.now) (words_view rest.now)) }
+    ensures after { IfSome result (λ rest.
+        AreArgumentsAfter command.now (words_view words.now) (words_view rest.now)) }
     ensures other { IfNone result (HasNoneAfter command.now (words_view words.now)) }
 {
     let [first, rest @ ..] = words else {
@@ -27,8 +28,10 @@ pub fn arguments_after<'w>(words: &'w [String], command: &str) -> Option<&'w [St
 
 /// Removes each copy of a flag from the arguments, and returns whether there was one.
 pub(crate) fn remove_word(words: &mut Vec<String>, word: &str) -> bool
-    ensures asked { result ≡ list_any (λ other. bytes_eq word.now (string_bytes other)) words.old.items }
-    ensures left { words.new.items ≡ filter (λ other. not (bytes_eq word.now (string_bytes other))) words.old.items }
+    ensures asked { result
+        ≡ list_any (λ other. bytes_eq word.now (string_bytes other)) words.old.items }
+    ensures left { words.new.items
+        ≡ filter (λ other. not (bytes_eq word.now (string_bytes other))) words.old.items }
 {
     let asked = words.iter().any(|other| word == other.as_str());
     words.retain(|other| word != other.as_str());

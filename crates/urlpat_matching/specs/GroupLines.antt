@@ -16,7 +16,8 @@ capture_text (Some capture) = codes "=" ++ capture
 
 -- The line of a group of a match: its component, its name, and its capture.
 abbrev pub group_line : (component name : List ℕ) → (capture : Option (List ℕ)) → List ℕ
-group_line component name capture = component ++ codes " " ++ name ++ capture_text capture ++ codes "\n"
+group_line component name capture =
+    component ++ codes " " ++ name ++ capture_text capture ++ codes "\n"
 
 -- The capture of a group as bytes, if the group took part.
 abbrev pub group_bytes : Option (Option (List ℕ)) → Option (List ℕ)
@@ -30,24 +31,31 @@ pub record AreNames (found : ResultView) (names : List (List ℕ)) : Type 0 wher
 
 -- The line of the component's group with this name.
 abbrev pub named_group_line : (component : List ℕ) → ResultView → (name : List ℕ) → List ℕ
-named_group_line component found name = group_line component (encode_utf8_all name) (group_bytes (found.group name))
+named_group_line component found name =
+    group_line component (encode_utf8_all name) (group_bytes (found.group name))
 
 -- The text has a line for each group of the component.
 abbrev pub AreGroupLines : (component : List ℕ) → ResultView → (text : List ℕ) → Type 0
-AreGroupLines component found text = (names : List (List ℕ)) × AreNames found names × (text ≡ flat_map (named_group_line component found) names)
+AreGroupLines component found text =
+    (names : List (List ℕ)) × AreNames found names
+    × (text ≡ flat_map (named_group_line component found) names)
 
 -- The text has the lines of the components, one after the other.
 abbrev pub AreLines : List (List ℕ × ResultView) → (text : List ℕ) → Type 0
 AreLines [] text = text ≡ []
 AreLines (component ∷ rest) text =
-    (first others : List ℕ) × (text ≡ first ++ others) × AreGroupLines component.0 component.1 first × AreLines rest others
+    (first others : List ℕ) × (text ≡ first ++ others)
+    × AreGroupLines component.0 component.1 first
+    × AreLines rest others
 
 -- Lines for which `AreSuch` is true are appended to the text.
 abbrev pub GetsLines : (AreSuch : List ℕ → Type 0) → (old new : String Global) → Type 0
-GetsLines AreSuch old new = (lines : List ℕ) × (string_bytes new ≡ string_bytes old ++ lines) × AreSuch lines
+GetsLines AreSuch old new =
+    (lines : List ℕ) × (string_bytes new ≡ string_bytes old ++ lines) × AreSuch lines
 
 -- The results of components, with the names of the components.
-abbrev pub named_results : (ComponentName → ResultView) → List ComponentName → List (List ℕ × ResultView)
+abbrev pub named_results : (ComponentName → ResultView) → List ComponentName
+    → List (List ℕ × ResultView)
 named_results result names = map (λ name. (name_text name, result name)) names
 
 -- The results of all components, with the names of the components.

@@ -14,7 +14,9 @@ json_line tree = compact_text tree ++ codes "\n"
 -- The JSON of a match: that of a result with the same texts and groups.
 abbrev pub IsMatchTree : (ComponentName → ResultView) → Data → Type 0
 IsMatchTree result tree =
-    (copy : UrlPatternResult) × ((name : ComponentName) → IsSameResult (result_view copy name) (result name)) × IsResultTree (plain_results_view copy) tree
+    (copy : UrlPatternResult)
+    × ((name : ComponentName) → IsSameResult (result_view copy name) (result name))
+    × IsResultTree (plain_results_view copy) tree
 
 -- The text is the line of a match.
 abbrev pub IsMatchJson : (ComponentName → ResultView) → (text : List ℕ) → Type 0

@@ -21,7 +21,8 @@ ShowsMatch true result text = IsMatchJson result text
 ShowsMatch false result text = AreLines (all_named_results result) text
 
 -- The pattern matches the input, a URL under this base URL, and the text has the captures.
-pub record IsMatchTextBy (json : Bool) (compiled : PatternView PatternRegexp) (input : List ℕ) (base : Option (List ℕ)) (text : List ℕ) : Type 0 where
+pub record IsMatchTextBy (json : Bool) (compiled : PatternView PatternRegexp) (input : List ℕ)
+    (base : Option (List ℕ)) (text : List ℕ) : Type 0 where
   pub url : Parts
   pub result : ComponentName → ResultView
   pub is_url : IsUrlOf input base url
@@ -29,36 +30,51 @@ pub record IsMatchTextBy (json : Bool) (compiled : PatternView PatternRegexp) (i
   pub shows : ShowsMatch json result text
 
 -- The pattern text compiles to a pattern that matches the input, and the text has the captures.
-abbrev pub IsMatchText : Flags → (pattern input : List ℕ) → (base : Option (List ℕ)) → (text : List ℕ) → Type 0
+abbrev pub IsMatchText : Flags → (pattern input : List ℕ) → (base : Option (List ℕ))
+    → (text : List ℕ) → Type 0
 IsMatchText flags pattern input base text =
-    (compiled : PatternView PatternRegexp) × IsPatternOf flags.ignore_case pattern base compiled × IsMatchTextBy flags.json compiled input base text
+    (compiled : PatternView PatternRegexp) × IsPatternOf flags.ignore_case pattern base compiled
+    × IsMatchTextBy flags.json compiled input base text
 
 -- The pattern does not match the input: `url` rejects the input, or the pattern has no match on it.
-abbrev pub IsUnmatchedUnder : (compiled : PatternView PatternRegexp) → (input : List ℕ) → BaseView → Type 0
+abbrev pub IsUnmatchedUnder : (compiled : PatternView PatternRegexp) → (input : List ℕ) → BaseView
+    → Type 0
 IsUnmatchedUnder compiled input base =
-    IsRejectedUnder input base ⊎ ((url : Parts) × IsUrlUnder input base url × HasNoMatch pattern_result compiled (match_inputs.Url url))
+    IsRejectedUnder input base
+    ⊎ ((url : Parts) × IsUrlUnder input base url
+    × HasNoMatch pattern_result compiled (match_inputs.Url url))
 
 -- The pattern does not match the input, under this base URL if there is one.
-abbrev pub IsUnmatchedBy : (compiled : PatternView PatternRegexp) → (input : List ℕ) → (base : Option (List ℕ)) → Type 0
+abbrev pub IsUnmatchedBy : (compiled : PatternView PatternRegexp) → (input : List ℕ)
+    → (base : Option (List ℕ)) → Type 0
 IsUnmatchedBy compiled input base = IsUnmatchedUnder compiled input (base_view base)
 
 -- The pattern text compiles to a pattern that does not match the input.
-abbrev pub IsUnmatched : (ignores : Bool) → (pattern input : List ℕ) → (base : Option (List ℕ)) → Type 0
+abbrev pub IsUnmatched : (ignores : Bool) → (pattern input : List ℕ)
+    → (base : Option (List ℕ)) → Type 0
 IsUnmatched ignores pattern input base =
-    (compiled : PatternView PatternRegexp) × IsPatternOf ignores pattern base compiled × IsUnmatchedBy compiled input base
+    (compiled : PatternView PatternRegexp) × IsPatternOf ignores pattern base compiled
+    × IsUnmatchedBy compiled input base
 
 -- No pattern of the list matches the input: `url` rejects the input, or no pattern has a match on
 -- it.
-abbrev pub IsUnmatchedByAllUnder : (compiled : List (PatternView PatternRegexp)) → (input : List ℕ) → BaseView → Type 0
+abbrev pub IsUnmatchedByAllUnder : (compiled : List (PatternView PatternRegexp)) → (input : List ℕ)
+    → BaseView → Type 0
 IsUnmatchedByAllUnder compiled input base =
-    IsRejectedUnder input base ⊎ ((url : Parts) × IsUrlUnder input base url × All (λ pattern. HasNoMatch pattern_result pattern (match_inputs.Url url)) compiled)
+    IsRejectedUnder input base
+    ⊎ ((url : Parts) × IsUrlUnder input base url
+    × All (λ pattern. HasNoMatch pattern_result pattern (match_inputs.Url url)) compiled)
 
 -- The text of the match of a pattern text. `None`: there is no match.
-abbrev pub FindsMatch : Flags → (pattern input : List ℕ) → (base : Option (List ℕ)) → Option (String Global) → Type 0
+abbrev pub FindsMatch : Flags → (pattern input : List ℕ) → (base : Option (List ℕ))
+    → Option (String Global) → Type 0
 FindsMatch flags pattern input base found =
-    MatchOption found (IsUnmatched flags.ignore_case pattern input base) (λ text. IsMatchText flags pattern input base (string_bytes text))
+    MatchOption found (IsUnmatched flags.ignore_case pattern input base) (λ text.
+    IsMatchText flags pattern input base (string_bytes text))
 
 -- The text of the match of a compiled pattern. `None`: there is no match.
-abbrev pub FindsMatchBy : (json : Bool) → PatternView PatternRegexp → (input : List ℕ) → (base : Option (List ℕ)) → Option (String Global) → Type 0
+abbrev pub FindsMatchBy : (json : Bool) → PatternView PatternRegexp
+    → (input : List ℕ) → (base : Option (List ℕ)) → Option (String Global) → Type 0
 FindsMatchBy json compiled input base found =
-    MatchOption found (IsUnmatchedBy compiled input base) (λ text. IsMatchTextBy json compiled input base (string_bytes text))
+    MatchOption found (IsUnmatchedBy compiled input base) (λ text.
+    IsMatchTextBy json compiled input base (string_bytes text))

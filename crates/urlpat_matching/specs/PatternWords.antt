@@ -25,14 +25,20 @@ default_pattern_options = pattern_options false
 
 -- The constructor string with this base URL is compiled to the pattern, with the engine
 -- `PatternRegexp`.
-abbrev pub IsPatternOf : (ignores : Bool) → (text : List ℕ) → (base : Option (List ℕ)) → PatternView PatternRegexp → Type 0
-IsPatternOf ignores text base pattern = IsPatternOfText pattern_engine (chars text) base (pattern_options ignores) pattern
+abbrev pub IsPatternOf : (ignores : Bool) → (text : List ℕ)
+    → (base : Option (List ℕ)) → PatternView PatternRegexp → Type 0
+IsPatternOf ignores text base pattern =
+    IsPatternOfText pattern_engine (chars text) base (pattern_options ignores) pattern
 
 -- The pattern keeps the parts that the component texts of the constructor string read as.
-abbrev pub KeepsPartsOfWord : (ignores : Bool) → (text : List ℕ) → (base : Option (List ℕ)) → UrlPattern PatternRegexp → Type 0
-KeepsPartsOfWord ignores text base pattern = KeepsPartsOfText pattern_engine (chars text) base (pattern_options ignores) pattern
+abbrev pub KeepsPartsOfWord : (ignores : Bool) → (text : List ℕ)
+    → (base : Option (List ℕ)) → UrlPattern PatternRegexp → Type 0
+KeepsPartsOfWord ignores text base pattern =
+    KeepsPartsOfText pattern_engine (chars text) base (pattern_options ignores) pattern
 
 -- The constructor string with this base URL is rejected with this error, when it is parsed or
 -- compiled.
-abbrev pub RejectsPatternOf : (ignores : Bool) → (text : List ℕ) → (base : Option (List ℕ)) → ErrorView → Type 0
-RejectsPatternOf ignores text base error = RejectsPatternOfText pattern_engine (chars text) base (pattern_options ignores) error
+abbrev pub RejectsPatternOf : (ignores : Bool) → (text : List ℕ)
+    → (base : Option (List ℕ)) → ErrorView → Type 0
+RejectsPatternOf ignores text base error =
+    RejectsPatternOfText pattern_engine (chars text) base (pattern_options ignores) error

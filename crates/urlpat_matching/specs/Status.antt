@@ -14,7 +14,8 @@ status_of false = 1
 -- The usage of the program.
 abbrev pub usage : List ℕ
 usage =
-    codes "usage: urlpat component default|hostname|pathname PATTERN\n" ++ codes "       urlpat match PATTERN BASE INPUT\n"
+    codes "usage: urlpat component default|hostname|pathname PATTERN\n"
+    ++ codes "       urlpat match PATTERN BASE INPUT\n"
     ++ codes "       urlpat first BASE INPUT PATTERN..\n"
 
 -- The reason why a run has no output: the usage of the program, or the text of an error, if one is

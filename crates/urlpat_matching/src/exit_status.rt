@@ -73,7 +73,8 @@ pub fn fail<Err: Write>(failure: &Failure, err: &mut Err) -> u8
 
 /// Writes why a run has no output: the usage of the program, or the error and a line end.
 pub fn report<Err: Write>(failure: &Failure, err: &mut Err) -> io::Result<()>
-    ensures { IfSome (failure_lines failure.now) (λ lines. OnOk result (Appends (Err.contents err.old) (Err.contents err.new) lines)) }
+    ensures { IfSome (failure_lines failure.now) (λ lines.
+        OnOk result (Appends (Err.contents err.old) (Err.contents err.new) lines)) }
 {
     match failure {
         Failure::Usage => write!(err, "{COMPONENT_USAGE}{MATCH_USAGE}{FIRST_USAGE}"),

@@ -12,7 +12,8 @@ use urlpattern_matches::UrlPatternCaptures;
 
 /// The match as a line of JSON.
 pub fn match_json(alloc: Global, found: &UrlPatternCaptures<'_, '_>) -> Result<String, AllocError>
-    ensures { IfOk result (λ text. IsMatchJson (pattern_captures_view found.now) (string_bytes text)) }
+    ensures { IfOk result (λ text.
+        IsMatchJson (pattern_captures_view found.now) (string_bytes text)) }
 {
     let tree = match_tree(alloc, found)?;
     json_line(alloc, &tree)
@@ -30,7 +31,8 @@ pub fn match_tree(alloc: Global, found: &UrlPatternCaptures<'_, '_>) -> Result<V
 
 /// The text of JSON without floats, and a line end.
 pub fn json_line(alloc: Global, tree: &Value) -> Result<String, AllocError>
-    ensures { IfOk result (λ text. has_float (view tree.now) ≡ false → string_bytes text ≡ json_line (view tree.now)) }
+    ensures { IfOk result (λ text.
+        has_float (view tree.now) ≡ false → string_bytes text ≡ json_line (view tree.now)) }
 {
     let mut text = tree.to_string(alloc)?;
     text.push('\n')?;

@@ -18,7 +18,8 @@ use urlpattern_syntax::error::OutOfMemory;
 
 /// A note that an input is not a URL. `None`: it is one.
 pub fn note_of(alloc: Global, base: Option<&str>, input: &str) -> Result<Option<String>, Error>
-    ensures { IfOk result (λ note. IfSome note (λ text. IsRejectedText input.now (option_copied base.entry))) }
+    ensures { IfOk result (λ note. IfSome note (λ text.
+        IsRejectedText input.now (option_copied base.entry))) }
 {
     match find_url(alloc, input, base)? {
         Some(url) => {

@@ -37,7 +37,8 @@ pub fn matched_groups(
     input: &str,
 ) -> Result<Option<String>, Error>
     ensures found { IfOk result (FindsMatch flags pattern.now input.now (base_of base.now)) }
-    ensures refused { IfErr result (MemoryOr (RejectsPatternOf flags.ignore_case pattern.now (base_of base.now))) }
+    ensures refused { IfErr result
+        (MemoryOr (RejectsPatternOf flags.ignore_case pattern.now (base_of base.now))) }
 {
     let base = base_of(base);
     let pattern = compiled(alloc, pattern, base, flags.ignore_case)?;
@@ -62,9 +63,12 @@ pub fn compiled(
     base: Option<&str>,
     ignore_case: bool,
 ) -> Result<UrlPattern<PatternRegexp>, Error>
-    ensures compiled { IfOk result (λ compiled. IsPatternOf ignore_case pattern.now (option_copied base.entry) (pattern_view compiled)) }
-    ensures kept { IfOk result (KeepsPartsOfWord ignore_case pattern.now (option_copied base.entry)) }
-    ensures refused { IfErr result (MemoryOr (RejectsPatternOf ignore_case pattern.now (option_copied base.entry))) }
+    ensures compiled { IfOk result (λ compiled.
+        IsPatternOf ignore_case pattern.now (option_copied base.entry) (pattern_view compiled)) }
+    ensures kept { IfOk result
+        (KeepsPartsOfWord ignore_case pattern.now (option_copied base.entry)) }
+    ensures refused { IfErr result
+        (MemoryOr (RejectsPatternOf ignore_case pattern.now (option_copied base.entry))) }
 {
     let options = UrlPatternOptions {
         regex_syntax: RegexSyntax::Rust,
@@ -81,7 +85,8 @@ fn groups_of_match(
     json: bool,
     input: &str,
 ) -> Result<Option<String>, Error>
-    ensures found { IfOk result (FindsMatchBy json (pattern_view pattern.now) input.now (option_copied base.entry)) }
+    ensures found { IfOk result
+        (FindsMatchBy json (pattern_view pattern.now) input.now (option_copied base.entry)) }
     ensures memory { OnlyOutOfMemory result }
 {
     let Some(url) = find_url(alloc, input, base)? else {
@@ -101,7 +106,8 @@ fn match_text(
     json: bool,
     found: &UrlPatternCaptures<'_, '_>,
 ) -> Result<String, AllocError>
-    ensures { IfOk result (λ text. ShowsMatch json (pattern_captures_view found.now) (string_bytes text)) }
+    ensures { IfOk result (λ text.
+        ShowsMatch json (pattern_captures_view found.now) (string_bytes text)) }
 {
     if json {
         return match_json(alloc, found);
@@ -117,7 +123,8 @@ pub fn push_match(
     text: &mut String,
     found: &UrlPatternCaptures<'_, '_>,
 ) -> Result<(), AllocError>
-    ensures { OnOk result (GetsLines (AreLines (all_named_results (pattern_captures_view found.now))) text.old text.new) }
+    ensures { OnOk result (GetsLines
+        (AreLines (all_named_results (pattern_captures_view found.now))) text.old text.new) }
 {
     for name in ComponentName::all() {
         push_group_lines(alloc, text, found, name)?;
@@ -132,7 +139,8 @@ fn push_group_lines(
     found: &UrlPatternCaptures<'_, '_>,
     name: ComponentName,
 ) -> Result<(), AllocError>
-    ensures { OnOk result (GetsLines (AreGroupLines (name_text name) (pattern_captures_view found.now name)) text.old text.new) }
+    ensures { OnOk result (GetsLines
+        (AreGroupLines (name_text name) (pattern_captures_view found.now name)) text.old text.new) }
 {
     if let Some(group) = only_group(found, name) {
         push_group_line(text, name.as_str(), group, capture_of(found, name, group))?;
@@ -163,7 +171,8 @@ fn sorted_names(
     found: &UrlPatternCaptures<'_, '_>,
     name: ComponentName,
 ) -> Result<Vec<String>, AllocError>
-    ensures { IfOk result (λ names. AreNames (pattern_captures_view found.now name) (map (λ name. text_of name) names.items)) }
+    ensures { IfOk result (λ names.
+        AreNames (pattern_captures_view found.now name) (map (λ name. text_of name) names.items)) }
 {
     let mut names = names_of(alloc, found, name)?;
     names.sort_unstable();
@@ -177,7 +186,8 @@ fn names_of(
     found: &UrlPatternCaptures<'_, '_>,
     name: ComponentName,
 ) -> Result<Vec<String>, AllocError>
-    ensures { IfOk result (λ names. map (λ name. text_of name) names.items ≡ keys_of (groups_view found.now name)) }
+    ensures { IfOk result (λ names.
+        map (λ name. text_of name) names.items ≡ keys_of (groups_view found.now name)) }
 {
     let mut names = Vec::new(alloc);
     for (group, _) in found.groups(name) {
@@ -193,7 +203,8 @@ pub fn capture_of<'u>(
     name: ComponentName,
     group: &str,
 ) -> Option<&'u str>
-    ensures { option_copied result ≡ group_bytes ((pattern_captures_view found.now name).group (chars group.now)) }
+    ensures { option_copied result
+        ≡ group_bytes ((pattern_captures_view found.now name).group (chars group.now)) }
 {
     match found.get(name, group) {
         Some(capture) => Some(capture),
@@ -208,7 +219,9 @@ fn push_group_line(
     name: &str,
     capture: Option<&str>,
 ) -> Result<(), AllocError>
-    ensures { OnOk result (string_bytes text.new ≡ string_bytes text.old ++ group_line component.now name.now (option_copied capture.entry)) }
+    ensures { OnOk result (string_bytes text.new
+        ≡ string_bytes text.old
+        ++ group_line component.now name.now (option_copied capture.entry)) }
 {
     text.push_str(component)?;
     text.push(' ')?;

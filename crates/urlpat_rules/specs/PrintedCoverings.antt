@@ -25,7 +25,9 @@ ArePartsOf text base parts =
 -- Whether the pattern of the first constructor string covers that of the asked one.
 abbrev pub ComparesWith : (pattern asked : List ℕ) → PatternCovering → Type 0
 ComparesWith pattern asked covering =
-    (parts asked_parts : PatternParts) × ArePartsOf pattern None parts × ArePartsOf asked None asked_parts × IsPatternCovering parts asked_parts covering
+    (parts asked_parts : PatternParts) × ArePartsOf pattern None parts
+    × ArePartsOf asked None asked_parts
+    × IsPatternCovering parts asked_parts covering
 
 -- ---- output
 
@@ -40,16 +42,20 @@ text_lines texts = flat_map (text_line texts) components
 -- A line with the component in which patterns differ, and the texts that only the asked one
 -- matches.
 abbrev pub parting_lines : Parting → List ℕ
-parting_lines parting = codes "not covered: " ++ name_text parting.component ++ codes "\n" ++ text_lines parting.texts
+parting_lines parting =
+    codes "not covered: " ++ name_text parting.component ++ codes "\n" ++ text_lines parting.texts
 
 -- The output and the exit status. If it is not known, the run fails.
 abbrev pub PrintsCovering : PatternCovering → (status : ℕ) → (old new : Option (List ℕ)) → Type 0
 PrintsCovering Covered status old new = (status ≡ 0) × Appends old new (codes "covered\n")
-PrintsCovering (NotCovered parting) status old new = (status ≡ 1) × Appends old new (parting_lines parting)
+PrintsCovering (NotCovered parting) status old new =
+    (status ≡ 1) × Appends old new (parting_lines parting)
 PrintsCovering (Unknown component reason) status old new = ⊥
 
 -- The output and the exit status for the arguments of `covers`.
-abbrev pub PrintsWhether : (words : List (List ℕ)) → (status : ℕ) → (old new : Option (List ℕ)) → Type 0
+abbrev pub PrintsWhether : (words : List (List ℕ)) → (status : ℕ)
+    → (old new : Option (List ℕ)) → Type 0
 PrintsWhether (pattern ∷ asked ∷ []) status old new =
-    (covering : PatternCovering) × ComparesWith pattern asked covering × PrintsCovering covering status old new
+    (covering : PatternCovering) × ComparesWith pattern asked covering
+    × PrintsCovering covering status old new
 PrintsWhether words status old new = ⊥

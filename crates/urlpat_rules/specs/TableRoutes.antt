@@ -42,9 +42,11 @@ Routes = List (UrlPattern PatternRegexp × Entry)
 
 -- The routes have these entries, each with the pattern to which its text is compiled under the base
 -- URL.
-abbrev pub AreRoutesOf : (ignores : Bool) → (base : Option (List ℕ)) → List EntryView → Routes → Type 0
+abbrev pub AreRoutesOf : (ignores : Bool) → (base : Option (List ℕ)) → List EntryView → Routes
+    → Type 0
 AreRoutesOf ignores base entries routes =
-    (entries_view (values_of routes) ≡ entries) × All (λ route. IsPatternOf ignores route.1.pattern.now base (pattern_view route.0)) routes
+    (entries_view (values_of routes) ≡ entries)
+    × All (λ route. IsPatternOf ignores route.1.pattern.now base (pattern_view route.0)) routes
 
 -- ---- output
 
@@ -58,23 +60,29 @@ cell_text line = codes "\t" ++ line
 
 -- The number of an entry, its name, and each line of a text, separated by tabs.
 abbrev pub row_text : EntryView → (text : List ℕ) → List ℕ
-row_text entry text = decimal entry.number ++ codes "\t" ++ entry.name ++ flat_map cell_text (bare_lines text) ++ codes "\n"
+row_text entry text =
+    decimal entry.number ++ codes "\t" ++ entry.name ++ flat_map cell_text (bare_lines text)
+    ++ codes "\n"
 
 -- The row of an entry, with the lines that `match` prints for each group.
 abbrev pub IsRouteRow : EntryView → (ComponentName → ResultView) → (row : List ℕ) → Type 0
-IsRouteRow entry result row = (text : List ℕ) × AreLines (all_named_results result) text × (row ≡ row_text entry text)
+IsRouteRow entry result row =
+    (text : List ℕ) × AreLines (all_named_results result) text × (row ≡ row_text entry text)
 
 -- The JSON of a route: the number and the name of its entry, and the match.
 abbrev pub route_tree : EntryView → (found : Data) → Data
 route_tree entry found =
-    object_of ((codes "number", Some (number (unsigned entry.number))) ∷ (codes "name", Some (string entry.name)) ∷ (codes "match", Some found) ∷ [])
+    object_of ((codes "number", Some (number (unsigned entry.number)))
+    ∷ (codes "name", Some (string entry.name)) ∷ (codes "match", Some found) ∷ [])
 
 -- The row of an entry as JSON.
 abbrev pub IsRouteJson : EntryView → (ComponentName → ResultView) → (row : List ℕ) → Type 0
-IsRouteJson entry result row = (tree : Data) × IsMatchTree result tree × (row ≡ json_line (route_tree entry tree))
+IsRouteJson entry result row =
+    (tree : Data) × IsMatchTree result tree × (row ≡ json_line (route_tree entry tree))
 
 -- The row of an entry, as JSON or not.
-abbrev pub IsRowShown : (json : Bool) → EntryView → (ComponentName → ResultView) → (row : List ℕ) → Type 0
+abbrev pub IsRowShown : (json : Bool) → EntryView → (ComponentName → ResultView)
+    → (row : List ℕ) → Type 0
 IsRowShown true entry result row = IsRouteJson entry result row
 IsRowShown false entry result row = IsRouteRow entry result row
 
@@ -87,35 +95,45 @@ unmatched_text false = codes "-\n"
 
 -- A pattern is the first that matches the text, a URL under this base URL, and the row is that of
 -- its entry.
-pub record IsRouted (json : Bool) (routes : Routes) (base : BaseView) (text row : List ℕ) : Type 0 where
-  pub url : Parts
-  pub index : ℕ
-  pub result : ComponentName → ResultView
-  pub entry : Entry
-  pub is_url : IsUrlUnder text base url
-  pub is_first : IsFirstMatch pattern_result (entry_patterns routes) (match_inputs.Url url) (Some (index, result))
-  pub is_there : slice_get (values_of routes) index ≡ Some entry
-  pub shows : IsRowShown json (entry_view entry) result row
+pub record IsRouted (json : Bool) (routes : Routes) (base : BaseView) (text row : List ℕ) : Type 0
+  where
+    pub url : Parts
+    pub index : ℕ
+    pub result : ComponentName → ResultView
+    pub entry : Entry
+    pub is_url : IsUrlUnder text base url
+    pub is_first : IsFirstMatch pattern_result (entry_patterns routes) (match_inputs.Url url)
+        (Some (index, result))
+    pub is_there : slice_get (values_of routes) index ≡ Some entry
+    pub shows : IsRowShown json (entry_view entry) result row
 
 -- The verdict on a line and the output for it: the row of a match, or a mark if no pattern matches.
-abbrev pub IsLineAnswered : (json : Bool) → Routes → BaseView → (text line : List ℕ) → Verdict → (written : List ℕ) → Type 0
+abbrev pub IsLineAnswered : (json : Bool) → Routes → BaseView → (text line : List ℕ) → Verdict
+    → (written : List ℕ) → Type 0
 IsLineAnswered json routes base text line verdict written =
     (IsRouted json routes base text written × (verdict ≡ Selected))
-    ⊎ (IsUnmatchedByAllUnder (entry_patterns routes) text base × (written ≡ unmatched_text json) × (selected_by verdict ≡ 0))
+    ⊎ (IsUnmatchedByAllUnder (entry_patterns routes) text base
+    × (written ≡ unmatched_text json)
+    × (selected_by verdict ≡ 0))
 
 -- The output for the lines of a text is written, with exit status 1 if no line matches.
-abbrev pub RoutesText : (json : Bool) → Routes → BaseView → (text : List ℕ) → (status : ℕ) → (old new : Option (List ℕ)) → Type 0
+abbrev pub RoutesText : (json : Bool) → Routes → BaseView → (text : List ℕ) → (status : ℕ)
+    → (old new : Option (List ℕ)) → Type 0
 RoutesText json routes base text status old new =
-    (any : Bool) × (status ≡ status_of any) × FiltersText (IsLineAnswered json routes base) Line text any old new
+    (any : Bool) × (status ≡ status_of any)
+    × FiltersText (IsLineAnswered json routes base) Line text any old new
 
 -- The output for the lines of the reader is written, by the patterns of a table, if the contents of
 -- the reader are known.
-abbrev pub RoutesBy : Flags → (table : List ℕ) → (base : Option (List ℕ)) → (status : ℕ) → (input old new : Option (List ℕ)) → Type 0
+abbrev pub RoutesBy : Flags → (table : List ℕ) → (base : Option (List ℕ))
+    → (status : ℕ) → (input old new : Option (List ℕ)) → Type 0
 RoutesBy flags table base status input old new =
-    (routes : Routes) × AreRoutesOf flags.ignore_case base (table_entries table) routes × IfSome input (λ text. RoutesText flags.json routes (base_view base) text status old new)
+    (routes : Routes) × AreRoutesOf flags.ignore_case base (table_entries table) routes
+    × IfSome input (λ text. RoutesText flags.json routes (base_view base) text status old new)
 
 -- The output for the arguments of `route` is written. `Has` says which file has which table.
-abbrev pub RoutesLines : Flags → (Has : (name table : List ℕ) → Type 0) → (words : List (List ℕ)) → (status : ℕ) → (input old new : Option (List ℕ)) → Type 0
+abbrev pub RoutesLines : Flags → (Has : (name table : List ℕ) → Type 0) → (words : List (List ℕ))
+    → (status : ℕ) → (input old new : Option (List ℕ)) → Type 0
 RoutesLines flags Has words status input old new =
     (name : List ℕ) × (base : Option (List ℕ)) × NameTable words name base
     × (table : List ℕ) × Has name table × RoutesBy flags table base status input old new
@@ -123,9 +141,13 @@ RoutesLines flags Has words status input old new =
 -- ---- unless the run failed
 
 -- `RoutesBy` unless the run failed.
-abbrev pub RoutesTable : Flags → (table : List ℕ) → (base : Option (Bor (List ℕ))) → (status : ℕ) → (input old new : Option (List ℕ)) → Type 0
-RoutesTable flags table base status input old new = status ≢ FAILED → RoutesBy flags table (option_copied base) status input old new
+abbrev pub RoutesTable : Flags → (table : List ℕ) → (base : Option (Bor (List ℕ)))
+    → (status : ℕ) → (input old new : Option (List ℕ)) → Type 0
+RoutesTable flags table base status input old new =
+    status ≢ FAILED → RoutesBy flags table (option_copied base) status input old new
 
 -- `RoutesLines` unless the run failed.
-abbrev pub Replies : Flags → (Has : (name table : List ℕ) → Type 0) → (words : List (String Global)) → (status : ℕ) → (input old new : Option (List ℕ)) → Type 0
-Replies flags Has words status input old new = status ≢ FAILED → RoutesLines flags Has (words_view words) status input old new
+abbrev pub Replies : Flags → (Has : (name table : List ℕ) → Type 0) → (words : List (String Global))
+    → (status : ℕ) → (input old new : Option (List ℕ)) → Type 0
+Replies flags Has words status input old new =
+    status ≢ FAILED → RoutesLines flags Has (words_view words) status input old new

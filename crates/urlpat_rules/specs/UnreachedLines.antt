@@ -13,7 +13,8 @@ use Rattle.urlpattern_compare.specs.declared.pattern_parts.PatternParts.{Pattern
 
 -- The parts of the pattern of each entry.
 abbrev pub ArePartsOfEach : (base : Option (List ℕ)) → List EntryView → List PatternParts → Type 0
-ArePartsOfEach base entries patterns = AllZip (λ entry parts. ArePartsOf entry.pattern base parts) entries patterns
+ArePartsOfEach base entries patterns =
+    AllZip (λ entry parts. ArePartsOf entry.pattern base parts) entries patterns
 
 -- The line number of an entry.
 abbrev pub number_at : List EntryView → (index : ℕ) → ℕ
@@ -22,22 +23,28 @@ number_at entries index = unwrap_or (option_map (λ entry. entry.number) (slice_
 -- A line with the line number of a pattern, and that of the pattern that covers it.
 abbrev pub unreached_line : List EntryView → Shadowed → List ℕ
 unreached_line entries shadowed =
-    decimal (number_at entries shadowed.pattern) ++ codes "\t" ++ decimal (number_at entries shadowed.by) ++ codes "\n"
+    decimal (number_at entries shadowed.pattern) ++ codes "\t"
+    ++ decimal (number_at entries shadowed.by) ++ codes "\n"
 
 -- A line for each pattern that an earlier one is known to cover, in order, with the first such
 -- pattern.
 abbrev pub AreUnreachedLines : List PatternParts → List EntryView → (text : List ℕ) → Type 0
 AreUnreachedLines patterns entries text =
-    (found : List Shadowed) × AreUnreachable patterns found × (text ≡ flat_map (unreached_line entries) found)
+    (found : List Shadowed) × AreUnreachable patterns found
+    × (text ≡ flat_map (unreached_line entries) found)
 
 -- The output for a table: lines, or none with exit status 1.
-abbrev pub ListsOf : (table : List ℕ) → (base : Option (List ℕ)) → (status : ℕ) → (old new : Option (List ℕ)) → Type 0
+abbrev pub ListsOf : (table : List ℕ) → (base : Option (List ℕ))
+    → (status : ℕ) → (old new : Option (List ℕ)) → Type 0
 ListsOf table base status old new =
     (patterns : List PatternParts) × ArePartsOfEach base (table_entries table) patterns
-    × (text : List ℕ) × AreUnreachedLines patterns (table_entries table) text × (status ≡ status_of (nat_lt 0 (length text))) × Appends old new text
+    × (text : List ℕ) × AreUnreachedLines patterns (table_entries table) text
+    × (status ≡ status_of (nat_lt 0 (length text)))
+    × Appends old new text
 
 -- The output for the arguments of `unreachable`. `Has` says which file has which table.
-abbrev pub Lists : (Has : (name table : List ℕ) → Type 0) → (words : List (List ℕ)) → (status : ℕ) → (old new : Option (List ℕ)) → Type 0
+abbrev pub Lists : (Has : (name table : List ℕ) → Type 0) → (words : List (List ℕ))
+    → (status : ℕ) → (old new : Option (List ℕ)) → Type 0
 Lists Has words status old new =
     (name : List ℕ) × (base : Option (List ℕ)) × NameTable words name base
     × (table : List ℕ) × Has name table × ListsOf table base status old new

@@ -24,7 +24,9 @@ pub fn covers<Out: Write, Err: Write>(
     err: &mut Err,
 ) -> u8
     ensures status { (result ≡ DONE) ⊎ (result ≡ NO_MATCH) ⊎ (result ≡ FAILED) }
-    ensures answers { result ≢ FAILED → PrintsWhether (words_view words.now) result (Out.contents out.old) (Out.contents out.new) }
+    ensures answers { result ≢ FAILED
+        → PrintsWhether (words_view words.now) result (Out.contents out.old)
+        (Out.contents out.new) }
 {
     let [pattern, asked] = words else {
         let _ = err.write_all(COVERS_USAGE.as_bytes());
@@ -88,7 +90,8 @@ fn print_covering<Out: Write, Err: Write>(
     err: &mut Err,
 ) -> u8
     ensures status { (result ≡ DONE) ⊎ (result ≡ NO_MATCH) ⊎ (result ≡ FAILED) }
-    ensures answers { result ≢ FAILED → PrintsCovering covering.now result (Out.contents out.old) (Out.contents out.new) }
+    ensures answers { result ≢ FAILED
+        → PrintsCovering covering.now result (Out.contents out.old) (Out.contents out.new) }
 {
     match covering {
         PatternCovering::Covered => match print(b"covered\n", out) {
@@ -112,7 +115,8 @@ fn print_difference<Out: Write, Err: Write>(
     err: &mut Err,
 ) -> u8
     ensures status { (result ≡ NO_MATCH) ⊎ (result ≡ FAILED) }
-    ensures answers { result ≢ FAILED → Appends (Out.contents out.old) (Out.contents out.new) (parting_lines parting.now) }
+    ensures answers { result ≢ FAILED
+        → Appends (Out.contents out.old) (Out.contents out.new) (parting_lines parting.now) }
 {
     let Ok(text) = difference_text(alloc, parting) else {
         let _ = err.write_all(b"out of memory\n");

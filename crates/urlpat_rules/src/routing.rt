@@ -41,7 +41,8 @@ pub fn route<T: Tables, In: BufRead, Out: Write, Err: Write>(
     err: &mut Err,
 ) -> u8
     ensures status { (result ≡ DONE) ⊎ (result ≡ NO_MATCH) ⊎ (result ≡ FAILED) }
-    ensures answers { Replies flags (T.Has tables.now) words.now result (In.remaining input.old) (Out.contents out.old) (Out.contents out.new) }
+    ensures answers { Replies flags (T.Has tables.now) words.now result (In.remaining input.old)
+        (Out.contents out.old) (Out.contents out.new) }
 {
     let Some((name, base)) = table_words(words) else {
         let _ = err.write_all(ROUTE_USAGE.as_bytes());
@@ -66,7 +67,8 @@ fn route_by<In: BufRead, Out: Write, Err: Write>(
     err: &mut Err,
 ) -> u8
     ensures status { (result ≡ DONE) ⊎ (result ≡ NO_MATCH) ⊎ (result ≡ FAILED) }
-    ensures answers { RoutesTable flags table.now base.entry result (In.remaining input.old) (Out.contents out.old) (Out.contents out.new) }
+    ensures answers { RoutesTable flags table.now base.entry result (In.remaining input.old)
+        (Out.contents out.old) (Out.contents out.new) }
 {
     let Some(entries) = read_entries(alloc, table, err) else {
         return FAILED;
@@ -102,7 +104,8 @@ fn routes_of<'t, Err: Write>(
     ignore_case: bool,
     err: &mut Err,
 ) -> Option<UrlPatternMap<Entry<'t>, PatternRegexp>>
-    ensures { IfSome result (AreRoutesOf ignore_case (option_copied base.entry) (entries_view entries.now)) }
+    ensures { IfSome result
+        (AreRoutesOf ignore_case (option_copied base.entry) (entries_view entries.now)) }
 {
     let mut routes = UrlPatternMap::new(alloc);
     for entry in entries {
@@ -129,7 +132,8 @@ fn unmatched_text(json: bool) -> &'static str
 }
 
 impl Rule for Router<'_, '_> {
-    ghost Answers = { λ router. IsLineAnswered router.json router.routes.now (kept_base router.base.now) };
+    ghost Answers = { λ router.
+        IsLineAnswered router.json router.routes.now (kept_base router.base.now) };
 
     fn answer(
         &self,

@@ -28,7 +28,9 @@ pub fn push_route(
     found: &UrlPatternCaptures<'_, '_>,
     row: &mut Vec<u8>,
 ) -> Result<(), AllocError>
-    ensures { OnOk result (GetsPiece (IsRowShown json (entry_view entry.now) (pattern_captures_view found.now)) row.old.items row.new.items) }
+    ensures { OnOk result (GetsPiece
+        (IsRowShown json (entry_view entry.now) (pattern_captures_view found.now)) row.old.items
+        row.new.items) }
 {
     if !json {
         return push_row(alloc, entry, found, row);
@@ -57,7 +59,9 @@ fn push_row(
     found: &UrlPatternCaptures<'_, '_>,
     row: &mut Vec<u8>,
 ) -> Result<(), AllocError>
-    ensures { OnOk result (GetsPiece (IsRouteRow (entry_view entry.now) (pattern_captures_view found.now)) row.old.items row.new.items) }
+    ensures { OnOk result (GetsPiece
+        (IsRouteRow (entry_view entry.now) (pattern_captures_view found.now)) row.old.items
+        row.new.items) }
 {
     let mut groups = String::with_capacity(alloc, USUAL)?;
     push_match(alloc, &mut groups, found)?;
@@ -72,7 +76,8 @@ fn push_row(
 
 /// Appends each line of a text, after a tab.
 fn push_cells(text: &[u8], row: &mut Vec<u8>) -> Result<(), AllocError>
-    ensures { OnOk result (row.new.items ≡ row.old.items ++ flat_map cell_text (bare_lines text.now)) }
+    ensures { OnOk result
+        (row.new.items ≡ row.old.items ++ flat_map cell_text (bare_lines text.now)) }
 {
     for line in text.lines() {
         row.push(b'\t')?;

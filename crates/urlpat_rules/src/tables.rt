@@ -24,7 +24,8 @@ pub trait Tables {
 /// The file that the arguments name, and the base URL, if there is one. `None`: the arguments are
 /// invalid.
 pub fn table_words(words: &[String]) -> Option<(&str, Option<&str>)>
-    ensures asked { IfSome result (λ asked. NameTable (words_view words.now) asked.0.now (option_copied asked.1)) }
+    ensures asked { IfSome result (λ asked.
+        NameTable (words_view words.now) asked.0.now (option_copied asked.1)) }
     ensures other { IfNone result ((length words.now ≢ 1) × (length words.now ≢ 2)) }
 {
     match words {
@@ -58,7 +59,8 @@ pub fn read_entries<'t, Err: Write>(
     table: &'t [u8],
     err: &mut Err,
 ) -> Option<Vec<Entry<'t>>>
-    ensures entries { IfSome result (λ entries. entries_view entries.items ≡ table_entries table.now) }
+    ensures entries { IfSome result (λ entries.
+        entries_view entries.items ≡ table_entries table.now) }
     ensures quiet { IfSome result (λ entries. err.new ≡ err.old) }
 {
     match entries_of(alloc, table) {

@@ -29,7 +29,9 @@ pub fn list_unreachable<T: Tables, Out: Write, Err: Write>(
     err: &mut Err,
 ) -> u8
     ensures status { (result ≡ DONE) ⊎ (result ≡ NO_MATCH) ⊎ (result ≡ FAILED) }
-    ensures answers { result ≢ FAILED → Lists (T.Has tables.now) (words_view words.now) result (Out.contents out.old) (Out.contents out.new) }
+    ensures answers { result ≢ FAILED
+        → Lists (T.Has tables.now) (words_view words.now) result (Out.contents out.old)
+        (Out.contents out.new) }
     ensures quiet { result ≢ FAILED → (err.new ≡ err.old)
         ⊎ LeaveDoubts (T.Has tables.now) (words_view words.now) }
 {
@@ -55,7 +57,9 @@ fn print_unreachable<Out: Write, Err: Write>(
     err: &mut Err,
 ) -> u8
     ensures status { (result ≡ DONE) ⊎ (result ≡ NO_MATCH) ⊎ (result ≡ FAILED) }
-    ensures answers { result ≢ FAILED → ListsOf table.now (option_copied base.entry) result (Out.contents out.old) (Out.contents out.new) }
+    ensures answers { result ≢ FAILED
+        → ListsOf table.now (option_copied base.entry) result (Out.contents out.old)
+        (Out.contents out.new) }
     ensures quiet { result ≢ FAILED → (err.new ≡ err.old)
         ⊎ HasDoubts table.now (option_copied base.entry) }
 {
@@ -141,7 +145,8 @@ fn unreached_text(
     entries: &[Entry<'_>],
     patterns: &[PatternParts],
 ) -> Result<String, AllocError>
-    ensures { IfOk result (λ text. AreUnreachedLines patterns.now (entries_view entries.now) (string_bytes text)) }
+    ensures { IfOk result (λ text.
+        AreUnreachedLines patterns.now (entries_view entries.now) (string_bytes text)) }
 {
     let all = references(alloc, patterns)?;
     let found = unreachable(alloc, &all)?;
@@ -166,7 +171,8 @@ fn push_shadowed(
     entries: &[Entry<'_>],
     shadowed: Shadowed,
 ) -> Result<(), AllocError>
-    ensures { OnOk result (string_bytes text.new ≡ string_bytes text.old ++ unreached_line (entries_view entries.now) shadowed) }
+    ensures { OnOk result (string_bytes text.new
+        ≡ string_bytes text.old ++ unreached_line (entries_view entries.now) shadowed) }
 {
     let pattern = number_at(entries, shadowed.pattern);
     let by = number_at(entries, shadowed.by);

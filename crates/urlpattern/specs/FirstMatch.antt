@@ -30,39 +30,51 @@ first_captures_view found = option_map (λ first. (first.0, pattern_captures_vie
 
 -- The first match of a list on an input: the least index whose pattern matches it, and the match.
 -- `None` if no pattern matches.
-abbrev pub IsFirstMatch : {E : Type 0} → (answer : E → List ℕ → Option Captures) → List (PatternView E) → UrlPatternMatchInput → Option FirstView → Type 0
+abbrev pub IsFirstMatch : {E : Type 0} → (answer : E → List ℕ → Option Captures)
+    → List (PatternView E) → UrlPatternMatchInput → Option FirstView → Type 0
 IsFirstMatch {E} answer patterns input (Some first) =
-    ((pattern : PatternView E) × (slice_get patterns first.0 ≡ Some pattern) × IsMatch answer pattern input first.1)
+    ((pattern : PatternView E) × (slice_get patterns first.0 ≡ Some pattern)
+    × IsMatch answer pattern input first.1)
     × All (λ earlier. ¬ HasMatch answer earlier input) (take first.0 patterns)
 IsFirstMatch answer patterns input None = All (λ pattern. HasNoMatch answer pattern input) patterns
 
 -- The first match of a list on eight texts: the least index whose pattern matches them, and the
 -- match.
-abbrev pub IsFirstMatchOf : {E : Type 0} → (answer : E → List ℕ → Option Captures) → List (PatternView E) → Texts → Option FirstView → Type 0
+abbrev pub IsFirstMatchOf : {E : Type 0} → (answer : E → List ℕ → Option Captures)
+    → List (PatternView E) → Texts → Option FirstView → Type 0
 IsFirstMatchOf {E} answer patterns texts (Some first) =
-    ((pattern : PatternView E) × (slice_get patterns first.0 ≡ Some pattern) × IsMatchOf answer pattern texts first.1)
+    ((pattern : PatternView E) × (slice_get patterns first.0 ≡ Some pattern)
+    × IsMatchOf answer pattern texts first.1)
     × All (λ earlier. DoesNotMatch answer earlier texts) (take first.0 patterns)
-IsFirstMatchOf answer patterns texts None = All (λ pattern. DoesNotMatch answer pattern texts) patterns
+IsFirstMatchOf answer patterns texts None =
+    All (λ pattern. DoesNotMatch answer pattern texts) patterns
 
 -- `IsFirstMatchOf` for a borrowed match.
-abbrev pub IsFirstCaptured : {E : Type 0} → (answer : E → List ℕ → Option Captures) → List (PatternView E) → Texts → Option (ℕ × UrlPatternCaptures) → Type 0
-IsFirstCaptured answer patterns texts found = IsFirstMatchOf answer patterns texts (first_captures_view found)
+abbrev pub IsFirstCaptured : {E : Type 0} → (answer : E → List ℕ → Option Captures)
+    → List (PatternView E) → Texts → Option (ℕ × UrlPatternCaptures) → Type 0
+IsFirstCaptured answer patterns texts found =
+    IsFirstMatchOf answer patterns texts (first_captures_view found)
 
 -- The groups of a match are those of the pattern at its index, in order.
-abbrev pub HasGroupsInOrder : {E : Type 0} → (answer : E → List ℕ → Option Captures) → List (PatternView E) → Texts → Option (ℕ × UrlPatternCaptures) → Type 0
+abbrev pub HasGroupsInOrder : {E : Type 0} → (answer : E → List ℕ → Option Captures)
+    → List (PatternView E) → Texts → Option (ℕ × UrlPatternCaptures) → Type 0
 HasGroupsInOrder {E} answer patterns texts found =
     IfSome found (λ first. (pattern : PatternView E) × (slice_get patterns first.0 ≡ Some pattern)
     × AreGroupsInOrder answer pattern texts (groups_view first.1))
 
 -- A pattern calls an engine for eight texts, and no earlier pattern matches them.
-abbrev pub CallsEngineBeforeMatch : {E : Type 0} → (answer : E → List ℕ → Option Captures) → List (PatternView E) → Texts → Type 0
+abbrev pub CallsEngineBeforeMatch : {E : Type 0} → (answer : E → List ℕ → Option Captures)
+    → List (PatternView E) → Texts → Type 0
 CallsEngineBeforeMatch {E} answer patterns texts =
     (index : ℕ) × (pattern : PatternView E) × (slice_get patterns index ≡ Some pattern)
     × CallsAnEngine answer pattern texts
     × All (λ earlier. DoesNotMatch answer earlier texts) (take index patterns)
 
 -- A match may be copied: an engine is called before, or a pattern matches the texts.
-abbrev pub CopiesFirstMatch : {E : Type 0} → (answer : E → List ℕ → Option Captures) → List (PatternView E) → Texts → Type 0
+abbrev pub CopiesFirstMatch : {E : Type 0} → (answer : E → List ℕ → Option Captures)
+    → List (PatternView E) → Texts → Type 0
 CopiesFirstMatch {E} answer patterns texts =
     CallsEngineBeforeMatch answer patterns texts
-    ⊎ ((index : ℕ) × (pattern : PatternView E) × (slice_get patterns index ≡ Some pattern) × AreMatched answer pattern texts)
+    ⊎ ((index : ℕ) × (pattern : PatternView E)
+    × (slice_get patterns index ≡ Some pattern)
+    × AreMatched answer pattern texts)

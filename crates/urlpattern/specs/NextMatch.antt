@@ -15,33 +15,45 @@ use Rattle.urlpattern_syntax.specs.declared.error.Error.TheVariants as errors
 use Rattle.urlpattern_components.specs.Eight.{Texts}
 
 -- No pattern from one index up to another (exclusive) matches eight texts.
-abbrev pub NoneMatchBetween : {E : Type 0} → (answer : E → List ℕ → Option Captures) → List (PatternView E) → Texts → (from end : ℕ) → Type 0
+abbrev pub NoneMatchBetween : {E : Type 0} → (answer : E → List ℕ → Option Captures)
+    → List (PatternView E) → Texts → (from end : ℕ) → Type 0
 NoneMatchBetween {E} answer patterns texts from end =
-    (index : ℕ) (pattern : PatternView E) → from ≤ index → index < end → slice_get patterns index ≡ Some pattern → DoesNotMatch answer pattern texts
+    (index : ℕ) (pattern : PatternView E) → from ≤ index → index < end
+    → slice_get patterns index ≡ Some pattern → DoesNotMatch answer pattern texts
 
 -- No pattern from an index up to the one that is found, or up to the end, matches eight texts with
 -- these hashes.
-abbrev pub SkipsOnlyMismatches : {E : Type 0} → (answer : E → List ℕ → Option Captures) → List (PatternView E) → Hashes → (from : ℕ) → (found : Option ℕ) → Type 0
+abbrev pub SkipsOnlyMismatches : {E : Type 0} → (answer : E → List ℕ → Option Captures)
+    → List (PatternView E) → Hashes → (from : ℕ) → (found : Option ℕ) → Type 0
 SkipsOnlyMismatches answer patterns hashes from found =
-    (texts : Texts) → hashes ≡ hashes_of (address_of texts) → NoneMatchBetween answer patterns texts from (unwrap_or found (length patterns))
+    (texts : Texts) → hashes ≡ hashes_of (address_of texts)
+    → NoneMatchBetween answer patterns texts from (unwrap_or found (length patterns))
 
 -- The least index, not below `from`, whose pattern matches eight texts, and the match. `None` if no
 -- such pattern matches.
-abbrev pub IsFirstMatchFrom : {E : Type 0} → (answer : E → List ℕ → Option Captures) → List (PatternView E) → Texts → (from : ℕ) → Option FirstView → Type 0
+abbrev pub IsFirstMatchFrom : {E : Type 0} → (answer : E → List ℕ → Option Captures)
+    → List (PatternView E) → Texts → (from : ℕ) → Option FirstView → Type 0
 IsFirstMatchFrom {E} answer patterns texts from (Some first) =
     (from ≤ first.0)
-    × ((pattern : PatternView E) × (slice_get patterns first.0 ≡ Some pattern) × IsMatchOf answer pattern texts first.1)
+    × ((pattern : PatternView E) × (slice_get patterns first.0 ≡ Some pattern)
+    × IsMatchOf answer pattern texts first.1)
     × NoneMatchBetween answer patterns texts from first.0
-IsFirstMatchFrom answer patterns texts from None = NoneMatchBetween answer patterns texts from (length patterns)
+IsFirstMatchFrom answer patterns texts from None =
+    NoneMatchBetween answer patterns texts from (length patterns)
 
 -- `IsFirstMatchFrom` for a borrowed match.
-abbrev pub IsFirstCapturedFrom : {E : Type 0} → (answer : E → List ℕ → Option Captures) → List (PatternView E) → Texts → (from : ℕ) → Option (ℕ × UrlPatternCaptures) → Type 0
-IsFirstCapturedFrom answer patterns texts from found = IsFirstMatchFrom answer patterns texts from (first_captures_view found)
+abbrev pub IsFirstCapturedFrom : {E : Type 0} → (answer : E → List ℕ → Option Captures)
+    → List (PatternView E) → Texts → (from : ℕ) → Option (ℕ × UrlPatternCaptures) → Type 0
+IsFirstCapturedFrom answer patterns texts from found =
+    IsFirstMatchFrom answer patterns texts from (first_captures_view found)
 
 -- A pattern at `from` or later calls an engine, and none of those from `from` on before it matches.
-abbrev pub CallsEngineBeforeMatchFrom : {E : Type 0} → (answer : E → List ℕ → Option Captures) → List (PatternView E) → Texts → (from : ℕ) → Type 0
+abbrev pub CallsEngineBeforeMatchFrom : {E : Type 0} → (answer : E → List ℕ → Option Captures)
+    → List (PatternView E) → Texts → (from : ℕ) → Type 0
 CallsEngineBeforeMatchFrom {E} answer patterns texts from =
-    (index : ℕ) × (pattern : PatternView E) × (from ≤ index) × (slice_get patterns index ≡ Some pattern)
+    (index : ℕ) × (pattern : PatternView E)
+    × (from ≤ index)
+    × (slice_get patterns index ≡ Some pattern)
     × CallsAnEngine answer pattern texts
     × NoneMatchBetween answer patterns texts from index
 
@@ -53,14 +65,24 @@ pub record MatchesLeft (E : Type 0) : Type 0 where
 
 -- The view of the iterator.
 abbrev pub matches_left : {E : Type 0} → UrlPatternMatches E → MatchesLeft E
-matches_left matches = record { patterns = patterns_view matches.list.now; texts = borrowed_texts matches.texts; from = matches.from }
+matches_left matches = record {
+  patterns = patterns_view matches.list.now;
+  texts = borrowed_texts matches.texts;
+  from = matches.from;
+}
 
 -- Taking an item: the first of the remaining matches, after which those by later patterns
 -- remain; or an error because memory ran out, after which none remain.
-abbrev pub YieldsMatch : {E : Type 0} → (answer : E → List ℕ → Option Captures) → MatchesLeft E → Option (Result (ℕ × UrlPatternCaptures) Error) → MatchesLeft E → Type 0
+abbrev pub YieldsMatch : {E : Type 0} → (answer : E → List ℕ → Option Captures) → MatchesLeft E
+    → Option (Result (ℕ × UrlPatternCaptures) Error) → MatchesLeft E → Type 0
 YieldsMatch answer old (Some (Ok first)) new =
-    IsFirstMatchFrom answer old.patterns old.texts old.from (Some (first.0, pattern_captures_view first.1))
-    × HasGroupsInOrder answer old.patterns old.texts (Some first) × (new ≡ record old { from = first.0 + 1 })
+    IsFirstMatchFrom answer old.patterns old.texts old.from
+    (Some (first.0, pattern_captures_view first.1))
+    × HasGroupsInOrder answer old.patterns old.texts (Some first)
+    × (new ≡ record old { from = first.0 + 1 })
 YieldsMatch answer old (Some (Err error)) new =
-    (error ≡ errors.OutOfMemory) × CallsEngineBeforeMatchFrom answer old.patterns old.texts old.from × (new ≡ record old { from = length old.patterns })
-YieldsMatch answer old None new = IsFirstMatchFrom answer old.patterns old.texts old.from None × (new ≡ old)
+    (error ≡ errors.OutOfMemory)
+    × CallsEngineBeforeMatchFrom answer old.patterns old.texts old.from
+    × (new ≡ record old { from = length old.patterns })
+YieldsMatch answer old None new =
+    IsFirstMatchFrom answer old.patterns old.texts old.from None × (new ≡ old)

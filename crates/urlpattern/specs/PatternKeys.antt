@@ -13,18 +13,28 @@ use Rattle.urlpattern_pattern.specs.Patterns.{PatternView, pattern_view}
 use Rattle.urlpattern_pattern.specs.UrlPatterns.{UrlPattern}
 
 -- The texts that a pattern matches have these fixed texts.
-pub record AreFixed {E : Type 0} (answer : E → List ℕ → Option Captures) (pattern : PatternView E) (fixed : FixedTexts) : Type 0 where
-  pub protocol : (text : List ℕ) → IsMatched answer (pattern Protocol).matcher text → IsText fixed.protocol text
-  pub hostname : (text : List ℕ) → IsMatched answer (pattern Hostname).matcher text → IsText fixed.hostname text
-  pub pathname : (text : List ℕ) → IsMatched answer (pattern Pathname).matcher text → FitsPath fixed.pathname text
+pub record AreFixed {E : Type 0} (answer : E → List ℕ → Option Captures) (pattern : PatternView E)
+    (fixed : FixedTexts) : Type 0 where
+  pub protocol : (text : List ℕ) → IsMatched answer (pattern Protocol).matcher text
+      → IsText fixed.protocol text
+  pub hostname : (text : List ℕ) → IsMatched answer (pattern Hostname).matcher text
+      → IsText fixed.hostname text
+  pub pathname : (text : List ℕ) → IsMatched answer (pattern Pathname).matcher text
+      → FitsPath fixed.pathname text
 
 -- The texts by which patterns are looked up.
 abbrev pub address_of : Texts → AddressTexts
-address_of texts = record { protocol = texts.protocol; hostname = texts.hostname; pathname = texts.pathname }
+address_of texts = record {
+  protocol = texts.protocol;
+  hostname = texts.hostname;
+  pathname = texts.pathname;
+}
 
 -- The index has one number for each pattern. A pattern whose number is not found for some texts
 -- does not match them.
-pub record AreIndexed {E : Type 0} (answer : E → List ℕ → Option Captures) (patterns : List (UrlPattern E)) (index : Listing) : Type 0 where
+pub record AreIndexed {E : Type 0} (answer : E → List ℕ → Option Captures)
+    (patterns : List (UrlPattern E)) (index : Listing) : Type 0 where
   pub as_many : length index.keys ≡ length patterns
   pub refuses : (number : ℕ) (pattern : UrlPattern E) → slice_get patterns number ≡ Some pattern →
-      (texts : Texts) → ¬ Finds index (hashes_of (address_of texts)) number → DoesNotMatch answer (pattern_view pattern) texts
+      (texts : Texts) → ¬ Finds index (hashes_of (address_of texts)) number
+      → DoesNotMatch answer (pattern_view pattern) texts

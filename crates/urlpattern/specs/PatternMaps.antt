@@ -13,13 +13,16 @@ abbrev pub entry_patterns : {E T : Type 0} → List (UrlPattern E × T) → List
 entry_patterns entries = patterns_view (keys_of entries)
 
 -- The index and the match, without the value.
-abbrev pub without_value : {T : Type 0} → Option (ℕ × Bor T × UrlPatternCaptures) → Option (ℕ × UrlPatternCaptures)
+abbrev pub without_value : {T : Type 0} → Option (ℕ × Bor T × UrlPatternCaptures)
+    → Option (ℕ × UrlPatternCaptures)
 without_value found = option_map (λ first. (first.0, first.2)) found
 
 -- The index and the view of the match, without the value.
-abbrev pub first_entry_view : {T : Type 0} → Option (ℕ × Bor T × UrlPatternCaptures) → Option FirstView
+abbrev pub first_entry_view : {T : Type 0} → Option (ℕ × Bor T × UrlPatternCaptures)
+    → Option FirstView
 first_entry_view found = option_map (λ first. (first.0, pattern_captures_view first.2)) found
 
 -- The value that is found is that of the entry at the index.
 abbrev pub HasValueAt : {K T M : Type 0} → List (K × T) → Option (ℕ × Bor T × M) → Type 0
-HasValueAt entries found = IfSome found (λ first. slice_get (values_of entries) first.0 ≡ Some first.1.now)
+HasValueAt entries found =
+    IfSome found (λ first. slice_get (values_of entries) first.0 ≡ Some first.1.now)

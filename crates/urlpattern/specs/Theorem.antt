@@ -30,38 +30,45 @@ OneTree = (options : OptionsView) (parts : List PartView) →
 abbrev pub MatchersReturnTheMeaning : {E : Type 0} → Engine E → Type 0
 MatchersReturnTheMeaning {E} engine =
     (options : OptionsView) (flags : List ℕ) (parts : List PartView) (matcher : MatcherView E) →
-    IsMadeOf (IsEngineOf engine false flags) options parts matcher → ReturnsByMeaning engine.answer options parts matcher
+    IsMadeOf (IsEngineOf engine false flags) options parts matcher
+    → ReturnsByMeaning engine.answer options parts matcher
 
 -- A matcher made from parts returns the first way of their tree, if an engine that it calls does so
 -- for the tree of its expression.
 abbrev pub MatchersReturnTheFirstWay : {E : Type 0} → Engine E → Type 0
 MatchersReturnTheFirstWay {E} engine =
     (options : OptionsView) (flags : List ℕ) (parts : List PartView) (matcher : MatcherView E) →
-    IsMadeOf (IsEngineOf engine false flags) options parts matcher → ReturnsByFirstWay engine.answer options parts matcher
+    IsMadeOf (IsEngineOf engine false flags) options parts matcher
+    → ReturnsByFirstWay engine.answer options parts matcher
 
 -- A matcher made by `regex::Regex` returns the first way, which is what the parts mean, if `regex`
 -- accepted the expression where one was needed.
 abbrev pub DefaultEngineReturnsTheFirstWay : Type 0
-DefaultEngineReturnsTheFirstWay = EachReturnsFirst regex_engine (λ options flags. AcceptedText (λ regex. ⊤))
+DefaultEngineReturnsTheFirstWay =
+    EachReturnsFirst regex_engine (λ options flags. AcceptedText (λ regex. ⊤))
 
 -- A matcher made by `PatternRegexp` returns the first way, which is what the parts mean, without
 -- any premise on the engine.
 abbrev pub PatternEngineReturnsTheFirstWay : Type 0
-PatternEngineReturnsTheFirstWay = EachReturnsFirst pattern_engine (λ options flags inner. FlagsAgree options flags)
+PatternEngineReturnsTheFirstWay =
+    EachReturnsFirst pattern_engine (λ options flags inner. FlagsAgree options flags)
 
 -- The two engines match custom parts correctly, if their expressions stand alone and capture
 -- nothing: the result is what the parts capture, one capture for each name, or `None` where they do
 -- not match.
 abbrev pub CustomPartsAreMatched : Type 0
 CustomPartsAreMatched =
-    MatchersCapture regex_engine (λ regexp. ⊤) (λ options flags. AcceptedText (λ regex. ⊤)) × MatchersCapture pattern_engine HasNumbers AcceptedAlone × CapturesAreAsNames
+    MatchersCapture regex_engine (λ regexp. ⊤) (λ options flags. AcceptedText (λ regex. ⊤))
+    × MatchersCapture pattern_engine HasNumbers AcceptedAlone
+    × CapturesAreAsNames
 
 -- When several captures are possible, both engines return those of the first way of the parts,
 -- which tries the choices of a custom expression in the order of the grammar that reads it by
 -- itself. Without a custom part this is the first way of their tree.
 abbrev pub CustomPartsAreMatchedByTheFirstWay : Type 0
 CustomPartsAreMatchedByTheFirstWay =
-    MatchersReturnFirstOfParts regex_engine (λ regexp. ⊤) (λ options flags. AcceptedText (λ regex. ⊤))
+    MatchersReturnFirstOfParts regex_engine (λ regexp. ⊤) (λ options flags. AcceptedText (λ regex.
+    ⊤))
     × MatchersReturnFirstOfParts pattern_engine HasNumbers AcceptedAlone × FirstWaysAreOfTrees
 
 -- The printed pattern of parts that were read reads as the same parts, joined.

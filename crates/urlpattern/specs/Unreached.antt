@@ -14,7 +14,8 @@ HaveAllParts patterns parts = map (λ pattern. pattern.parts) patterns ≡ map S
 -- Each pattern has parts, by which `found` lists the patterns that an earlier one is known to
 -- cover.
 abbrev pub AreUnreached : {E : Type 0} → List (UrlPattern E) → List Shadowed → Type 0
-AreUnreached patterns found = (parts : List PatternParts) × HaveAllParts patterns parts × AreUnreachable parts found
+AreUnreached patterns found =
+    (parts : List PatternParts) × HaveAllParts patterns parts × AreUnreachable parts found
 
 -- NoParts: a pattern has no parts. OutOfMemory: memory may always run out.
 abbrev pub LacksParts : {E : Type 0} → List (UrlPattern E) → CompareError → Type 0

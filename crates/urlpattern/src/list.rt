@@ -194,9 +194,11 @@ impl<R: RegExp> UrlPatternList<R> {
         alloc: Global,
         input: UrlPatternMatchInput,
     ) -> Result<Option<(usize, UrlPatternResult)>, Error>
-        ensures first { IfOk result (λ found. IsFirstMatch R.answer (patterns_view self.now) input (first_view found)) }
+        ensures first { IfOk result (λ found.
+            IsFirstMatch R.answer (patterns_view self.now) input (first_view found)) }
         ensures memory { OnlyOutOfMemory result }
-        ensures copied { IfErr result (λ _. IfUrl (CopiesFirstMatch R.answer (patterns_view self.now)) input) }
+        ensures copied { IfErr result (λ _.
+            IfUrl (CopiesFirstMatch R.answer (patterns_view self.now)) input) }
     {
         match input {
             UrlPatternMatchInput::Url(url) => self.first_result(alloc, url_texts(&url)),
@@ -229,10 +231,14 @@ impl<R: RegExp> UrlPatternList<R> {
         alloc: Global,
         url: &'u Url,
     ) -> Result<Option<(usize, UrlPatternCaptures<'p, 'u>)>, Error>
-        ensures first { IfOk result (λ found. IsFirstMatch R.answer (patterns_view self.now) (inputs.Url url.now) (first_captures_view found)) }
-        ensures groups { IfOk result (HasGroupsInOrder R.answer (patterns_view self.now) (texts_of_url url.now)) }
+        ensures first { IfOk result (λ found.
+            IsFirstMatch R.answer (patterns_view self.now) (inputs.Url url.now)
+            (first_captures_view found)) }
+        ensures groups { IfOk result
+            (HasGroupsInOrder R.answer (patterns_view self.now) (texts_of_url url.now)) }
         ensures memory { OnlyOutOfMemory result }
-        ensures asked { IfErr result (λ _. CallsEngineBeforeMatch R.answer (patterns_view self.now) (texts_of_url url.now)) }
+        ensures asked { IfErr result (λ _.
+            CallsEngineBeforeMatch R.answer (patterns_view self.now) (texts_of_url url.now)) }
     {
         // Most texts of the URL are made only once a pattern is tried.
         let mut hashes = AddressHashes::new();
@@ -258,10 +264,14 @@ impl<R: RegExp> UrlPatternList<R> {
     ) -> Result<Option<(usize, UrlPatternCaptures<'p, 'u>)>, Error>
         requires within { index < length self.now }
         requires hashes { hashes_view hashes.now ≡ hashes_of (address_of (texts_of_url url.now)) }
-        ensures first { IfOk result (IsFirstCapturedFrom R.answer (patterns_view self.now) (texts_of_url url.now) index) }
-        ensures groups { IfOk result (HasGroupsInOrder R.answer (patterns_view self.now) (texts_of_url url.now)) }
+        ensures first { IfOk result
+            (IsFirstCapturedFrom R.answer (patterns_view self.now) (texts_of_url url.now) index) }
+        ensures groups { IfOk result
+            (HasGroupsInOrder R.answer (patterns_view self.now) (texts_of_url url.now)) }
         ensures memory { OnlyOutOfMemory result }
-        ensures asked { IfErr result (λ _. CallsEngineBeforeMatchFrom R.answer (patterns_view self.now) (texts_of_url url.now) index) }
+        ensures asked { IfErr result (λ _.
+            CallsEngineBeforeMatchFrom R.answer (patterns_view self.now) (texts_of_url url.now)
+            index) }
     {
         Ok(self.first_listed(alloc, &url_texts(url), hashes, index)?)
     }
@@ -275,10 +285,13 @@ impl<R: RegExp> UrlPatternList<R> {
         alloc: Global,
         input: &'u MatchInput,
     ) -> Result<Option<(usize, UrlPatternCaptures<'p, 'u>)>, Error>
-        ensures first { IfOk result (IsFirstCaptured R.answer (patterns_view self.now) (texts_view input.now)) }
-        ensures groups { IfOk result (HasGroupsInOrder R.answer (patterns_view self.now) (texts_view input.now)) }
+        ensures first { IfOk result
+            (IsFirstCaptured R.answer (patterns_view self.now) (texts_view input.now)) }
+        ensures groups { IfOk result
+            (HasGroupsInOrder R.answer (patterns_view self.now) (texts_view input.now)) }
         ensures memory { OnlyOutOfMemory result }
-        ensures asked { IfErr result (λ _. CallsEngineBeforeMatch R.answer (patterns_view self.now) (texts_view input.now)) }
+        ensures asked { IfErr result (λ _.
+            CallsEngineBeforeMatch R.answer (patterns_view self.now) (texts_view input.now)) }
     {
         Ok(self.first(alloc, input_texts(input))?)
     }
@@ -288,7 +301,8 @@ impl<R: RegExp> UrlPatternList<R> {
     ///
     /// If an engine runs out of memory, the last item is that error.
     pub fn matches<'p, 'u>(&'p self, alloc: Global, url: &'u Url) -> UrlPatternMatches<'p, 'u, R>
-        ensures { matches_left result ≡ record { patterns = patterns_view self.now; texts = texts_of_url url.now; from = 0 } }
+        ensures { matches_left result
+            ≡ record { patterns = patterns_view self.now; texts = texts_of_url url.now; from = 0 } }
     {
         UrlPatternMatches::new(self, alloc, url_texts(url))
     }
@@ -310,7 +324,8 @@ impl<'a, R: RegExp> IntoIterator for &'a UrlPatternList<R> {
 
     type IntoIter = slice::Iter<'a, UrlPattern<R>>;
 
-    ghost into_iter_gives = { λ list patterns. (iter_rest patterns ≡ list.now) × IterYieldsInOrder (UrlPattern R) };
+    ghost into_iter_gives = { λ list patterns.
+        (iter_rest patterns ≡ list.now) × IterYieldsInOrder (UrlPattern R) };
 
     fn into_iter(self) -> slice::Iter<'a, UrlPattern<R>> {
         self.iter()

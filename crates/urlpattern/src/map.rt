@@ -168,11 +168,16 @@ impl<T, R: RegExp> UrlPatternMap<T, R> {
         alloc: Global,
         url: &'u Url,
     ) -> Result<Option<(usize, &'m T, UrlPatternCaptures<'m, 'u>)>, Error>
-        ensures first { IfOk result (λ found. IsFirstMatch R.answer (entry_patterns self.now) (inputs.Url url.now) (first_entry_view found)) }
-        ensures groups { IfOk result (λ found. HasGroupsInOrder R.answer (entry_patterns self.now) (texts_of_url url.now) (without_value found)) }
+        ensures first { IfOk result (λ found.
+            IsFirstMatch R.answer (entry_patterns self.now) (inputs.Url url.now)
+            (first_entry_view found)) }
+        ensures groups { IfOk result (λ found.
+            HasGroupsInOrder R.answer (entry_patterns self.now) (texts_of_url url.now)
+            (without_value found)) }
         ensures value { IfOk result (HasValueAt self.now) }
         ensures memory { OnlyOutOfMemory result }
-        ensures asked { IfErr result (λ _. CallsEngineBeforeMatch R.answer (entry_patterns self.now) (texts_of_url url.now)) }
+        ensures asked { IfErr result (λ _.
+            CallsEngineBeforeMatch R.answer (entry_patterns self.now) (texts_of_url url.now)) }
     {
         match self.patterns.first_captures(alloc, url)? {
             Some((index, captures)) => Ok(Some((index, &self.values[index], captures))),
@@ -213,7 +218,8 @@ impl<T: Drop, R: RegExp> UrlPatternMap<T, R> {
     /// the others are dropped.
     pub fn extend(&mut self, entries: Vec<(UrlPattern<R>, T)>) -> Result<(), Error>
         ensures appended { OnOk result (self.new ≡ self.old ++ entries.items) }
-        ensures some { OnErr result ((taken : ℕ) × (self.new ≡ self.old ++ take taken entries.items)) }
+        ensures some { OnErr result
+            ((taken : ℕ) × (self.new ≡ self.old ++ take taken entries.items)) }
         ensures memory { OnlyOutOfMemory result }
     {
         for (pattern, value) in entries {
@@ -228,7 +234,8 @@ impl<'a, T, R: RegExp> IntoIterator for &'a UrlPatternMap<T, R> {
 
     type IntoIter = UrlPatternMapIter<'a, T, R>;
 
-    ghost into_iter_gives = { λ map entries. (entries ≡ map.now) × ShowsInOrder (deref_pair {K = UrlPattern R} {X = T}) };
+    ghost into_iter_gives = { λ map entries.
+        (entries ≡ map.now) × ShowsInOrder (deref_pair {K = UrlPattern R} {X = T}) };
 
     fn into_iter(self) -> UrlPatternMapIter<'a, T, R> {
         self.iter()

@@ -10,23 +10,30 @@ use Rattle.urlpattern_ffi.specs.declared.spans.Sizes.{Sizes}
 use Rattle.urlpattern_ffi.specs.declared.spans.GroupSpan.{GroupSpan}
 
 -- The captures of the pattern at an index.
-abbrev pub GivesCaptures : Patterns → (index : ℕ) → (url base : List ℕ) → (old new : List ℕ) → (old_spans new_spans : List GroupSpan) → (needed : Sizes)
+abbrev pub GivesCaptures : Patterns → (index : ℕ) → (url base : List ℕ)
+    → (old new : List ℕ) → (old_spans new_spans : List GroupSpan) → (needed : Sizes)
     → ℕ → Type 0
 GivesCaptures patterns index url base old new old_spans new_spans needed number =
-    ReturnsStatus (AreCapturesReported (patterns_in patterns) index url base old new old_spans new_spans needed) number
+    ReturnsStatus (AreCapturesReported (patterns_in patterns) index url base old new old_spans
+    new_spans needed) number
 
 -- The captures of the first pattern that matches.
-abbrev pub GivesFirst : Patterns → (url base : List ℕ) → (old_index new_index : ℕ) → (old new : List ℕ) → (old_spans new_spans : List GroupSpan)
+abbrev pub GivesFirst : Patterns → (url base : List ℕ) → (old_index new_index : ℕ)
+    → (old new : List ℕ) → (old_spans new_spans : List GroupSpan)
     → (needed : Sizes) → ℕ → Type 0
 GivesFirst patterns url base old_index new_index old new old_spans new_spans needed number =
-    ReturnsStatus (AreFirstCaptures (patterns_in patterns) url base old_index new_index old new old_spans new_spans needed) number
+    ReturnsStatus (AreFirstCaptures (patterns_in patterns) url base old_index new_index old new
+    old_spans new_spans needed) number
 
 -- The URL of the pattern at an index, with these groups.
-abbrev pub GivesLink : Patterns → (index : ℕ) → (text : List ℕ) → List GivenBytes → (old new : List ℕ) → (needed : ℕ) → ℕ → Type 0
+abbrev pub GivesLink : Patterns → (index : ℕ) → (text : List ℕ) → List GivenBytes
+    → (old new : List ℕ) → (needed : ℕ) → ℕ → Type 0
 GivesLink patterns index text given old new needed number =
     ReturnsStatus (IsLinkReported (patterns_in patterns) index text given old new needed) number
 
 -- The name of a group of the pattern at an index.
-abbrev pub GivesGroupName : Patterns → (index component group : ℕ) → (old new : List ℕ) → (needed : ℕ) → ℕ → Type 0
+abbrev pub GivesGroupName : Patterns → (index component group : ℕ) → (old new : List ℕ)
+    → (needed : ℕ) → ℕ → Type 0
 GivesGroupName patterns index component group old new needed number =
-    ReturnsStatus (IsGroupNameWritten (patterns_in patterns) index component group old new needed) number
+    ReturnsStatus (IsGroupNameWritten (patterns_in patterns) index component group old new needed)
+    number

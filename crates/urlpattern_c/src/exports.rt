@@ -26,7 +26,8 @@ pub extern "C" fn urlpattern_add(
     base: &[u8],
     ignore_case: bool,
 ) -> u32
-    ensures { ReturnsStatus (IsAdded (patterns_in patterns.old) text.now base.now ignore_case (patterns_in patterns.new)) result }
+    ensures { ReturnsStatus (IsAdded (patterns_in patterns.old) text.now base.now ignore_case
+        (patterns_in patterns.new)) result }
 {
     let mut kept = patterns.take(alloc);
     let status = add(alloc, &mut kept, text, base, ignore_case);
@@ -42,7 +43,9 @@ pub extern "C" fn urlpattern_add_init(
     json: &[u8],
     ignore_case: bool,
 ) -> u32
-    ensures { ReturnsStatus (IsInitAdded (patterns_in patterns.old) json.now ignore_case (patterns_in patterns.new)) result }
+    ensures { ReturnsStatus
+        (IsInitAdded (patterns_in patterns.old) json.now ignore_case (patterns_in patterns.new))
+        result }
 {
     let mut kept = patterns.take(alloc);
     let status = add_init(alloc, &mut kept, json, ignore_case);
@@ -67,7 +70,8 @@ pub extern "C" fn urlpattern_test(
     url: &[u8],
     base: &[u8],
 ) -> u32
-    ensures answer { ReturnsStatus (IsTested (patterns_in patterns.old) index url.now base.now) result }
+    ensures answer { ReturnsStatus (IsTested (patterns_in patterns.old) index url.now base.now)
+        result }
     ensures unchanged { patterns_in patterns.new ≡ patterns_in patterns.old }
 {
     let kept = patterns.take(alloc);
@@ -85,7 +89,8 @@ pub extern "C" fn urlpattern_first(
     base: &[u8],
     index: &mut usize,
 ) -> u32
-    ensures answer { ReturnsStatus (IsFirstReported (patterns_in patterns.old) url.now base.now index.old index.new) result }
+    ensures answer { ReturnsStatus
+        (IsFirstReported (patterns_in patterns.old) url.now base.now index.old index.new) result }
     ensures unchanged { patterns_in patterns.new ≡ patterns_in patterns.old }
 {
     let kept = patterns.take(alloc);
@@ -104,7 +109,9 @@ pub extern "C" fn urlpattern_mismatch(
     base: &[u8],
     component: &mut u32,
 ) -> u32
-    ensures answer { ReturnsStatus (IsMismatchReported (patterns_in patterns.old) index url.now base.now component.new) result }
+    ensures answer { ReturnsStatus
+        (IsMismatchReported (patterns_in patterns.old) index url.now base.now component.new)
+        result }
     ensures unchanged { patterns_in patterns.new ≡ patterns_in patterns.old }
 {
     let kept = patterns.take(alloc);
@@ -124,7 +131,8 @@ pub extern "C" fn urlpattern_exec(
     buffer: &mut [u8],
     needed: &mut usize,
 ) -> u32
-    ensures answer { ReturnsStatus (IsExecReported (patterns_in patterns.old) index url.now base.now buffer.old buffer.new needed.new) result }
+    ensures answer { ReturnsStatus (IsExecReported (patterns_in patterns.old) index url.now base.now
+        buffer.old buffer.new needed.new) result }
     ensures unchanged { patterns_in patterns.new ≡ patterns_in patterns.old }
 {
     let kept = patterns.take(alloc);
@@ -145,7 +153,8 @@ pub extern "C" fn urlpattern_captures(
     spans: &mut [GroupSpan],
     needed: &mut Sizes,
 ) -> u32
-    ensures answer { GivesCaptures patterns.old index url.now base.now buffer.old buffer.new spans.old spans.new needed.new result }
+    ensures answer { GivesCaptures patterns.old index url.now base.now buffer.old buffer.new
+        spans.old spans.new needed.new result }
     ensures unchanged { patterns_in patterns.new ≡ patterns_in patterns.old }
 {
     let kept = patterns.take(alloc);
@@ -167,7 +176,8 @@ pub extern "C" fn urlpattern_first_captures(
     spans: &mut [GroupSpan],
     needed: &mut Sizes,
 ) -> u32
-    ensures answer { GivesFirst patterns.old url.now base.now index.old index.new buffer.old buffer.new spans.old spans.new needed.new result }
+    ensures answer { GivesFirst patterns.old url.now base.now index.old index.new buffer.old
+        buffer.new spans.old spans.new needed.new result }
     ensures unchanged { patterns_in patterns.new ≡ patterns_in patterns.old }
 {
     let kept = patterns.take(alloc);
@@ -187,7 +197,8 @@ pub extern "C" fn urlpattern_link(
     buffer: &mut [u8],
     needed: &mut usize,
 ) -> u32
-    ensures answer { GivesLink patterns.old index text.now given.now buffer.old buffer.new needed.new result }
+    ensures answer { GivesLink patterns.old index text.now given.now buffer.old buffer.new
+        needed.new result }
     ensures unchanged { patterns_in patterns.new ≡ patterns_in patterns.old }
 {
     let kept = patterns.take(alloc);
@@ -207,7 +218,8 @@ pub extern "C" fn urlpattern_group_name(
     buffer: &mut [u8],
     needed: &mut usize,
 ) -> u32
-    ensures answer { GivesGroupName patterns.old index component group buffer.old buffer.new needed.new result }
+    ensures answer { GivesGroupName patterns.old index component group buffer.old buffer.new
+        needed.new result }
     ensures unchanged { patterns_in patterns.new ≡ patterns_in patterns.old }
 {
     let kept = patterns.take(alloc);
@@ -226,7 +238,8 @@ pub extern "C" fn urlpattern_component(
     buffer: &mut [u8],
     needed: &mut usize,
 ) -> u32
-    ensures answer { ReturnsStatus (IsComponentWritten (patterns_in patterns.old) index component buffer.old buffer.new needed.new) result }
+    ensures answer { ReturnsStatus (IsComponentWritten (patterns_in patterns.old) index component
+        buffer.old buffer.new needed.new) result }
     ensures unchanged { patterns_in patterns.new ≡ patterns_in patterns.old }
 {
     let kept = patterns.take(alloc);
@@ -260,7 +273,8 @@ pub extern "C" fn urlpattern_covers_within(
     asked: usize,
     component: &mut u32,
 ) -> u32
-    ensures answer { ReturnsStatus (IsCoveringReported (patterns_in patterns.old) index (patterns_in patterns.old) asked component.new) result }
+    ensures answer { ReturnsStatus (IsCoveringReported (patterns_in patterns.old) index
+        (patterns_in patterns.old) asked component.new) result }
     ensures unchanged { patterns_in patterns.new ≡ patterns_in patterns.old }
 {
     let kept = patterns.take(alloc);
@@ -279,7 +293,8 @@ pub extern "C" fn urlpattern_covers_between(
     asked: usize,
     component: &mut u32,
 ) -> u32
-    ensures answer { ReturnsStatus (IsCoveringReported (patterns_in patterns.old) index (patterns_in others.old) asked component.new) result }
+    ensures answer { ReturnsStatus (IsCoveringReported (patterns_in patterns.old) index
+        (patterns_in others.old) asked component.new) result }
     ensures unchanged { patterns_in patterns.new ≡ patterns_in patterns.old }
     ensures others_unchanged { patterns_in others.new ≡ patterns_in others.old }
 {
@@ -302,7 +317,9 @@ pub extern "C" fn urlpattern_diagnose(
     needed: &mut usize,
     place: &mut Place,
 ) -> u32
-    ensures { ReturnsStatus (IsDiagnosed text.now base.now ignore_case buffer.old buffer.new needed.new place.new) result }
+    ensures { ReturnsStatus
+        (IsDiagnosed text.now base.now ignore_case buffer.old buffer.new needed.new place.new)
+        result }
 {
     diagnose(alloc, text, base, ignore_case, buffer, needed, place).number()
 }
@@ -317,7 +334,8 @@ pub extern "C" fn urlpattern_diagnose_init(
     needed: &mut usize,
     place: &mut Place,
 ) -> u32
-    ensures { ReturnsStatus (IsInitDiagnosed json.now ignore_case buffer.old buffer.new needed.new place.new) result }
+    ensures { ReturnsStatus
+        (IsInitDiagnosed json.now ignore_case buffer.old buffer.new needed.new place.new) result }
 {
     diagnose_init(alloc, json, ignore_case, buffer, needed, place).number()
 }

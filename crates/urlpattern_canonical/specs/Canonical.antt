@@ -51,12 +51,14 @@ protocol_of value = and_then (dummy_of_scheme value) (λ url. Ok url.scheme)
 -- The `hostname` of the URL Standard's API, which has no port.
 abbrev pub hostname_of : List ℕ → Parsed (List ℕ)
 hostname_of value =
-    after dummy_url (λ url. rejected_as InvalidDomainCharacter (quirks.set_host url value false)) (λ url. host_text (host_or_empty url))
+    after dummy_url (λ url. rejected_as InvalidDomainCharacter (quirks.set_host url value false))
+    (λ url. host_text (host_or_empty url))
 
 -- The `port` of the URL Standard's API.
 abbrev pub port_of : (scheme value : List ℕ) → Parsed (List ℕ)
 port_of scheme value =
-    after (dummy_of_scheme scheme) (λ url. rejected_as InvalidPort (quirks.set_port url value)) (λ url. text_between url BeforePort AfterPort)
+    after (dummy_of_scheme scheme) (λ url. rejected_as InvalidPort (quirks.set_port url value))
+    (λ url. text_between url BeforePort AfterPort)
 
 -- The path of a URL after it was set to the value.
 abbrev pub path_of : Parsed Parts → List ℕ → Parsed (List ℕ)
@@ -87,11 +89,14 @@ canonical_protocol text = canonical protocol_of text
 
 -- The canonical user name.
 abbrev pub canonical_username : List ℕ → Parsed (List ℕ)
-canonical_username text = canonical (λ value. after dummy_url (λ url. set_username url value) (λ url. url.username)) text
+canonical_username text =
+    canonical (λ value. after dummy_url (λ url. set_username url value) (λ url. url.username)) text
 
 -- The canonical password.
 abbrev pub canonical_password : List ℕ → Parsed (List ℕ)
-canonical_password text = canonical (λ value. after dummy_url (λ url. set_password url (Some value)) (λ url. url.password)) text
+canonical_password text =
+    canonical
+    (λ value. after dummy_url (λ url. set_password url (Some value)) (λ url. url.password)) text
 
 -- The canonical hostname.
 abbrev pub canonical_hostname : List ℕ → Parsed (List ℕ)
@@ -103,7 +108,9 @@ is_ipv6_character c = is_ascii_hexdigit c || is_among (codes "[]:") c
 
 -- The canonical form of an IPv6 address in brackets: in lower case.
 abbrev pub canonical_ipv6_hostname : List ℕ → Parsed (List ℕ)
-canonical_ipv6_hostname text = if list_all is_ipv6_character text then Ok (map to_ascii_lowercase text) else Err InvalidIpv6Address
+canonical_ipv6_hostname text =
+    if list_all is_ipv6_character text then Ok (map to_ascii_lowercase text)
+    else Err InvalidIpv6Address
 
 -- The scheme under which a port is parsed: `dummy` without a protocol, or with an empty one.
 abbrev pub scheme_for_port : List ℕ → List ℕ
@@ -112,7 +119,8 @@ scheme_for_port (c ∷ protocol) = c ∷ protocol
 
 -- The canonical port under a protocol.
 abbrev pub canonical_port : Option (List ℕ) → List ℕ → Parsed (List ℕ)
-canonical_port protocol text = canonical (port_of (encode_utf8_all (scheme_for_port (unwrap_or protocol [])))) text
+canonical_port protocol text =
+    canonical (port_of (encode_utf8_all (scheme_for_port (unwrap_or protocol [])))) text
 
 -- The canonical path of segments.
 abbrev pub canonical_pathname : List ℕ → Parsed (List ℕ)
@@ -124,11 +132,15 @@ canonical_opaque_pathname text = canonical (path_of opaque_url) text
 
 -- The canonical query, without the question mark.
 abbrev pub canonical_search : List ℕ → Parsed (List ℕ)
-canonical_search text = canonical (λ value. after dummy_url (λ url. Ok (set_query url (Some value))) (λ url. unwrap_or url.query [])) text
+canonical_search text =
+    canonical (λ value. after dummy_url (λ url. Ok (set_query url (Some value))) (λ url.
+    unwrap_or url.query [])) text
 
 -- The canonical fragment, without the number sign.
 abbrev pub canonical_hash : List ℕ → Parsed (List ℕ)
-canonical_hash text = canonical (λ value. after dummy_url (λ url. Ok (set_fragment url (Some value))) (λ url. unwrap_or url.fragment [])) text
+canonical_hash text =
+    canonical (λ value. after dummy_url (λ url. Ok (set_fragment url (Some value))) (λ url.
+    unwrap_or url.fragment [])) text
 
 -- ---- rejections
 
@@ -141,13 +153,16 @@ long_text = 2 ^ 24
 -- if no text is long.
 abbrev pub reported_error : ParseError → (bytes : ℕ) → ErrorView
 reported_error OutOfMemory bytes = ErrorView.OutOfMemory
-reported_error Overflow bytes = if ltb bytes long_text then ErrorView.OutOfMemory else ErrorView.Url Overflow
+reported_error Overflow bytes =
+    if ltb bytes long_text then ErrorView.OutOfMemory else ErrorView.Url Overflow
 reported_error reason bytes = ErrorView.Url reason
 
 -- The result is that of `url`, with its error converted.
-abbrev pub IsReported : {T : Type 0} → (answer : Result T ParseError) → (bytes : ℕ) → Result T Error → Type 0
+abbrev pub IsReported : {T : Type 0} → (answer : Result T ParseError) → (bytes : ℕ) → Result T Error
+    → Type 0
 IsReported answer bytes result =
-    MatchResult answer (λ value. result ≡ Ok value) (λ reason. IsErrAnd result (λ error. error_view error ≡ reported_error reason bytes))
+    MatchResult answer (λ value. result ≡ Ok value) (λ reason. IsErrAnd result (λ error.
+    error_view error ≡ reported_error reason bytes))
 
 -- `url` rejects the value, or its longest text may be too long.
 abbrev pub IsRejectedByUrl : {T : Type 0} → Parsed T → (bytes : ℕ) → Type 0
@@ -156,13 +171,15 @@ IsRejectedByUrl asked bytes = ((reason : ParseError) × (asked ≡ Err reason)) 
 -- The error is that of `url` for texts of at most `bytes` bytes. Out of memory is never an error of
 -- a URL.
 abbrev pub Reports : {T : Type 0} → Parsed T → (bytes : ℕ) → ErrorView → Type 0
-Reports asked bytes (ErrorView.Url reason) = (reason ≢ OutOfMemory) × ((asked ≡ Err reason) ⊎ ((reason ≡ Overflow) × (long_text ≤ bytes)))
+Reports asked bytes (ErrorView.Url reason) =
+    (reason ≢ OutOfMemory) × ((asked ≡ Err reason) ⊎ ((reason ≡ Overflow) × (long_text ≤ bytes)))
 Reports asked bytes error = ⊥
 
 -- The call returns the text of `url`, the error of `url` for texts of at most `bytes` bytes, or out
 -- of memory.
 abbrev pub IsResult : Parsed (List ℕ) → (bytes : ℕ) → Result (String Global) Error → Type 0
-IsResult asked bytes result = MatchResult result (λ text. asked ≡ Ok (text_of text)) (MemoryOr (Reports asked bytes))
+IsResult asked bytes result =
+    MatchResult result (λ text. asked ≡ Ok (text_of text)) (MemoryOr (Reports asked bytes))
 
 -- The length of a port or of its protocol, whichever is longer, in bytes.
 abbrev pub port_bytes : (port : List ℕ) → (protocol : Option (Bor (List ℕ))) → ℕ
@@ -234,7 +251,8 @@ scheme_among (scheme ∷ schemes) text = bytes_eq text scheme.0 || scheme_among 
 -- The default port of the text among the schemes.
 abbrev pub port_among : List (List ℕ × Option (List ℕ)) → List ℕ → Option (List ℕ)
 port_among [] text = None
-port_among (scheme ∷ schemes) text = if bytes_eq text scheme.0 then scheme.1 else port_among schemes text
+port_among (scheme ∷ schemes) text =
+    if bytes_eq text scheme.0 then scheme.1 else port_among schemes text
 
 -- Whether the text is a special scheme.
 abbrev pub is_special : List ℕ → Bool
@@ -253,22 +271,30 @@ is_hierarchical_under (Some (c ∷ protocol)) = is_special (c ∷ protocol)
 -- Whether a path is hierarchical: by its protocol, or by an initial slash. Any other path is
 -- opaque.
 abbrev pub is_hierarchical : (protocol : Option (List ℕ)) → (pathname : List ℕ) → Bool
-is_hierarchical protocol pathname = is_hierarchical_under protocol || begins_with (λ c. c == slash) pathname
+is_hierarchical protocol pathname =
+    is_hierarchical_under protocol || begins_with (λ c. c == slash) pathname
 
 -- The pathname of an init, under a protocol.
-abbrev pub processed_pathname : ProcessType → (protocol : Option (List ℕ)) → List ℕ → Parsed (List ℕ)
+abbrev pub processed_pathname : ProcessType → (protocol : Option (List ℕ)) → List ℕ
+    → Parsed (List ℕ)
 processed_pathname mode protocol text =
-    processed mode (λ path. if is_hierarchical protocol path then canonical_pathname path else canonical_opaque_pathname path) text
+    processed mode (λ path.
+    if is_hierarchical protocol path then canonical_pathname path
+    else canonical_opaque_pathname path) text
 
 -- The call returns the port of an init under a protocol, the error of `url`, or out of memory.
-abbrev pub IsPortResult : ProcessType → (port : List ℕ) → (protocol : Option (Bor (List ℕ))) → Result (String Global) Error → Type 0
+abbrev pub IsPortResult : ProcessType → (port : List ℕ) → (protocol : Option (Bor (List ℕ)))
+    → Result (String Global) Error → Type 0
 IsPortResult mode port protocol result =
-    IsResult (processed_port mode (option_text protocol) (chars port)) (bytes_passed mode (port_bytes port protocol)) result
+    IsResult (processed_port mode (option_text protocol) (chars port))
+    (bytes_passed mode (port_bytes port protocol)) result
 
 -- The call returns the pathname of an init under a protocol, the error of `url`, or out of memory.
-abbrev pub IsPathnameResult : ProcessType → (pathname : List ℕ) → (protocol : Option (Bor (List ℕ))) → Result (String Global) Error → Type 0
+abbrev pub IsPathnameResult : ProcessType → (pathname : List ℕ) → (protocol : Option (Bor (List ℕ)))
+    → Result (String Global) Error → Type 0
 IsPathnameResult mode pathname protocol result =
-    IsResult (processed_pathname mode (option_text protocol) (chars pathname)) (bytes_passed mode (length pathname)) result
+    IsResult (processed_pathname mode (option_text protocol) (chars pathname))
+    (bytes_passed mode (length pathname)) result
 
 -- The search of an init, without an initial question mark.
 abbrev pub processed_search : ProcessType → List ℕ → Parsed (List ℕ)

@@ -13,6 +13,8 @@ reported_as reason other bytes = ErrorView.Url reason
 
 -- The result is that of `url`, with `reason` for each error other than an overflow and out of
 -- memory.
-abbrev pub IsRejectedAs : {T : Type 0} → (reason : ParseError) → (answer : Result T ParseError) → (bytes : ℕ) → Result T Error → Type 0
+abbrev pub IsRejectedAs : {T : Type 0} → (reason : ParseError)
+    → (answer : Result T ParseError) → (bytes : ℕ) → Result T Error → Type 0
 IsRejectedAs reason answer bytes result =
-    MatchResult answer (λ value. result ≡ Ok value) (λ other. IsErrAnd result (λ error. error_view error ≡ reported_as reason other bytes))
+    MatchResult answer (λ value. result ≡ Ok value) (λ other. IsErrAnd result (λ error.
+    error_view error ≡ reported_as reason other bytes))

@@ -25,7 +25,8 @@ impl BaseUrl {
     /// Fails with `Error::Url` if `url` rejects the text.
     pub fn parse(alloc: Global, text: Option<&str>) -> Result<Self, Error>
         ensures read { IfOk result (λ base. kept_base base ≡ base_view (option_copied text.entry)) }
-        ensures refused { IfErr result (MemoryOr (Reports (parsed_base (option_copied text.entry)) (text_bytes (option_copied text.entry)))) }
+        ensures refused { IfErr result (MemoryOr (Reports (parsed_base (option_copied text.entry))
+            (text_bytes (option_copied text.entry)))) }
     {
         let bytes = match text {
             Some(text) => text.len(),
@@ -52,7 +53,8 @@ impl BaseUrl {
     /// Fails with `Error::Url` if `url` rejects the text.
     fn read(&self, alloc: Global, text: &str, bytes: usize) -> Result<Url, Error>
         ensures ok { IfOk result (IsUrlUnder text.now (kept_base self.now)) }
-        ensures err { IfErr result (MemoryOr (Reports (read_under (kept_base self.now) text.now) bytes)) }
+        ensures err { IfErr result
+            (MemoryOr (Reports (read_under (kept_base self.now) text.now) bytes)) }
     {
         reported(self.joined_url(alloc, text), bytes)
     }
@@ -86,7 +88,8 @@ pub fn find_url(alloc: Global, text: &str, base: Option<&str>) -> Result<Option<
 /// Fails with `Error::Url` if `url` rejects the text.
 pub fn parse_base(alloc: Global, text: Option<&str>) -> Result<Option<Url>, Error>
     ensures ok { IfOk result (λ base. parsed_base (option_copied text.entry) ≡ Ok base) }
-    ensures err { IfErr result (MemoryOr (Reports (parsed_base (option_copied text.entry)) (text_bytes (option_copied text.entry)))) }
+    ensures err { IfErr result (MemoryOr (Reports (parsed_base (option_copied text.entry))
+        (text_bytes (option_copied text.entry)))) }
 {
     match text {
         Some(text) => Ok(Some(parse_url(alloc, text)?)),

@@ -102,7 +102,8 @@ pub fn canonicalize_port(
     value: &str,
     protocol: Option<&str>,
 ) -> Result<String, Error>
-    ensures { IsResult (canonical_port (option_text protocol.entry) (chars value.now)) (port_bytes value.now protocol.entry) result }
+    ensures { IsResult (canonical_port (option_text protocol.entry) (chars value.now))
+        (port_bytes value.now protocol.entry) result }
 {
     Canonicalizer::new(alloc).port(value, protocol)
 }
@@ -161,7 +162,8 @@ pub fn process_protocol_init(
     value: &str,
     kind: &ProcessType,
 ) -> Result<String, Error>
-    ensures { IsResult (processed_protocol kind.now (chars value.now)) (bytes_passed kind.now (length value.now)) result }
+    ensures { IsResult (processed_protocol kind.now (chars value.now))
+        (bytes_passed kind.now (length value.now)) result }
 {
     Canonicalizer::new(alloc).process_protocol(value, kind)
 }
@@ -176,7 +178,8 @@ pub fn process_username_init(
     value: &str,
     kind: &ProcessType,
 ) -> Result<String, Error>
-    ensures { IsResult (processed_username kind.now (chars value.now)) (bytes_passed kind.now (length value.now)) result }
+    ensures { IsResult (processed_username kind.now (chars value.now))
+        (bytes_passed kind.now (length value.now)) result }
 {
     Canonicalizer::new(alloc).process_username(value, kind)
 }
@@ -191,7 +194,8 @@ pub fn process_password_init(
     value: &str,
     kind: &ProcessType,
 ) -> Result<String, Error>
-    ensures { IsResult (processed_password kind.now (chars value.now)) (bytes_passed kind.now (length value.now)) result }
+    ensures { IsResult (processed_password kind.now (chars value.now))
+        (bytes_passed kind.now (length value.now)) result }
 {
     Canonicalizer::new(alloc).process_password(value, kind)
 }
@@ -206,7 +210,8 @@ pub fn process_hostname_init(
     value: &str,
     kind: &ProcessType,
 ) -> Result<String, Error>
-    ensures { IsResult (processed_hostname kind.now (chars value.now)) (bytes_passed kind.now (length value.now)) result }
+    ensures { IsResult (processed_hostname kind.now (chars value.now))
+        (bytes_passed kind.now (length value.now)) result }
 {
     Canonicalizer::new(alloc).process_hostname(value, kind)
 }
@@ -249,7 +254,8 @@ pub fn process_pathname_init(
 ///
 /// <https://urlpattern.spec.whatwg.org/#process-search-for-init>
 pub fn process_search_init(alloc: Global, value: &str, kind: &ProcessType) -> Result<String, Error>
-    ensures { IsResult (processed_search kind.now (chars value.now)) (bytes_passed kind.now (length value.now)) result }
+    ensures { IsResult (processed_search kind.now (chars value.now))
+        (bytes_passed kind.now (length value.now)) result }
 {
     Canonicalizer::new(alloc).process_search(value, kind)
 }
@@ -260,7 +266,8 @@ pub fn process_search_init(alloc: Global, value: &str, kind: &ProcessType) -> Re
 ///
 /// <https://urlpattern.spec.whatwg.org/#process-hash-for-init>
 pub fn process_hash_init(alloc: Global, value: &str, kind: &ProcessType) -> Result<String, Error>
-    ensures { IsResult (processed_hash kind.now (chars value.now)) (bytes_passed kind.now (length value.now)) result }
+    ensures { IsResult (processed_hash kind.now (chars value.now))
+        (bytes_passed kind.now (length value.now)) result }
 {
     Canonicalizer::new(alloc).process_hash(value, kind)
 }

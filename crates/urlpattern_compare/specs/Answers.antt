@@ -26,69 +26,99 @@ use Rattle.urlpattern_syntax.specs.Text.{lacks, line_feed}
 -- A search of the automata of two lists of parts reaches too many pairs.
 abbrev pub IsSearchLong : OptionsView → List PartView → OptionsView → List PartView → Type 0
 IsSearchLong options parts other_options others =
-    (one other : PartsAutomaton) × (made_view one ≡ made options parts) × (made_view other ≡ made other_options others) × HasManyPairs one other
+    (one other : PartsAutomaton) × (made_view one ≡ made options parts)
+    × (made_view other ≡ made other_options others)
+    × HasManyPairs one other
 
 -- The work is too much: one of the lists needs too many states, or a search is too long.
 abbrev pub IsTooMuch : OptionsView → List PartView → OptionsView → List PartView → Type 0
 IsTooMuch options parts other_options others =
     (HasManyStates options parts ⊎ HasManyStates other_options others)
-    ⊎ (IsSearchLong options parts other_options others ⊎ IsSearchLong other_options others options parts)
+    ⊎ (IsSearchLong options parts other_options others
+    ⊎ IsSearchLong other_options others options parts)
 
 -- Why a comparison has no result.
 abbrev pub IsReason : OptionsView → List PartView → OptionsView → List PartView → Reason → Type 0
-IsReason options parts other_options others reasons.CustomExpression = ¬ (AreGenerated parts × AreGenerated others)
-IsReason options parts other_options others reasons.IgnoredCase = (options.ignore_case ≡ true) ⊎ (other_options.ignore_case ≡ true)
-IsReason options parts other_options others reasons.TooMany = IsTooMuch options parts other_options others
+IsReason options parts other_options others reasons.CustomExpression =
+    ¬ (AreGenerated parts × AreGenerated others)
+IsReason options parts other_options others reasons.IgnoredCase =
+    (options.ignore_case ≡ true) ⊎ (other_options.ignore_case ≡ true)
+IsReason options parts other_options others reasons.TooMany =
+    IsTooMuch options parts other_options others
 
 -- The result of a comparison is right. Covered: the parts mean each text without line feed that the
 -- asked parts mean. NotCovered: only the asked parts mean this text. Unknown: the reason holds.
-abbrev pub IsCovering : OptionsView → List PartView → (asked_options : OptionsView) → (asked : List PartView) → Covering → Type 0
+abbrev pub IsCovering : OptionsView → List PartView
+    → (asked_options : OptionsView) → (asked : List PartView) → Covering → Type 0
 IsCovering options parts asked_options asked coverings.Covered =
-    (text : List ℕ) → IsTrue (all_scalars text) → IsTrue (lacks line_feed text) → MeansText asked_options asked text → MeansText options parts text
+    (text : List ℕ) → IsTrue (all_scalars text) → IsTrue (lacks line_feed text)
+    → MeansText asked_options asked text → MeansText options parts text
 IsCovering options parts asked_options asked (coverings.NotCovered text) =
-    MeansText asked_options asked text.items × (¬ MeansText options parts text.items) × IsTrue (lacks line_feed text.items)
-IsCovering options parts asked_options asked (coverings.Unknown reason) = IsReason asked_options asked options parts reason
+    MeansText asked_options asked text.items
+    × (¬ MeansText options parts text.items)
+    × IsTrue (lacks line_feed text.items)
+IsCovering options parts asked_options asked (coverings.Unknown reason) =
+    IsReason asked_options asked options parts reason
 
 -- The result of a comparison is right. Apart: no text without line feed is meant by both lists of
 -- parts. Common: both mean this text. Unknown: the reason holds.
 abbrev pub IsOverlap : OptionsView → List PartView → OptionsView → List PartView → Overlap → Type 0
 IsOverlap options parts other_options others overlaps.Apart =
-    (text : List ℕ) → IsTrue (all_scalars text) → IsTrue (lacks line_feed text) → MeansText options parts text → ¬ MeansText other_options others text
+    (text : List ℕ) → IsTrue (all_scalars text) → IsTrue (lacks line_feed text)
+    → MeansText options parts text → ¬ MeansText other_options others text
 IsOverlap options parts other_options others (overlaps.Common text) =
-    MeansText options parts text.items × MeansText other_options others text.items × IsTrue (lacks line_feed text.items)
-IsOverlap options parts other_options others (overlaps.Unknown reason) = IsReason options parts other_options others reason
+    MeansText options parts text.items
+    × MeansText other_options others text.items
+    × IsTrue (lacks line_feed text.items)
+IsOverlap options parts other_options others (overlaps.Unknown reason) =
+    IsReason options parts other_options others reason
 
 -- `IsCovering`, of options and parts as arguments of a call.
-abbrev pub IsCoveringOf : Options → List Part → (asked_options : Options) → (asked : List Part) → Covering → Type 0
+abbrev pub IsCoveringOf : Options → List Part → (asked_options : Options) → (asked : List Part)
+    → Covering → Type 0
 IsCoveringOf options parts asked_options asked =
-    IsCovering (options_view options) (parts_view parts) (options_view asked_options) (parts_view asked)
+    IsCovering (options_view options) (parts_view parts) (options_view asked_options)
+    (parts_view asked)
 
 -- `IsOverlap`, of options and parts as arguments of a call.
 abbrev pub IsOverlapOf : Options → List Part → Options → List Part → Overlap → Type 0
-IsOverlapOf options parts other_options others = IsOverlap (options_view options) (parts_view parts) (options_view other_options) (parts_view others)
+IsOverlapOf options parts other_options others =
+    IsOverlap (options_view options) (parts_view parts) (options_view other_options)
+    (parts_view others)
 
 -- ---- steps
 
 -- The automaton that was made, unless memory ran out or it would have too many states.
-abbrev pub IfMade : {E : Type 0} → Result (Option PartsAutomaton) E → (PartsAutomaton → Type 0) → Type 0
+abbrev pub IfMade : {E : Type 0} → Result (Option PartsAutomaton) E → (PartsAutomaton → Type 0)
+    → Type 0
 IfMade result Is = IfOk result (λ found. IfSome found Is)
 
 -- The automaton accepts the texts that the parts mean.
 abbrev pub AcceptsMeaning : OptionsView → List PartView → PartsAutomaton → Type 0
-AcceptsMeaning options parts automaton = (text : List ℕ) → AcceptsText automaton text ↔ MeansText options parts text
+AcceptsMeaning options parts automaton =
+    (text : List ℕ) → AcceptsText automaton text ↔ MeansText options parts text
 
 -- The result of looking for a text without line feed that the parts mean, and that the others mean
 -- or not, by `is_meant`.
-abbrev pub IsSought : OptionsView → List PartView → OptionsView → List PartView → (is_meant : Bool) → Answer → Type 0
+abbrev pub IsSought : OptionsView → List PartView → OptionsView → List PartView
+    → (is_meant : Bool) → Answer → Type 0
 IsSought options parts other_options others is_meant (answers.Text text) =
-    MeansText options parts text.items × IsWhether is_meant (MeansText other_options others text.items) × IsTrue (lacks line_feed text.items)
+    MeansText options parts text.items
+    × IsWhether is_meant (MeansText other_options others text.items)
+    × IsTrue (lacks line_feed text.items)
 IsSought options parts other_options others is_meant answers.Nothing =
-    (text : List ℕ) → IsTrue (all_scalars text) → IsTrue (lacks line_feed text) → MeansText options parts text → IsWhether (not is_meant) (MeansText other_options others text)
-IsSought options parts other_options others is_meant (answers.Unknown reason) = IsReason options parts other_options others reason
+    (text : List ℕ) → IsTrue (all_scalars text) → IsTrue (lacks line_feed text)
+    → MeansText options parts text
+    → IsWhether (not is_meant) (MeansText other_options others text)
+IsSought options parts other_options others is_meant (answers.Unknown reason) =
+    IsReason options parts other_options others reason
 
 -- `IsSought`, of options and parts as arguments of a call.
-abbrev pub IsSoughtOf : Options → List Part → Options → List Part → (is_meant : Bool) → Answer → Type 0
-IsSoughtOf options parts other_options others = IsSought (options_view options) (parts_view parts) (options_view other_options) (parts_view others)
+abbrev pub IsSoughtOf : Options → List Part → Options → List Part → (is_meant : Bool) → Answer
+    → Type 0
+IsSoughtOf options parts other_options others =
+    IsSought (options_view options) (parts_view parts) (options_view other_options)
+    (parts_view others)
 
 -- The result by what a search found.
 abbrev pub answer_of : Found → Answer

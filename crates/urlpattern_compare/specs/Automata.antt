@@ -19,7 +19,10 @@ named (AnyBut c) = c
 abbrev pub Leads : List Edge → (state : ℕ) → (text : List ℕ) → Type 0
 Leads edges state [] = state ≡ 0
 Leads edges state (c ∷ text) =
-    (edge : Edge) × Contains edges edge × (edge.from ≡ state) × IsTrue (passes edge.test c) × Leads edges edge.to text
+    (edge : Edge) × Contains edges edge
+    × (edge.from ≡ state)
+    × IsTrue (passes edge.test c)
+    × Leads edges edge.to text
 
 -- The edges lead from one of the states to state 0 by the text.
 abbrev pub LeadsFrom : List Edge → (states : List ℕ) → (text : List ℕ) → Type 0

@@ -23,7 +23,8 @@ wildcard_cells options kind = []
 -- The cells of one copy of a part of this kind.
 abbrev pub cells_of : OptionsView → PartType → PartView → List Cell
 cells_of options PartType.FixedText part = text_cells part.value
-cells_of options kind part = text_cells part.prefix ++ wildcard_cells options kind ++ text_cells part.suffix
+cells_of options kind part =
+    text_cells part.prefix ++ wildcard_cells options kind ++ text_cells part.suffix
 
 -- The cell reads exactly one character.
 abbrev pub is_one : Cell → Bool

@@ -17,7 +17,11 @@ pub record Made : Type 0 where
   pub count : ℕ
 
 abbrev pub made_view : PartsAutomaton → Made
-made_view automaton = record { edges = automaton.edges.items; starts = automaton.starts.items; count = automaton.states }
+made_view automaton = record {
+  edges = automaton.edges.items;
+  starts = automaton.starts.items;
+  count = automaton.states;
+}
 
 -- Edges from a state to others.
 abbrev pub edges_to : (from : ℕ) → Test → (others : List ℕ) → List Edge
@@ -61,21 +65,30 @@ may_miss modifier = false
 
 -- A copy that may repeat is followed by what was made, or by the copy again.
 abbrev pub with_again : Made → Bool → List Cell → Made
-with_again made again cells = record made { starts = made.starts ++ (if again && has_one cells then heads [] made.count cells else []) }
+with_again made again cells = record made {
+  starts =
+      made.starts ++ (if again && has_one cells then heads [] made.count cells else []);
+}
 
 -- If the copy may be left out, the start states of what was made are kept.
 abbrev pub with_missing : (made inner : Made) → Bool → Made
-with_missing made inner missing = record inner { starts = inner.starts ++ (if missing then made.starts else []) }
+with_missing made inner missing = record inner {
+  starts =
+      inner.starts ++ (if missing then made.starts else []);
+}
 
 -- Copies of the cells are prepended, as many as the modifier permits. A copy that may be empty need
 -- not be left out.
 abbrev pub with_copies : Made → PartModifier → List Cell → Made
-with_copies made modifier cells = with_missing made (with_cells (with_again made (repeats modifier) cells) cells) (may_miss modifier && has_one cells)
+with_copies made modifier cells =
+    with_missing made (with_cells (with_again made (repeats modifier) cells) cells)
+    (may_miss modifier && has_one cells)
 
 -- The automaton of parts.
 abbrev pub made : OptionsView → List PartView → Made
 made options [] = record { edges = []; starts = 0 ∷ []; count = 1 }
-made options (part ∷ parts) = with_copies (made options parts) part.modifier (reverse (cells_of options part.kind part))
+made options (part ∷ parts) =
+    with_copies (made options parts) part.modifier (reverse (cells_of options part.kind part))
 
 -- The automaton of the parts has too many states: one for each cell, and one more.
 abbrev pub HasManyStates : OptionsView → List PartView → Type 0

@@ -16,7 +16,13 @@ pub record RankView : Type 0 where
   pub suffix : List ℕ
 
 abbrev pub rank_view : Rank → RankView
-rank_view rank = record { kind = rank.kind; modifier = rank.modifier; prefix = rank.prefix.now; value = rank.value.now; suffix = rank.suffix.now }
+rank_view rank = record {
+  kind = rank.kind;
+  modifier = rank.modifier;
+  prefix = rank.prefix.now;
+  value = rank.value.now;
+  suffix = rank.suffix.now;
+}
 
 -- Kinds, from the greatest to the least: fixed text, custom expression, segment wildcard, full
 -- wildcard.
@@ -45,7 +51,13 @@ rank_of part = record {
 
 -- The rank of a missing part, which counts as an empty fixed text.
 abbrev pub no_rank : RankView
-no_rank = record { kind = kind_rank PartType.FixedText; modifier = modifier_rank PartModifier.None; prefix = []; value = []; suffix = [] }
+no_rank = record {
+  kind = kind_rank PartType.FixedText;
+  modifier = modifier_rank PartModifier.None;
+  prefix = [];
+  value = [];
+  suffix = [];
+}
 
 -- Ranks are compared field by field, and the first difference decides.
 abbrev pub rank_cmp : RankView → RankView → Ordering
@@ -80,7 +92,8 @@ cmp_none (rank ∷ ranks) = ordering_then (rank_cmp rank no_rank) (cmp_none rank
 abbrev pub ranks_cmp : List RankView → List RankView → Ordering
 ranks_cmp [] others = none_cmp others
 ranks_cmp (rank ∷ ranks) [] = cmp_none (rank ∷ ranks)
-ranks_cmp (rank ∷ ranks) (other ∷ others) = ordering_then (rank_cmp rank other) (ranks_cmp ranks others)
+ranks_cmp (rank ∷ ranks) (other ∷ others) =
+    ordering_then (rank_cmp rank other) (ranks_cmp ranks others)
 
 -- Parts are compared by their ranks.
 abbrev pub parts_cmp : List Part → List Part → Ordering

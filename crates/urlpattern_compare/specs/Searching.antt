@@ -29,7 +29,9 @@ with_states flags (state ∷ states) = with_states (slice_set flags state true) 
 abbrev pub with_moves : (flags : List Bool) → (from : List Bool) → (c : ℕ) → List Edge → List Bool
 with_moves flags from c [] = flags
 with_moves flags from c (edge ∷ edges) =
-    with_moves (if is_in from edge.from && passes edge.test c then slice_set flags edge.to true else flags) from c edges
+    with_moves
+    (if is_in from edge.from && passes edge.test c then slice_set flags edge.to true else flags)
+    from c edges
 
 -- The set of states after the character.
 abbrev pub moved : List Edge → (from : List Bool) → (c : ℕ) → List Bool
@@ -40,7 +42,9 @@ moved edges from c = with_moves (replicate (length from) false) from c edges
 -- The characters that the tests name are added to others.
 abbrev pub with_named : (marks : List ℕ) → List Edge → List ℕ
 with_named marks [] = marks
-with_named marks (edge ∷ edges) = with_named (if is_among marks (named edge.test) then marks else (marks ++ named edge.test ∷ [])) edges
+with_named marks (edge ∷ edges) =
+    with_named (if is_among marks (named edge.test) then marks else (marks ++ named edge.test ∷ []))
+    edges
 
 -- No test of the edges tells the two characters apart.
 abbrev pub IsSameFor : List Edge → (c other : ℕ) → Type 0
@@ -49,7 +53,10 @@ IsSameFor edges c other = All (λ edge. passes edge.test c ≡ passes edge.test 
 -- Each character is like one of the classes, and only a line feed is like a line feed.
 abbrev pub AreClasses : (edges others : List Edge) → (classes : List ℕ) → Type 0
 AreClasses edges others classes = (c : ℕ) → IsScalar c →
-    (same : ℕ) × Contains classes same × IsSameFor edges c same × IsSameFor others c same × (c ≢ line_feed → same ≢ line_feed)
+    (same : ℕ) × Contains classes same
+    × IsSameFor edges c same
+    × IsSameFor others c same
+    × (c ≢ line_feed → same ≢ line_feed)
 
 -- ---- pairs
 
@@ -59,36 +66,47 @@ starts_of automaton = with_states (replicate automaton.states false) automaton.s
 
 -- The pairs of a state and a set of states that a search of two automata reaches: before the first
 -- character, or by a further character from a pair that is reached.
-pub data IsReachable (one other : PartsAutomaton) : (state : ℕ) → (states : List Bool) → Type 0 where
-  come_first : {state : ℕ} → Contains one.starts.items state → IsReachable one other state (starts_of other)
-  come_next : {states : List Bool} (edge : Edge) (c : ℕ) → Contains one.edges.items edge → IsTrue (passes edge.test c) → IsReachable one other edge.from states →
+pub data IsReachable (one other : PartsAutomaton) : (state : ℕ)
+    → (states : List Bool) → Type 0 where
+  come_first : {state : ℕ} → Contains one.starts.items state
+      → IsReachable one other state (starts_of other)
+  come_next : {states : List Bool} (edge : Edge) (c : ℕ) → Contains one.edges.items edge
+      → IsTrue (passes edge.test c) → IsReachable one other edge.from states →
       IsReachable one other edge.to (moved other.edges.items states c)
 
 -- The pair is reached by its text, which has no line feed: the text leads from a start of the first
 -- automaton to the state, and from the starts of the second to exactly the set of states.
 pub record IsReached (one other : PartsAutomaton) (pair : Pair) : Type 0 where
   pub come : IsReachable one other pair.state pair.states.items
-  pub state : (text : List ℕ) → Leads one.edges.items pair.state text → LeadsFrom one.edges.items one.starts.items (pair.text.items ++ text)
-  pub states : (text : List ℕ) → LeadsFrom other.edges.items other.starts.items (pair.text.items ++ text) ↔ LeadsIn other.edges.items pair.states.items text
+  pub state : (text : List ℕ) → Leads one.edges.items pair.state text
+      → LeadsFrom one.edges.items one.starts.items (pair.text.items ++ text)
+  pub states : (text : List ℕ)
+      → LeadsFrom other.edges.items other.starts.items (pair.text.items ++ text)
+      ↔ LeadsIn other.edges.items pair.states.items text
   pub width : length pair.states.items ≡ other.states
   pub line : IsTrue (lacks line_feed pair.text.items)
 
 -- A pair with this state and these states is among the pairs.
 abbrev pub IsSeen : List Pair → (state : ℕ) → (states : List Bool) → Type 0
-IsSeen pairs state states = (pair : Pair) × Contains pairs pair × (pair.state ≡ state) × (pair.states.items ≡ states)
+IsSeen pairs state states =
+    (pair : Pair) × Contains pairs pair × (pair.state ≡ state) × (pair.states.items ≡ states)
 
 -- The edge leads from the pair by the character.
 abbrev pub IsBy : Edge → Pair → (c : ℕ) → Type 0
 IsBy edge pair c = (edge.from ≡ pair.state) × IsTrue (passes edge.test c)
 
 -- Each pair that the pair leads to by the character is seen.
-abbrev pub IsFollowedBy : (one other : PartsAutomaton) → (c : ℕ) → (pairs : List Pair) → Pair → Type 0
-IsFollowedBy one other c pairs pair = (edge : Edge) → Contains one.edges.items edge → IsBy edge pair c →
+abbrev pub IsFollowedBy : (one other : PartsAutomaton) → (c : ℕ) → (pairs : List Pair) → Pair
+    → Type 0
+IsFollowedBy one other c pairs pair =
+    (edge : Edge) → Contains one.edges.items edge → IsBy edge pair c →
     IsSeen pairs edge.to (moved other.edges.items pair.states.items c)
 
 -- Each pair that the pair leads to by one of these characters, other than a line feed, is seen.
-abbrev pub IsFollowed : (one other : PartsAutomaton) → (classes : List ℕ) → (pairs : List Pair) → Pair → Type 0
-IsFollowed one other classes pairs pair = (c : ℕ) → Contains classes c → c ≢ line_feed → IsFollowedBy one other c pairs pair
+abbrev pub IsFollowed : (one other : PartsAutomaton) → (classes : List ℕ)
+    → (pairs : List Pair) → Pair → Type 0
+IsFollowed one other classes pairs pair =
+    (c : ℕ) → Contains classes c → c ≢ line_feed → IsFollowedBy one other c pairs pair
 
 -- The new list begins with the old one.
 abbrev pub IsExtended : (old new : List Pair) → Type 0
@@ -100,11 +118,13 @@ IsGrownBy Is old new = (pair : Pair) → Contains new pair → Contains old pair
 
 -- The pair has this state, these states and this text.
 abbrev pub IsStep : (state : ℕ) → (states : List Bool) → (text : List ℕ) → Pair → Type 0
-IsStep state states text pair = (pair.state ≡ state) × (pair.states.items ≡ states) × (pair.text.items ≡ text)
+IsStep state states text pair =
+    (pair.state ≡ state) × (pair.states.items ≡ states) × (pair.text.items ≡ text)
 
 -- The pair is the one that the edge leads to by the character, with these states.
 abbrev pub IsStepBy : Edge → Pair → (c : ℕ) → (states : List Bool) → Pair → Type 0
-IsStepBy edge pair c states next = IsBy edge pair c × IsStep edge.to states (pair.text.items ++ c ∷ []) next
+IsStepBy edge pair c states next =
+    IsBy edge pair c × IsStep edge.to states (pair.text.items ++ c ∷ []) next
 
 -- ---- the bound
 
@@ -116,7 +136,9 @@ AreUnlike (pair ∷ pairs) = (¬ IsSeen pairs pair.state pair.states.items) × A
 -- The search reaches more pairs than are permitted.
 abbrev pub HasManyPairs : (one other : PartsAutomaton) → Type 0
 HasManyPairs one other =
-    (pairs : List Pair) × All (λ pair. IsReachable one other pair.state pair.states.items) pairs × AreUnlike pairs × (MOST_PAIRS < length pairs)
+    (pairs : List Pair) × All (λ pair. IsReachable one other pair.state pair.states.items) pairs
+    × AreUnlike pairs
+    × (MOST_PAIRS < length pairs)
 
 -- ---- results
 
@@ -125,6 +147,12 @@ HasManyPairs one other =
 -- like that. The search is given up only if it reaches too many pairs.
 abbrev pub IsFoundBy : (one other : PartsAutomaton) → (is_accepted : Bool) → Found → Type 0
 IsFoundBy one other is_accepted (Text text) =
-    AcceptsText one text.items × IsWhether is_accepted (AcceptsText other text.items) × IsTrue (lacks line_feed text.items)
-IsFoundBy one other is_accepted Nothing = (text : List ℕ) → IsTrue (all_scalars text) → IsTrue (lacks line_feed text) → AcceptsText one text → IsWhether (not is_accepted) (AcceptsText other text)
+    AcceptsText one text.items
+    × IsWhether is_accepted (AcceptsText other text.items)
+    × IsTrue (lacks line_feed text.items)
+IsFoundBy one other is_accepted Nothing =
+    (text : List ℕ) → IsTrue (all_scalars text)
+    → IsTrue (lacks line_feed text)
+    → AcceptsText one text
+    → IsWhether (not is_accepted) (AcceptsText other text)
 IsFoundBy one other is_accepted TooMany = HasManyPairs one other

@@ -26,7 +26,9 @@ pub(crate) fn cells_of(
     options: &Options,
     part: &Part,
 ) -> Result<Vec<Cell>, AllocError>
-    ensures { IfOk result (λ cells. cells.items ≡ reverse (cells_of (options_view options.now) part.now.kind (part_view part.now))) }
+    ensures { IfOk result (λ cells.
+        cells.items
+        ≡ reverse (cells_of (options_view options.now) part.now.kind (part_view part.now))) }
 {
     let mut cells = Vec::new(alloc);
     match part.kind {
@@ -53,7 +55,8 @@ fn add_text(alloc: Global, cells: &mut Vec<Cell>, text: &str) -> Result<(), Allo
 
 /// Adds the cells of a wildcard.
 fn add_wildcard(cells: &mut Vec<Cell>, options: &Options, kind: &PartType) -> Result<(), AllocError>
-    ensures { OnOk result (cells.new.items ≡ cells.old.items ++ wildcard_cells (options_view options.now) kind.now) }
+    ensures { OnOk result
+        (cells.new.items ≡ cells.old.items ++ wildcard_cells (options_view options.now) kind.now) }
 {
     match kind {
         PartType::SegmentWildcard => {

@@ -74,7 +74,8 @@ fn other_than(marks: &[char]) -> Option<char>
 /// `end`.
 fn other_within(marks: &[char], first: u32, end: u32) -> Option<char>
     ensures some { IfSome result (λ c. is_among marks.now c ≡ false) }
-    ensures none { IfNone result ((c : ℕ) → IsScalar c → first ≤ c → c < end → is_among marks.now c ≡ true) }
+    ensures none { IfNone result
+        ((c : ℕ) → IsScalar c → first ≤ c → c < end → is_among marks.now c ≡ true) }
 {
     for code in first..end {
         if let Some(c) = char::from_u32(code)

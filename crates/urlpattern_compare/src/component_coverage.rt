@@ -14,7 +14,8 @@ use urlpattern_syntax::parser::{Options, Part, PartModifier, PartType};
 /// Returns a full wildcard alone, which matches each text without line feed.
 fn anything(alloc: Global) -> Result<ComponentParts, AllocError>
     ensures options { IfOk result (λ component. options_view component.options ≡ default_options) }
-    ensures parts { IfOk result (λ component. parts_view component.parts.items ≡ anything_part ∷ []) }
+    ensures parts { IfOk result (λ component.
+        parts_view component.parts.items ≡ anything_part ∷ []) }
 {
     let mut parts = Vec::new(alloc);
     parts.push(Part {

@@ -21,8 +21,10 @@ pub(crate) fn make(
     options: &Options,
     parts: &[Part],
 ) -> Result<Option<PartsAutomaton>, AllocError>
-    ensures made { IfMade result (λ automaton. made_view automaton ≡ made (options_view options.now) (parts_view parts.now)) }
-    ensures many { IfOk result (λ found. IfNone found (HasManyStates (options_view options.now) (parts_view parts.now))) }
+    ensures made { IfMade result (λ automaton.
+        made_view automaton ≡ made (options_view options.now) (parts_view parts.now)) }
+    ensures many { IfOk result (λ found.
+        IfNone found (HasManyStates (options_view options.now) (parts_view parts.now))) }
 {
     let mut automaton = PartsAutomaton {
         edges: Vec::new(alloc),
@@ -53,8 +55,10 @@ impl PartsAutomaton {
         parts: &[Part],
     ) -> Result<Option<Self>, AllocError>
         ensures within { IfMade result IsWithin }
-        ensures many { IfOk result (λ found. IfNone found (HasManyStates (options_view options.now) (parts_view parts.now))) }
-        ensures accepts { AreGenerated (parts_view parts.now) → IfMade result (AcceptsMeaning (options_view options.now) (parts_view parts.now)) }
+        ensures many { IfOk result (λ found.
+            IfNone found (HasManyStates (options_view options.now) (parts_view parts.now))) }
+        ensures accepts { AreGenerated (parts_view parts.now)
+            → IfMade result (AcceptsMeaning (options_view options.now) (parts_view parts.now)) }
     {
         make(alloc, options, parts)
     }
@@ -67,7 +71,8 @@ impl PartsAutomaton {
         cells: &[Cell],
     ) -> Result<(), AllocError>
         requires { self.old.states + length cells.now ≤ usize.MAX }
-        ensures { OnOk result (made_view self.new ≡ with_copies (made_view self.old) modifier cells.now) }
+        ensures { OnOk result
+            (made_view self.new ≡ with_copies (made_view self.old) modifier cells.now) }
     {
         let missing = if may_miss(modifier) && has_one(cells) {
             Vec::from_slice(alloc, &self.starts)?
@@ -82,7 +87,8 @@ impl PartsAutomaton {
     /// Lets the cells that are prepended next repeat.
     fn add_again(&mut self, alloc: Global, again: bool, cells: &[Cell]) -> Result<(), AllocError>
         requires { self.old.states + length cells.now ≤ usize.MAX }
-        ensures { OnOk result (made_view self.new ≡ with_again (made_view self.old) again cells.now) }
+        ensures { OnOk result
+            (made_view self.new ≡ with_again (made_view self.old) again cells.now) }
     {
         if again && has_one(cells) {
             let heads = heads(alloc, self.states, cells)?;
@@ -108,7 +114,8 @@ impl PartsAutomaton {
     /// Prepends a cell of one character.
     fn add_one(&mut self, test: Test) -> Result<(), AllocError>
         requires { self.old.states < usize.MAX }
-        ensures { OnOk result (made_view self.new ≡ with_cell (made_view self.old) (Cell.One test)) }
+        ensures { OnOk result
+            (made_view self.new ≡ with_cell (made_view self.old) (Cell.One test)) }
     {
         self.add_edges(test)?;
         self.starts.clear();
@@ -120,7 +127,8 @@ impl PartsAutomaton {
     /// Prepends a cell of any number of characters.
     fn add_many(&mut self, test: Test) -> Result<(), AllocError>
         requires { self.old.states < usize.MAX }
-        ensures { OnOk result (made_view self.new ≡ with_cell (made_view self.old) (Cell.Many test)) }
+        ensures { OnOk result
+            (made_view self.new ≡ with_cell (made_view self.old) (Cell.Many test)) }
     {
         self.starts.push(self.states)?;
         self.add_edges(test)?;
@@ -130,7 +138,8 @@ impl PartsAutomaton {
 
     /// Adds edges from a new state to the starts.
     fn add_edges(&mut self, test: Test) -> Result<(), AllocError>
-        ensures edges { OnOk result (self.new.edges.items ≡ self.old.edges.items ++ edges_to self.old.states test self.old.starts.items) }
+        ensures edges { OnOk result (self.new.edges.items
+            ≡ self.old.edges.items ++ edges_to self.old.states test self.old.starts.items) }
         ensures starts { OnOk result (self.new.starts.items ≡ self.old.starts.items) }
         ensures states { OnOk result (self.new.states ≡ self.old.states) }
     {

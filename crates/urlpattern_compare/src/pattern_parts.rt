@@ -194,7 +194,9 @@ impl PatternParts {
     /// The more specific pattern need not be covered, nor the covered one more specific: `/a{/b}?`
     /// is greater than `/:x`, and matches the text `/a/b`, which `/:x` does not match.
     pub fn compare_component(component: ComponentName, left: &Self, right: &Self) -> Ordering
-        ensures { result ≡ parts_cmp (at left.now.components component).parts.items (at right.now.components component).parts.items }
+        ensures { result
+            ≡ parts_cmp (at left.now.components component).parts.items
+            (at right.now.components component).parts.items }
     {
         let left = left.components.get(component);
         let right = right.components.get(component);
@@ -222,7 +224,8 @@ impl PatternParts {
         component: ComponentName,
         text: &[char],
     ) -> Result<PatternCovering, AllocError>
-        requires { IsOnlyIn (at self.now.components component) (at asked.now.components component) text.now }
+        requires { IsOnlyIn (at self.now.components component) (at asked.now.components component)
+            text.now }
         ensures { IfOk result (IsPatternCovering self.now asked.now) }
     {
         let text = string_of(alloc, text)?;

@@ -75,7 +75,8 @@ fn first_pairs(
     requires { IsWithin other.now }
     ensures reached { IfOk result (λ pairs. All (IsReached one.now other.now) pairs.items) }
     ensures starts { IfOk result (λ pairs.
-        (state : ℕ) → Contains one.now.starts.items state → IsSeen pairs.items state (starts_of other.now)) }
+        (state : ℕ) → Contains one.now.starts.items state
+        → IsSeen pairs.items state (starts_of other.now)) }
     ensures unlike { IfOk result (λ pairs. AreUnlike pairs.items) }
 {
     let mut pairs = Vec::new(alloc);
@@ -107,7 +108,8 @@ fn follow(
     requires pairs { All (IsReached one.now other.now) pairs.old.items }
     ensures reached { OnOk result (All (IsReached one.now other.now) pairs.new.items) }
     ensures kept { OnOk result (IsExtended pairs.old.items pairs.new.items) }
-    ensures followed { OnOk result (IsFollowed one.now other.now classes.now pairs.new.items pair.now) }
+    ensures followed { OnOk result
+        (IsFollowed one.now other.now classes.now pairs.new.items pair.now) }
     ensures unlike { OnOk result (AreUnlike pairs.old.items → AreUnlike pairs.new.items) }
 {
     for c in classes {
@@ -130,7 +132,8 @@ fn follow_by(
     requires pairs { All (IsReached one.now other.now) pairs.old.items }
     ensures reached { OnOk result (All (IsReached one.now other.now) pairs.new.items) }
     ensures kept { OnOk result (IsExtended pairs.old.items pairs.new.items) }
-    ensures followed { OnOk result (c ≢ line_feed → IsFollowedBy one.now other.now c pairs.new.items pair.now) }
+    ensures followed { OnOk result
+        (c ≢ line_feed → IsFollowedBy one.now other.now c pairs.new.items pair.now) }
     ensures unlike { OnOk result (AreUnlike pairs.old.items → AreUnlike pairs.new.items) }
 {
     if c == '\n' {
@@ -154,7 +157,8 @@ fn follow_edge(
 ) -> Result<(), AllocError>
     ensures kept { OnOk result (IsExtended pairs.old.items pairs.new.items) }
     ensures seen { OnOk result (IsBy edge pair.now c → IsSeen pairs.new.items edge.to states.now) }
-    ensures others { OnOk result (IsGrownBy (IsStepBy edge pair.now c states.now) pairs.old.items pairs.new.items) }
+    ensures others { OnOk result
+        (IsGrownBy (IsStepBy edge pair.now c states.now) pairs.old.items pairs.new.items) }
     ensures unlike { OnOk result (AreUnlike pairs.old.items → AreUnlike pairs.new.items) }
 {
     if edge.from != pair.state || !edge.test.passes(c) {

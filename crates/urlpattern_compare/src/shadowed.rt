@@ -60,7 +60,8 @@ fn is_known_to_cover(
 /// In a list whose first match counts, the listed patterns are never found. A pattern that several
 /// others cover only together is not listed.
 pub fn unreachable(alloc: Global, patterns: &[&PatternParts]) -> Result<Vec<Shadowed>, AllocError>
-    ensures { IfOk result (λ found. AreUnreachable (map (λ pattern. pattern.now) patterns.now) found.items) }
+    ensures { IfOk result (λ found.
+        AreUnreachable (map (λ pattern. pattern.now) patterns.now) found.items) }
 {
     let mut found = Vec::new(alloc);
     for index in 0..patterns.len() {

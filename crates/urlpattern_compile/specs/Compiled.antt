@@ -36,11 +36,14 @@ has_default_port (Some protocol) port = is_special protocol && is_same port (def
 
 -- The values, with a default port emptied.
 abbrev pub without_default_port : Values → Values
-without_default_port values = if has_default_port values.protocol values.port then record values { port = Some [] } else values
+without_default_port values =
+    if has_default_port values.protocol values.port then record values { port = Some [] }
+    else values
 
 -- The processed values of an init as a pattern.
 abbrev pub pattern_values : UrlPatternInit → Parsed Values
-pattern_values init = and_then (init_values Pattern init) (λ values. Ok (without_default_port values))
+pattern_values init =
+    and_then (init_values Pattern init) (λ values. Ok (without_default_port values))
 
 -- ---- how a component's pattern is parsed
 
@@ -60,7 +63,10 @@ in_syntax asked options = record options { syntax = asked.regex_syntax }
 
 -- The options, in the requested syntax, and ignoring case if requested.
 abbrev pub with_case : UrlPatternOptions → OptionsView → OptionsView
-with_case asked options = record options { syntax = asked.regex_syntax; ignore_case = asked.ignore_case }
+with_case asked options = record options {
+  syntax = asked.regex_syntax;
+  ignore_case = asked.ignore_case;
+}
 
 -- Whether a character is `mark`, a text of one character.
 abbrev pub is_mark : List ℕ → ℕ → Bool
@@ -76,29 +82,35 @@ is_ipv6_pattern text =
 
 -- The canonical value of a fixed text in a hostname pattern.
 abbrev pub canonical_in_hostname : (pattern : List ℕ) → List ℕ → Parsed (List ℕ)
-canonical_in_hostname pattern text = if is_ipv6_pattern pattern then canonical_ipv6_hostname text else canonical_hostname text
+canonical_in_hostname pattern text =
+    if is_ipv6_pattern pattern then canonical_ipv6_hostname text else canonical_hostname text
 
 -- The options of a component's pattern, and the canonical value of its fixed texts.
-abbrev pub rules_of : UrlPatternOptions → Values → (hierarchical : Bool) → ComponentName → OptionsView × (List ℕ → Parsed (List ℕ))
+abbrev pub rules_of : UrlPatternOptions → Values → (hierarchical : Bool) → ComponentName
+    → OptionsView × (List ℕ → Parsed (List ℕ))
 rules_of asked values hierarchical Protocol = (in_syntax asked default_options, canonical_protocol)
 rules_of asked values hierarchical Username = (in_syntax asked default_options, canonical_username)
 rules_of asked values hierarchical Password = (in_syntax asked default_options, canonical_password)
-rules_of asked values hierarchical Hostname = (in_syntax asked hostname_options, canonical_in_hostname (unwrap_or values.hostname []))
+rules_of asked values hierarchical Hostname =
+    (in_syntax asked hostname_options, canonical_in_hostname (unwrap_or values.hostname []))
 rules_of asked values hierarchical Port = (in_syntax asked default_options, canonical_port None)
 rules_of asked values hierarchical Pathname =
-    if hierarchical then (with_case asked pathname_options, canonical_pathname) else (with_case asked default_options, canonical_opaque_pathname)
+    if hierarchical then (with_case asked pathname_options, canonical_pathname)
+    else (with_case asked default_options, canonical_opaque_pathname)
 rules_of asked values hierarchical Search = (with_case asked default_options, canonical_search)
 rules_of asked values hierarchical Hash = (with_case asked default_options, canonical_hash)
 
 -- How a component's pattern is parsed, given the values to compile.
-abbrev pub settings_of : UrlPatternOptions → Values → (hierarchical : Bool) → ComponentName → ParseSettings
+abbrev pub settings_of : UrlPatternOptions → Values → (hierarchical : Bool) → ComponentName
+    → ParseSettings
 settings_of asked values hierarchical component =
     let rules = rules_of asked values hierarchical component in
     record { text = pattern_of values component; options = rules.0; canonical = rules.1 }
 
 -- The encoding of fixed texts by `canonical`.
 abbrev pub canonical_encoding : (List ℕ → Parsed (List ℕ)) → Encoding
-canonical_encoding canonical = encoding_of (λ bytes returned. IsResult (canonical (chars bytes)) (length bytes) returned)
+canonical_encoding canonical =
+    encoding_of (λ bytes returned. IsResult (canonical (chars bytes)) (length bytes) returned)
 
 -- ---- components
 
@@ -109,49 +121,66 @@ pub record HasEngine {E : Type 0} (compiled : ComponentView E) : Type 0 where
   pub of_matcher : AcceptedText (λ value. ⊤) compiled.matcher.inner
 
 -- The text is rejected with this error, or the engine rejects one of its regular expressions.
-abbrev pub IsRejectedFrom : {E : Type 0} → Engine E → (text : List ℕ) → OptionsView → Encoding → ErrorView → Type 0
+abbrev pub IsRejectedFrom : {E : Type 0} → Engine E → (text : List ℕ) → OptionsView → Encoding
+    → ErrorView → Type 0
 IsRejectedFrom {E} engine text options encoding error =
     Rejects text options encoding error
-    ⊎ ((compiled : ComponentView E) × IsCompiledFrom engine text options encoding compiled × (¬ HasEngine compiled) × (error ≡ views.RegExp))
+    ⊎ ((compiled : ComponentView E) × IsCompiledFrom engine text options encoding compiled
+    × (¬ HasEngine compiled)
+    × (error ≡ views.RegExp))
 
 -- The pattern text is parsed to these parts.
 abbrev pub ReadsAs : ParseSettings → List PartView → Type 0
-ReadsAs settings parts = Reads settings.text settings.options (canonical_encoding settings.canonical) parts
+ReadsAs settings parts =
+    Reads settings.text settings.options (canonical_encoding settings.canonical) parts
 
 -- The component is compiled in this manner, and the engine accepted what it needs.
 abbrev pub IsComponentCompiled : {E : Type 0} → Engine E → ParseSettings → ComponentView E → Type 0
 IsComponentCompiled engine settings compiled =
-    IsCompiledFrom engine settings.text settings.options (canonical_encoding settings.canonical) compiled × HasEngine compiled
+    IsCompiledFrom engine settings.text settings.options (canonical_encoding settings.canonical)
+    compiled
+    × HasEngine compiled
 
 -- The component, parsed in this manner, is rejected with this error.
 abbrev pub IsComponentRejected : {E : Type 0} → Engine E → ParseSettings → ErrorView → Type 0
-IsComponentRejected engine settings = IsRejectedFrom engine settings.text settings.options (canonical_encoding settings.canonical)
+IsComponentRejected engine settings =
+    IsRejectedFrom engine settings.text settings.options (canonical_encoding settings.canonical)
 
 -- ---- whole patterns
 
 -- The pathname is hierarchical: the protocol is empty, its matcher accepts a special scheme, or the
 -- pathname begins with a slash.
-abbrev pub HasHierarchicalPath : {E : Type 0} → (answer : E → List ℕ → Option Captures) → Values → (protocol : MatcherView E) → Type 0
+abbrev pub HasHierarchicalPath : {E : Type 0} → (answer : E → List ℕ → Option Captures) → Values
+    → (protocol : MatcherView E) → Type 0
 HasHierarchicalPath answer values protocol =
-    (values.protocol ≡ Some []) ⊎ AcceptsSpecialScheme answer protocol ⊎ IsTrue (begins_with (is_mark (codes "/")) (unwrap_or values.pathname []))
+    (values.protocol ≡ Some [])
+    ⊎ AcceptsSpecialScheme answer protocol
+    ⊎ IsTrue (begins_with (is_mark (codes "/")) (unwrap_or values.pathname []))
 
 -- `hierarchical` is whether the pathname is hierarchical.
-abbrev pub IsPathKind : {E : Type 0} → (answer : E → List ℕ → Option Captures) → Values → (protocol : MatcherView E) → (hierarchical : Bool) → Type 0
-IsPathKind answer values protocol hierarchical = IsTrue hierarchical ↔ HasHierarchicalPath answer values protocol
+abbrev pub IsPathKind : {E : Type 0} → (answer : E → List ℕ → Option Captures) → Values
+    → (protocol : MatcherView E) → (hierarchical : Bool) → Type 0
+IsPathKind answer values protocol hierarchical =
+    IsTrue hierarchical ↔ HasHierarchicalPath answer values protocol
 
 -- Each component is compiled in its manner.
-abbrev pub EachIsCompiled : {E : Type 0} → Engine E → (settings : ComponentName → ParseSettings) → PatternView E → Type 0
-EachIsCompiled engine settings pattern = (component : ComponentName) → IsComponentCompiled engine (settings component) (pattern component)
+abbrev pub EachIsCompiled : {E : Type 0} → Engine E
+    → (settings : ComponentName → ParseSettings) → PatternView E → Type 0
+EachIsCompiled engine settings pattern =
+    (component : ComponentName)
+    → IsComponentCompiled engine (settings component) (pattern component)
 
 -- The values are compiled to this pattern: the pathname is hierarchical or not, and each component
 -- is compiled accordingly.
-pub record AreCompiled {E : Type 0} (engine : Engine E) (asked : UrlPatternOptions) (values : Values) (pattern : PatternView E) : Type 0 where
+pub record AreCompiled {E : Type 0} (engine : Engine E) (asked : UrlPatternOptions)
+    (values : Values) (pattern : PatternView E) : Type 0 where
   pub hierarchical : Bool
   pub path_kind : IsPathKind engine.answer values (pattern Protocol).matcher hierarchical
   pub are_compiled : EachIsCompiled engine (settings_of asked values hierarchical) pattern
 
 -- The init is compiled to this pattern.
-abbrev pub IsPatternOfInit : {E : Type 0} → Engine E → UrlPatternInit → UrlPatternOptions → PatternView E → Type 0
+abbrev pub IsPatternOfInit : {E : Type 0} → Engine E → UrlPatternInit → UrlPatternOptions
+    → PatternView E → Type 0
 IsPatternOfInit engine init asked pattern =
     (values : Values) × (pattern_values init ≡ Ok values) × AreCompiled engine asked values pattern
 
@@ -162,26 +191,32 @@ abbrev pub after_protocol : List ComponentName
 after_protocol = Hostname ∷ Pathname ∷ Username ∷ Password ∷ Port ∷ Search ∷ Hash ∷ []
 
 -- A component of the list is rejected with this error, and all before it are compiled.
-abbrev pub FirstRejected : {E : Type 0} → Engine E → (settings : ComponentName → ParseSettings) → List ComponentName → ErrorView → Type 0
+abbrev pub FirstRejected : {E : Type 0} → Engine E
+    → (settings : ComponentName → ParseSettings) → List ComponentName → ErrorView → Type 0
 FirstRejected engine settings [] error = ⊥
 FirstRejected {E} engine settings (component ∷ components) error =
     IsComponentRejected engine (settings component) error
-    ⊎ (((compiled : ComponentView E) × IsComponentCompiled engine (settings component) compiled) × FirstRejected engine settings components error)
+    ⊎ (((compiled : ComponentView E) × IsComponentCompiled engine (settings component) compiled)
+    × FirstRejected engine settings components error)
 
 -- The protocol is compiled, and a component after it is rejected with this error.
-pub record RejectsAfterProtocol {E : Type 0} (engine : Engine E) (asked : UrlPatternOptions) (values : Values) (error : ErrorView) : Type 0 where
+pub record RejectsAfterProtocol {E : Type 0} (engine : Engine E) (asked : UrlPatternOptions)
+    (values : Values) (error : ErrorView) : Type 0 where
   pub protocol : ComponentView E
   pub hierarchical : Bool
-  pub is_compiled : IsComponentCompiled engine (settings_of asked values hierarchical Protocol) protocol
+  pub is_compiled : IsComponentCompiled engine (settings_of asked values hierarchical Protocol)
+      protocol
   pub path_kind : IsPathKind engine.answer values protocol.matcher hierarchical
   pub refused : FirstRejected engine (settings_of asked values hierarchical) after_protocol error
 
 -- The values are rejected with this error, that of the first rejected component.
 abbrev pub RejectsValues : {E : Type 0} → Engine E → UrlPatternOptions → Values → ErrorView → Type 0
 RejectsValues engine asked values error =
-    IsComponentRejected engine (settings_of asked values false Protocol) error ⊎ RejectsAfterProtocol engine asked values error
+    IsComponentRejected engine (settings_of asked values false Protocol) error
+    ⊎ RejectsAfterProtocol engine asked values error
 
 -- The init is rejected with this error.
-abbrev pub RejectsInit : {E : Type 0} → Engine E → UrlPatternInit → UrlPatternOptions → ErrorView → Type 0
+abbrev pub RejectsInit : {E : Type 0} → Engine E → UrlPatternInit → UrlPatternOptions → ErrorView
+    → Type 0
 RejectsInit engine init asked error =
     (values : Values) × (pattern_values init ≡ Ok values) × RejectsValues engine asked values error

@@ -23,9 +23,13 @@ abbrev pub settings_by : Compiler → (hierarchical : Bool) → ComponentName �
 settings_by compiler = settings_of compiler.options.now (compiled_values compiler)
 
 -- The component, with its parts, is compiled from a pattern text, if there is one.
-abbrev pub IsCompiledWith : {E : Type 0} → Engine E → Option (Bor (List ℕ)) → Options → Encoding → ComponentWithParts E → Type 0
-IsCompiledWith engine pattern options encoding made = IsCompiledKeeping engine (pattern_text pattern) (options_view options) encoding made
+abbrev pub IsCompiledWith : {E : Type 0} → Engine E → Option (Bor (List ℕ)) → Options → Encoding
+    → ComponentWithParts E → Type 0
+IsCompiledWith engine pattern options encoding made =
+    IsCompiledKeeping engine (pattern_text pattern) (options_view options) encoding made
 
 -- A pattern text, if there is one, is rejected with this error.
-abbrev pub IsRejectedWith : {E : Type 0} → Engine E → Option (Bor (List ℕ)) → Options → Encoding → ErrorView → Type 0
-IsRejectedWith engine pattern options encoding error = IsRejectedFrom engine (pattern_text pattern) (options_view options) encoding error
+abbrev pub IsRejectedWith : {E : Type 0} → Engine E → Option (Bor (List ℕ)) → Options → Encoding
+    → ErrorView → Type 0
+IsRejectedWith engine pattern options encoding error =
+    IsRejectedFrom engine (pattern_text pattern) (options_view options) encoding error

@@ -32,37 +32,47 @@ abbrev pub error_of : Rejection → ErrorView
 error_of rejection = error_view rejection.error
 
 -- The component of the refusal, parsed in its manner, is rejected with the error of the refusal.
-abbrev pub RejectsComponent : {E : Type 0} → Engine E → (settings : ComponentName → ParseSettings) → (hierarchical : Bool) → Rejection → Type 0
+abbrev pub RejectsComponent : {E : Type 0} → Engine E
+    → (settings : ComponentName → ParseSettings) → (hierarchical : Bool) → Rejection → Type 0
 RejectsComponent engine settings hierarchical rejection =
-    (rejection.hierarchical ≡ hierarchical) × IsComponentRejected engine (settings rejection.component) (error_of rejection)
+    (rejection.hierarchical ≡ hierarchical)
+    × IsComponentRejected engine (settings rejection.component) (error_of rejection)
 
 -- The values are rejected with the error of the refusal, and so is its component.
 abbrev pub IsRejectionOf : {E : Type 0} → Engine E → UrlPatternOptions → Values → Rejection → Type 0
 IsRejectionOf engine asked values rejection =
     RejectsValues engine asked values (error_of rejection)
-    × RejectsComponent engine (settings_of asked values rejection.hierarchical) rejection.hierarchical rejection
+    × RejectsComponent engine (settings_of asked values rejection.hierarchical)
+    rejection.hierarchical rejection
 
 -- The first rejected component of the list is rejected with the error of the refusal.
-abbrev pub IsFirstRejection : {E : Type 0} → Engine E → (settings : ComponentName → ParseSettings) → List ComponentName → Rejection → Type 0
-IsFirstRejection engine settings names rejection = FirstRejected engine settings names (error_of rejection)
+abbrev pub IsFirstRejection : {E : Type 0} → Engine E
+    → (settings : ComponentName → ParseSettings) → List ComponentName → Rejection → Type 0
+IsFirstRejection engine settings names rejection =
+    FirstRejected engine settings names (error_of rejection)
 
 -- ---- acceptance
 
 -- A component parsed in this manner is accepted.
 abbrev pub AcceptsComponent : {E : Type 0} → Engine E → ParseSettings → Type 0
-AcceptsComponent {E} engine settings = (compiled : ComponentView E) × IsComponentCompiled engine settings compiled
+AcceptsComponent {E} engine settings =
+    (compiled : ComponentView E) × IsComponentCompiled engine settings compiled
 
 -- The values are accepted.
 abbrev pub AcceptsValues : {E : Type 0} → Engine E → UrlPatternOptions → Values → Type 0
-AcceptsValues {E} engine asked values = (compiled : PatternView E) × AreCompiled engine asked values compiled
+AcceptsValues {E} engine asked values =
+    (compiled : PatternView E) × AreCompiled engine asked values compiled
 
 -- The init is accepted.
 abbrev pub AcceptsInit : {E : Type 0} → Engine E → UrlPatternInit → UrlPatternOptions → Type 0
-AcceptsInit {E} engine init asked = (compiled : PatternView E) × IsPatternOfInit engine init asked compiled
+AcceptsInit {E} engine init asked =
+    (compiled : PatternView E) × IsPatternOfInit engine init asked compiled
 
 -- The constructor string with this base URL is accepted.
-abbrev pub AcceptsPatternOfText : {E : Type 0} → Engine E → (text : List ℕ) → (base : Option (List ℕ)) → UrlPatternOptions → Type 0
-AcceptsPatternOfText {E} engine text base asked = (compiled : PatternView E) × IsPatternOfText engine text base asked compiled
+abbrev pub AcceptsPatternOfText : {E : Type 0} → Engine E
+    → (text : List ℕ) → (base : Option (List ℕ)) → UrlPatternOptions → Type 0
+AcceptsPatternOfText {E} engine text base asked =
+    (compiled : PatternView E) × IsPatternOfText engine text base asked compiled
 
 -- ---- the diagnosis
 
@@ -88,7 +98,9 @@ IsPartOfRejected pattern other fault = ⊥
 -- prefix code point `point`.
 abbrev pub ShowsFault : ComponentName → (pattern point : List ℕ) → Diagnosis → Type 0
 ShowsFault component pattern point diagnosis =
-    (fault : Fault) × (IsFaultOf (Some component) pattern point diagnosis.error fault ⊎ IsPartOfRejected pattern diagnosis.error fault)
+    (fault : Fault)
+    × (IsFaultOf (Some component) pattern point diagnosis.error fault
+    ⊎ IsPartOfRejected pattern diagnosis.error fault)
     × IsFaultMoved (string_bytes diagnosis.text) pattern fault diagnosis.fault
 
 -- The diagnosis shows the whole text, or the place where the colon after its scheme is missing.
@@ -99,28 +111,37 @@ ShowsAll diagnosis = IsUrlFault (string_bytes diagnosis.text) diagnosis.fault
 -- manner.
 abbrev pub ShowsPattern : ComponentName → ParseSettings → Diagnosis → Type 0
 ShowsPattern component settings diagnosis =
-    (pattern : List ℕ) × (chars pattern ≡ settings.text) × ShowsFault component pattern settings.options.prefix diagnosis
+    (pattern : List ℕ) × (chars pattern ≡ settings.text)
+    × ShowsFault component pattern settings.options.prefix diagnosis
 
 -- The component is rejected with the error, and the text shows where its pattern is at fault.
-pub record ShowsComponent {E : Type 0} (engine : Engine E) (asked : UrlPatternOptions) (values : Values) (component : ComponentName) (diagnosis : Diagnosis) : Type 0 where
+pub record ShowsComponent {E : Type 0} (engine : Engine E) (asked : UrlPatternOptions)
+    (values : Values) (component : ComponentName) (diagnosis : Diagnosis) : Type 0 where
   pub hierarchical : Bool
-  pub is_refused : IsComponentRejected engine (settings_of asked values hierarchical component) (error_view diagnosis.error)
-  pub shows_pattern : ShowsPattern component (settings_of asked values hierarchical component) diagnosis
+  pub is_refused : IsComponentRejected engine (settings_of asked values hierarchical component)
+      (error_view diagnosis.error)
+  pub shows_pattern : ShowsPattern component (settings_of asked values hierarchical component)
+      diagnosis
 
 -- What a diagnosis with this subject shows of rejected values.
-abbrev pub ShowsRejection : {E : Type 0} → Engine E → UrlPatternOptions → Values → Subject → Diagnosis → Type 0
-ShowsRejection engine asked values (subjects.Component component) diagnosis = ShowsComponent engine asked values component diagnosis
+abbrev pub ShowsRejection : {E : Type 0} → Engine E → UrlPatternOptions → Values → Subject
+    → Diagnosis → Type 0
+ShowsRejection engine asked values (subjects.Component component) diagnosis =
+    ShowsComponent engine asked values component diagnosis
 ShowsRejection engine asked values subjects.Whole diagnosis = ShowsAll diagnosis
 ShowsRejection engine asked values subjects.Base diagnosis = ⊥
 
 -- What a diagnosis shows of rejected values.
 abbrev pub ShowsValues : {E : Type 0} → Engine E → UrlPatternOptions → Values → Diagnosis → Type 0
-ShowsValues engine asked values diagnosis = ShowsRejection engine asked values diagnosis.subject diagnosis
+ShowsValues engine asked values diagnosis =
+    ShowsRejection engine asked values diagnosis.subject diagnosis
 
 -- What a diagnosis shows of a rejected init.
-abbrev pub ShowsInit : {E : Type 0} → Engine E → UrlPatternInit → UrlPatternOptions → Diagnosis → Type 0
+abbrev pub ShowsInit : {E : Type 0} → Engine E → UrlPatternInit → UrlPatternOptions → Diagnosis
+    → Type 0
 ShowsInit engine init asked diagnosis =
-    (values : Values) × (pattern_values init ≡ Ok values) × ShowsRejection engine asked values diagnosis.subject diagnosis
+    (values : Values) × (pattern_values init ≡ Ok values)
+    × ShowsRejection engine asked values diagnosis.subject diagnosis
 
 -- The diagnosis shows the colon after a text that is parsed as the protocol but is not one.
 abbrev pub ShowsColon : (text : List ℕ) → Diagnosis → Type 0
@@ -132,7 +153,9 @@ ShowsColon text diagnosis =
 -- split: the pattern of its protocol, the colon after that, or the whole text.
 abbrev pub ShowsProtocol : (text : List ℕ) → Subject → Diagnosis → Type 0
 ShowsProtocol text (subjects.Component component) diagnosis =
-    (component ≡ Protocol) × (pattern : List ℕ) × HasProtocol text (λ protocol. protocol ≡ chars pattern) × ShowsFault Protocol pattern [] diagnosis
+    (component ≡ Protocol)
+    × (pattern : List ℕ) × HasProtocol text (λ protocol. protocol ≡ chars pattern)
+    × ShowsFault Protocol pattern [] diagnosis
 ShowsProtocol text subjects.Whole diagnosis = ShowsAll diagnosis ⊎ ShowsColon text diagnosis
 ShowsProtocol text subjects.Base diagnosis = ⊥
 
@@ -143,17 +166,26 @@ IsOf (Some bytes) diagnosis = string_bytes diagnosis.text ≡ bytes
 
 -- What a diagnosis with this subject shows: the base URL, if that is rejected; the constructor
 -- string, if that is rejected when it is split; or else the init into which it is split.
-abbrev pub ShowsText : {E : Type 0} → Engine E → (bytes : List ℕ) → (base : Option (List ℕ)) → UrlPatternOptions → Subject → Diagnosis → Type 0
+abbrev pub ShowsText : {E : Type 0} → Engine E → (bytes : List ℕ) → (base : Option (List ℕ))
+    → UrlPatternOptions → Subject → Diagnosis → Type 0
 ShowsText engine bytes base asked subjects.Base diagnosis =
-    (string_bytes diagnosis.text ≡ unwrap_or base []) × Reports (parsed_base base) (text_bytes base) (error_view diagnosis.error) × ShowsAll diagnosis
+    (string_bytes diagnosis.text ≡ unwrap_or base [])
+    × Reports (parsed_base base) (text_bytes base) (error_view diagnosis.error)
+    × ShowsAll diagnosis
 ShowsText engine bytes base asked subject diagnosis =
     (string_bytes diagnosis.text ≡ bytes)
-    × ((RejectsSplit (chars bytes) base (error_view diagnosis.error) × ShowsProtocol (chars bytes) subject diagnosis)
-    ⊎ ((init : UrlPatternInit) × IsInitOfText engine (chars bytes) base init × ShowsInit engine init asked diagnosis))
+    ×
+    ((RejectsSplit (chars bytes) base (error_view diagnosis.error)
+    × ShowsProtocol (chars bytes) subject diagnosis)
+    ⊎
+    ((init : UrlPatternInit) × IsInitOfText engine (chars bytes) base init
+    × ShowsInit engine init asked diagnosis))
 
 -- What a diagnosis shows of a constructor string and its base URL.
-abbrev pub ShowsGiven : {E : Type 0} → Engine E → (bytes : List ℕ) → (base : Option (List ℕ)) → UrlPatternOptions → Diagnosis → Type 0
-ShowsGiven engine bytes base asked diagnosis = ShowsText engine bytes base asked diagnosis.subject diagnosis
+abbrev pub ShowsGiven : {E : Type 0} → Engine E → (bytes : List ℕ) → (base : Option (List ℕ))
+    → UrlPatternOptions → Diagnosis → Type 0
+ShowsGiven engine bytes base asked diagnosis =
+    ShowsText engine bytes base asked diagnosis.subject diagnosis
 
 -- The spans of the diagnosis are within its text.
 abbrev pub IsWithinText : Diagnosis → Type 0

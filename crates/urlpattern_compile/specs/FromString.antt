@@ -17,14 +17,16 @@ use Rattle.urlpattern_syntax.specs.Errors.{ErrorView}
 
 -- The init of a constructor string with this base URL; the engine decides which protocols are
 -- special.
-pub record IsInitOfText {E : Type 0} (engine : Engine E) (text : List ℕ) (base : Option (List ℕ)) (init : UrlPatternInit) : Type 0 where
+pub record IsInitOfText {E : Type 0} (engine : Engine E) (text : List ℕ) (base : Option (List ℕ))
+    (init : UrlPatternInit) : Type 0 where
   pub has_base : parsed_base base ≡ Ok init.base_url
   pub is_split : SplitsInto (IsSpecialTo engine) text (values_view init)
   pub is_complete : HasProtocolOrBase init
 
 -- A constructor string whose base URL is parsed is rejected with this error.
 abbrev pub RejectsSplit : (text : List ℕ) → (base : Option (List ℕ)) → ErrorView → Type 0
-RejectsSplit text base error = (url : Option Parts) × (parsed_base base ≡ Ok url) × RejectsString text url error
+RejectsSplit text base error =
+    (url : Option Parts) × (parsed_base base ≡ Ok url) × RejectsString text url error
 
 -- A constructor string is rejected with this error, its own or that of its base URL.
 abbrev pub RejectsText : (text : List ℕ) → (base : Option (List ℕ)) → ErrorView → Type 0
@@ -34,14 +36,17 @@ RejectsText text base error =
 -- ---- patterns
 
 -- The constructor string with this base URL is compiled to the pattern.
-pub record IsPatternOfText {E : Type 0} (engine : Engine E) (text : List ℕ) (base : Option (List ℕ)) (asked : UrlPatternOptions) (pattern : PatternView E) : Type 0 where
+pub record IsPatternOfText {E : Type 0} (engine : Engine E) (text : List ℕ) (base : Option (List ℕ))
+    (asked : UrlPatternOptions) (pattern : PatternView E) : Type 0 where
   pub init : UrlPatternInit
   pub is_constructed : IsInitOfText engine text base init
   pub is_compiled : IsPatternOfInit engine init asked pattern
 
 -- The constructor string is rejected with this error, when it is parsed or when its init is
 -- compiled.
-abbrev pub RejectsPatternOfText : {E : Type 0} → Engine E → (text : List ℕ) → (base : Option (List ℕ)) → UrlPatternOptions → ErrorView → Type 0
+abbrev pub RejectsPatternOfText : {E : Type 0} → Engine E
+    → (text : List ℕ) → (base : Option (List ℕ)) → UrlPatternOptions → ErrorView → Type 0
 RejectsPatternOfText engine text base asked error =
     RejectsText text base error
-    ⊎ ((init : UrlPatternInit) × IsInitOfText engine text base init × RejectsInit engine init asked error)
+    ⊎ ((init : UrlPatternInit) × IsInitOfText engine text base init
+    × RejectsInit engine init asked error)

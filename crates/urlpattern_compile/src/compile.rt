@@ -70,8 +70,10 @@ fn compile_values<R: RegExp>(
     options: &UrlPatternOptions,
 ) -> Result<Eight<ComponentWithParts<R>>, Error>
     requires { IfSome known (IsKnownProtocol R.RegExp) }
-    ensures compiled { IfOk result (AreCompiledKeeping R.RegExp options.now (values_view values.now)) }
-    ensures refused { IfErr result (MemoryOr (RejectsValues R.RegExp options.now (values_view values.now))) }
+    ensures compiled { IfOk result
+        (AreCompiledKeeping R.RegExp options.now (values_view values.now)) }
+    ensures refused { IfErr result
+        (MemoryOr (RejectsValues R.RegExp options.now (values_view values.now))) }
 {
     let canonicalizer = Canonicalizer::shared(alloc)?;
     let compiler = Compiler {
@@ -116,7 +118,8 @@ fn is_port(port: &Option<String>, default: Option<&str>) -> bool
 
 /// Whether the protocol is special and the port is its default.
 fn has_default_port(values: &UrlPatternInit) -> bool
-    ensures { result ≡ has_default_port (values_view values.now).protocol (values_view values.now).port }
+    ensures { result
+        ≡ has_default_port (values_view values.now).protocol (values_view values.now).port }
 {
     match &values.protocol {
         Some(protocol) => {
@@ -155,9 +158,11 @@ fn compile_component<R: RegExp, F: Fn(&str) -> Result<String, Error> + Drop>(
     options: Options,
 ) -> Result<ComponentWithParts<R>, Error>
     requires { F.IsAlwaysCallable encoding_callback }
-    ensures compiled { IfOk result (IsCompiledWith R.RegExp pattern.entry options (encoding_by F.Fn encoding_callback)) }
+    ensures compiled { IfOk result
+        (IsCompiledWith R.RegExp pattern.entry options (encoding_by F.Fn encoding_callback)) }
     ensures engine { IfOk result (λ made. HasEngine (component_view made.component)) }
-    ensures refused { IfErr result (MemoryOr (IsRejectedWith R.RegExp pattern.entry options (encoding_by F.Fn encoding_callback))) }
+    ensures refused { IfErr result (MemoryOr
+        (IsRejectedWith R.RegExp pattern.entry options (encoding_by F.Fn encoding_callback))) }
 {
     let compiled = Component::compile_with_parts(alloc, pattern, encoding_callback, options);
     if lacks_engine(&compiled) {
@@ -170,7 +175,9 @@ fn compile_component<R: RegExp, F: Fn(&str) -> Result<String, Error> + Drop>(
 /// Whether a component was compiled, but the engine rejected one of its regular expressions.
 #[inline(always)]
 fn lacks_engine<R: RegExp>(compiled: &Result<ComponentWithParts<R>, Error>) -> bool
-    ensures compiled { IfOk compiled.now (λ made. MatchBool result (¬ HasEngine (component_view made.component)) (HasEngine (component_view made.component))) }
+    ensures compiled { IfOk compiled.now (λ made.
+        MatchBool result (¬ HasEngine (component_view made.component))
+        (HasEngine (component_view made.component))) }
     ensures refused { IfErr compiled.now (λ _. result ≡ false) }
 {
     match compiled {
@@ -182,7 +189,8 @@ fn lacks_engine<R: RegExp>(compiled: &Result<ComponentWithParts<R>, Error>) -> b
 /// Whether a matcher holds an error in place of the engine that it needs.
 #[inline(always)]
 fn holds_error<R: RegExp>(matcher: &Matcher<R>) -> bool
-    ensures { MatchBool result (¬ AcceptedText (λ value. ⊤) (matcher_view matcher.now).inner) (AcceptedText (λ value. ⊤) (matcher_view matcher.now).inner) }
+    ensures { MatchBool result (¬ AcceptedText (λ value. ⊤) (matcher_view matcher.now).inner)
+        (AcceptedText (λ value. ⊤) (matcher_view matcher.now).inner) }
 {
     match &matcher.inner {
         InnerMatcher::RegExp { regexp } => regexp.is_err(),
@@ -213,8 +221,10 @@ impl Compiler<'_> {
         known: Option<(&str, ComponentWithParts<R>)>,
     ) -> Result<Eight<ComponentWithParts<R>>, Error>
         requires { IfSome known (IsKnownProtocol R.RegExp) }
-        ensures compiled { IfOk result (AreCompiledKeeping R.RegExp self.now.options.now (compiled_values self.now)) }
-        ensures refused { IfErr result (MemoryOr (RejectsValues R.RegExp self.now.options.now (compiled_values self.now))) }
+        ensures compiled { IfOk result
+            (AreCompiledKeeping R.RegExp self.now.options.now (compiled_values self.now)) }
+        ensures refused { IfErr result
+            (MemoryOr (RejectsValues R.RegExp self.now.options.now (compiled_values self.now))) }
     {
         let protocol = self.protocol(known)?;
         let hierarchical = self.is_hierarchical(&protocol.component)?;
@@ -229,8 +239,10 @@ impl Compiler<'_> {
         known: Option<(&str, ComponentWithParts<R>)>,
     ) -> Result<ComponentWithParts<R>, Error>
         requires { IfSome known (IsKnownProtocol R.RegExp) }
-        ensures compiled { IfOk result (IsKept R.RegExp (settings_by self.now false ComponentName.Protocol)) }
-        ensures refused { IfErr result (MemoryOr (IsComponentRejected R.RegExp (settings_by self.now false ComponentName.Protocol))) }
+        ensures compiled { IfOk result
+            (IsKept R.RegExp (settings_by self.now false ComponentName.Protocol)) }
+        ensures refused { IfErr result (MemoryOr
+            (IsComponentRejected R.RegExp (settings_by self.now false ComponentName.Protocol))) }
     {
         if let (Some((text, made)), Some(own), RegexSyntax::Rust) = (
             known,
@@ -255,10 +267,13 @@ impl Compiler<'_> {
         protocol: ComponentWithParts<R>,
         hierarchical: bool,
     ) -> Result<Eight<ComponentWithParts<R>>, Error>
-        requires { IsKept R.RegExp (settings_by self.now hierarchical ComponentName.Protocol) protocol }
-        ensures protocol { IfOk result (λ made. component_view made.protocol.component ≡ component_view protocol.component) }
+        requires { IsKept R.RegExp (settings_by self.now hierarchical ComponentName.Protocol)
+            protocol }
+        ensures protocol { IfOk result (λ made.
+            component_view made.protocol.component ≡ component_view protocol.component) }
         ensures compiled { IfOk result (EachIsKept R.RegExp (settings_by self.now hierarchical)) }
-        ensures refused { IfErr result (MemoryOr (FirstRejected R.RegExp (settings_by self.now hierarchical) after_protocol)) }
+        ensures refused { IfErr result
+            (MemoryOr (FirstRejected R.RegExp (settings_by self.now hierarchical) after_protocol)) }
     {
         Ok(Eight {
             protocol,
@@ -280,12 +295,16 @@ impl Compiler<'_> {
         component: ComponentName,
         hierarchical: bool,
     ) -> Result<ComponentWithParts<R>, Error>
-        ensures compiled { IfOk result (IsKept R.RegExp (settings_by self.now hierarchical component)) }
-        ensures refused { IfErr result (MemoryOr (IsComponentRejected R.RegExp (settings_by self.now hierarchical component))) }
+        ensures compiled { IfOk result
+            (IsKept R.RegExp (settings_by self.now hierarchical component)) }
+        ensures refused { IfErr result (MemoryOr
+            (IsComponentRejected R.RegExp (settings_by self.now hierarchical component))) }
     {
         let options = self.options_of(component, hierarchical)?;
         let canonicalize = |text: &str| -> Result<String, Error>
-            ensures { IsResult ((settings_by self.entry.now hierarchical component).canonical (chars text.now)) (length text.now) result }
+            ensures { IsResult
+                ((settings_by self.entry.now hierarchical component).canonical (chars text.now))
+                (length text.now) result }
         { self.canonical(component, hierarchical, text) };
         let pattern = pattern_of(self.values, component);
         compile_component(self.alloc, pattern, canonicalize, options)
@@ -293,7 +312,8 @@ impl Compiler<'_> {
 
     /// The options under which a component's pattern is parsed.
     pub fn options_of(&self, component: ComponentName, hierarchical: bool) -> Result<Options, Error>
-        ensures ok { IfOk result (λ options. options_view options ≡ (settings_by self.now hierarchical component).options) }
+        ensures ok { IfOk result (λ options.
+            options_view options ≡ (settings_by self.now hierarchical component).options) }
         ensures memory { OnlyOutOfMemory result }
     {
         let standard = match component {
@@ -321,7 +341,9 @@ impl Compiler<'_> {
         hierarchical: bool,
         text: &str,
     ) -> Result<String, Error>
-        ensures { IsResult ((settings_by self.now hierarchical component).canonical (chars text.now)) (length text.now) result }
+        ensures { IsResult
+            ((settings_by self.now hierarchical component).canonical (chars text.now))
+            (length text.now) result }
     {
         let values = &self.canonicalizer;
         match component {
@@ -342,7 +364,8 @@ impl Compiler<'_> {
     ///
     /// The error is that of `url`, or `OutOfMemory`.
     fn canonical_in_hostname(&self, text: &str) -> Result<String, Error>
-        ensures { IsResult (canonical_in_hostname (unwrap_or (compiled_values self.now).hostname []) (chars text.now)) (length text.now) result }
+        ensures { IsResult (canonical_in_hostname (unwrap_or (compiled_values self.now).hostname [])
+            (chars text.now)) (length text.now) result }
     {
         match &self.values.hostname {
             Some(pattern) if is_ipv6_pattern(pattern) => {
@@ -354,7 +377,8 @@ impl Compiler<'_> {
 
     /// Whether the pathname of the pattern is hierarchical, given the compiled protocol.
     pub fn is_hierarchical<R: RegExp>(&self, protocol: &Component<R>) -> Result<bool, Error>
-        ensures path_kind { IfOk result (IsPathKind R.answer (compiled_values self.now) (component_view protocol.now).matcher) }
+        ensures path_kind { IfOk result
+            (IsPathKind R.answer (compiled_values self.now) (component_view protocol.now).matcher) }
         ensures memory { OnlyOutOfMemory result }
     {
         if is_some_and_empty(&self.values.protocol) || is_some_with_slash(&self.values.pathname) {
@@ -376,7 +400,8 @@ fn is_some_and_empty(text: &Option<String>) -> bool
 
 /// Whether a text is present and begins with a slash.
 fn is_some_with_slash(text: &Option<String>) -> bool
-    ensures { result ≡ begins_with (is_mark (codes "/")) (unwrap_or (option_map text_of text.now) []) }
+    ensures { result
+        ≡ begins_with (is_mark (codes "/")) (unwrap_or (option_map text_of text.now) []) }
 {
     match text {
         Some(text) => begins_with_slash(text),

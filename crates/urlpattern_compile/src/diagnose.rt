@@ -38,9 +38,12 @@ pub fn diagnose_text<R: RegExp>(
     base_url: Option<&str>,
     options: UrlPatternOptions,
 ) -> Result<Option<Diagnosis>, OutOfMemory>
-    ensures accepted { IfAccepted result (AcceptsPatternOfText R.RegExp (chars pattern.now) (option_copied base_url.entry) options) }
-    ensures refused { IfRejected result (HasErrorOf (RejectsPatternOfText R.RegExp (chars pattern.now) (option_copied base_url.entry) options)) }
-    ensures shows { IfRejected result (ShowsGiven R.RegExp pattern.now (option_copied base_url.entry) options) }
+    ensures accepted { IfAccepted result
+        (AcceptsPatternOfText R.RegExp (chars pattern.now) (option_copied base_url.entry) options) }
+    ensures refused { IfRejected result (HasErrorOf (RejectsPatternOfText R.RegExp
+        (chars pattern.now) (option_copied base_url.entry) options)) }
+    ensures shows { IfRejected result
+        (ShowsGiven R.RegExp pattern.now (option_copied base_url.entry) options) }
     ensures within { IfRejected result IsWithinText }
 {
     let base = match parse_base(alloc, base_url) {
@@ -84,7 +87,8 @@ pub fn diagnose_init<R: RegExp>(
 fn protocol_diagnosis(alloc: Global, error: Error, text: &str) -> Result<Diagnosis, OutOfMemory>
     ensures error { IfOk result (λ diagnosis. diagnosis.error ≡ error) }
     ensures text { IfOk result (λ diagnosis. string_bytes diagnosis.text ≡ text.now) }
-    ensures shows { IfOk result (λ diagnosis. ShowsProtocol (chars text.now) diagnosis.subject diagnosis) }
+    ensures shows { IfOk result (λ diagnosis.
+        ShowsProtocol (chars text.now) diagnosis.subject diagnosis) }
     ensures within { IfOk result IsWithinText }
 {
     let Ok(found) = protocol_of(alloc, text) else {
@@ -152,8 +156,10 @@ fn values_diagnosis<R: RegExp>(
     options: &UrlPatternOptions,
     given: PatternSource<'_>,
 ) -> Result<Option<Diagnosis>, OutOfMemory>
-    ensures accepted { IfAccepted result (AcceptsValues R.RegExp options.now (values_view values.now)) }
-    ensures refused { IfRejected result (HasErrorOf (RejectsValues R.RegExp options.now (values_view values.now))) }
+    ensures accepted { IfAccepted result
+        (AcceptsValues R.RegExp options.now (values_view values.now)) }
+    ensures refused { IfRejected result
+        (HasErrorOf (RejectsValues R.RegExp options.now (values_view values.now))) }
     ensures shows { IfRejected result (ShowsValues R.RegExp options.now (values_view values.now)) }
     ensures text { IfRejected result (IsOf (option_copied given.entry.string)) }
     ensures within { IfRejected result IsWithinText }
@@ -218,9 +224,12 @@ impl Compiler<'_> {
         error: Error,
         given: PatternSource<'_>,
     ) -> Result<Diagnosis, OutOfMemory>
-        requires { RejectsValues R.RegExp self.now.options.now (compiled_values self.now) (error_view error) }
-        ensures refused { IfOk result (HasErrorOf (RejectsValues R.RegExp self.now.options.now (compiled_values self.now))) }
-        ensures shows { IfOk result (ShowsValues R.RegExp self.now.options.now (compiled_values self.now)) }
+        requires { RejectsValues R.RegExp self.now.options.now (compiled_values self.now)
+            (error_view error) }
+        ensures refused { IfOk result
+            (HasErrorOf (RejectsValues R.RegExp self.now.options.now (compiled_values self.now))) }
+        ensures shows { IfOk result
+            (ShowsValues R.RegExp self.now.options.now (compiled_values self.now)) }
         ensures text { IfOk result (IsOf (option_copied given.entry.string)) }
         ensures within { IfOk result IsWithinText }
     {
@@ -240,8 +249,10 @@ impl Compiler<'_> {
         given: PatternSource<'_>,
     ) -> Result<Diagnosis, OutOfMemory>
         ensures error { IfOk result (λ diagnosis. diagnosis.error ≡ rejection.error) }
-        ensures subject { IfOk result (λ diagnosis. diagnosis.subject ≡ subjects.Component rejection.component) }
-        ensures shows { IfOk result (ShowsPattern rejection.component (settings_by self.now rejection.hierarchical rejection.component)) }
+        ensures subject { IfOk result (λ diagnosis.
+            diagnosis.subject ≡ subjects.Component rejection.component) }
+        ensures shows { IfOk result (ShowsPattern rejection.component
+            (settings_by self.now rejection.hierarchical rejection.component)) }
         ensures text { IfOk result (IsOf (option_copied given.entry.string)) }
         ensures within { IfOk result IsWithinText }
     {
@@ -277,7 +288,8 @@ impl Compiler<'_> {
         pattern: &str,
         error: &Error,
     ) -> Result<Option<Fault>, OutOfMemory>
-        ensures part { IfOk result (λ found. IfSome found (IsPartOfRejected pattern.now error.now)) }
+        ensures part { IfOk result (λ found.
+            IfSome found (IsPartOfRejected pattern.now error.now)) }
         ensures within { IfOk result (λ found. IfSome found (IsFaultIn pattern.now)) }
     {
         match error {

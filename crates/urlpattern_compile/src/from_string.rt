@@ -21,8 +21,10 @@ pub fn init_of_text<R: RegExp>(
     text: &str,
     base_url: Option<&str>,
 ) -> Result<UrlPatternInit, Error>
-    ensures constructed { IfOk result (IsInitOfText R.RegExp (chars text.now) (option_copied base_url.entry)) }
-    ensures refused { IfErr result (MemoryOr (RejectsText (chars text.now) (option_copied base_url.entry))) }
+    ensures constructed { IfOk result
+        (IsInitOfText R.RegExp (chars text.now) (option_copied base_url.entry)) }
+    ensures refused { IfErr result
+        (MemoryOr (RejectsText (chars text.now) (option_copied base_url.entry))) }
 {
     let base_url = parse_base(alloc, base_url)?;
     UrlPatternInit::parse_constructor_string::<R>(alloc, text, base_url)
@@ -38,9 +40,11 @@ pub fn init_of_text_keeping<'a, R: RegExp>(
     base_url: Option<&str>,
     keeps: bool,
 ) -> Result<(UrlPatternInit, Option<(&'a str, ComponentWithParts<R>)>), Error>
-    ensures constructed { IfOk result (λ found. IsInitOfText R.RegExp (chars text.now) (option_copied base_url.entry) found.0) }
+    ensures constructed { IfOk result (λ found.
+        IsInitOfText R.RegExp (chars text.now) (option_copied base_url.entry) found.0) }
     ensures known { IfOk result (λ found. IfSome found.1 (IsKnownProtocol R.RegExp)) }
-    ensures refused { IfErr result (MemoryOr (RejectsText (chars text.now) (option_copied base_url.entry))) }
+    ensures refused { IfErr result
+        (MemoryOr (RejectsText (chars text.now) (option_copied base_url.entry))) }
 {
     let base_url = parse_base(alloc, base_url)?;
     let (init, _, known) = UrlPatternInit::parse_constructor_string_keeping::<R>(

@@ -39,7 +39,8 @@ pub(super) struct Rejection {
 impl Compiler<'_> {
     /// The first rejected component, in the order of compilation.
     pub(super) fn first_rejected<R: RegExp>(&self) -> Result<Option<Rejection>, OutOfMemory>
-        ensures { IfOk result (λ found. IfSome found (IsRejectionOf R.RegExp self.now.options.now (compiled_values self.now))) }
+        ensures { IfOk result (λ found.
+            IfSome found (IsRejectionOf R.RegExp self.now.options.now (compiled_values self.now))) }
     {
         match self.component::<R>(ComponentName::Protocol, false) {
             Ok(protocol) => self.first_rejected_after::<R>(protocol),
@@ -60,7 +61,8 @@ impl Compiler<'_> {
         protocol: ComponentWithParts<R>,
     ) -> Result<Option<Rejection>, OutOfMemory>
         requires { IsKept R.RegExp (settings_by self.now false names.Protocol) protocol }
-        ensures { IfOk result (λ found. IfSome found (IsRejectionOf R.RegExp self.now.options.now (compiled_values self.now))) }
+        ensures { IfOk result (λ found.
+            IfSome found (IsRejectionOf R.RegExp self.now.options.now (compiled_values self.now))) }
     {
         match self.is_hierarchical(&protocol.component) {
             Ok(hierarchical) => self.first_rejected_of::<R>(hierarchical, &AFTER_PROTOCOL),
@@ -74,8 +76,12 @@ impl Compiler<'_> {
         hierarchical: bool,
         names: &[ComponentName],
     ) -> Result<Option<Rejection>, OutOfMemory>
-        ensures first { IfOk result (λ found. IfSome found (IsFirstRejection R.RegExp (settings_by self.now hierarchical) names.now)) }
-        ensures refused { IfOk result (λ found. IfSome found (RejectsComponent R.RegExp (settings_by self.now hierarchical) hierarchical)) }
+        ensures first { IfOk result (λ found.
+            IfSome found
+            (IsFirstRejection R.RegExp (settings_by self.now hierarchical) names.now)) }
+        ensures refused { IfOk result (λ found.
+            IfSome found
+            (RejectsComponent R.RegExp (settings_by self.now hierarchical) hierarchical)) }
     {
         for name in names {
             match self.refused::<R>(hierarchical, *name)? {
@@ -92,9 +98,14 @@ impl Compiler<'_> {
         hierarchical: bool,
         component: ComponentName,
     ) -> Result<Option<Rejection>, OutOfMemory>
-        ensures refused { IfOk result (λ found. IfSome found (RejectsComponent R.RegExp (settings_by self.now hierarchical) hierarchical)) }
-        ensures name { IfOk result (λ found. IfSome found (λ rejection. rejection.component ≡ component)) }
-        ensures compiled { IfOk result (λ found. IfNone found (AcceptsComponent R.RegExp (settings_by self.now hierarchical component))) }
+        ensures refused { IfOk result (λ found.
+            IfSome found
+            (RejectsComponent R.RegExp (settings_by self.now hierarchical) hierarchical)) }
+        ensures name { IfOk result (λ found. IfSome found (λ rejection.
+            rejection.component ≡ component)) }
+        ensures compiled { IfOk result (λ found.
+            IfNone found
+            (AcceptsComponent R.RegExp (settings_by self.now hierarchical component))) }
     {
         match self.component::<R>(component, hierarchical) {
             Ok(compiled) => {

@@ -21,7 +21,9 @@ name_text Hash = codes "hash"
 
 -- The component with this name, or None where no component has this name.
 abbrev pub NamesComponent : (text : List ℕ) → Option ComponentName → Type 0
-NamesComponent text found = MatchOption found ((component : ComponentName) → text ≢ name_text component) (λ component. text ≡ name_text component)
+NamesComponent text found =
+    MatchOption found ((component : ComponentName) → text ≢ name_text component) (λ component.
+    text ≡ name_text component)
 
 -- The value of a component.
 abbrev pub at : {A : Type 0} → Eight A → ComponentName → A
@@ -40,7 +42,16 @@ named_values values names = map (λ name. (name, at values name)) names
 
 -- A value for each component.
 abbrev pub each : {A : Type 0} → (ComponentName → A) → Eight A
-each value = record { protocol = value Protocol; username = value Username; password = value Password; hostname = value Hostname; port = value Port; pathname = value Pathname; search = value Search; hash = value Hash }
+each value = record {
+  protocol = value Protocol;
+  username = value Username;
+  password = value Password;
+  hostname = value Hostname;
+  port = value Port;
+  pathname = value Pathname;
+  search = value Search;
+  hash = value Hash;
+}
 
 -- The texts of the components.
 abbrev pub Texts : Type 0
@@ -51,7 +62,8 @@ abbrev pub Values : Type 0
 Values = Eight (Option (List ℕ))
 
 -- A component may have this error, and each component before it a value.
-abbrev pub IsFirstError : {A E : Type 0} → (Answers : ComponentName → Result A E → Type 0) → E → Type 0
+abbrev pub IsFirstError : {A E : Type 0} → (Answers : ComponentName → Result A E → Type 0) → E
+    → Type 0
 IsFirstError {A} Answers error =
     (before after : List ComponentName) × (name : ComponentName)
     × (components ≡ before ++ name ∷ after)

@@ -219,7 +219,8 @@ impl<T: Drop> Eight<T> {
     /// Maps each value, in the order of the standard, or returns the first error.
     pub fn try_map<U: Drop, E, F: Fn(T) -> Result<U, E>>(self, value: F) -> Result<Eight<U>, E>
         requires { F.IsAlwaysCallable value }
-        ensures ok { IfOk result (λ values. (name : ComponentName) → F.post value (at self name) (Ok (at values name))) }
+        ensures ok { IfOk result (λ values.
+            (name : ComponentName) → F.post value (at self name) (Ok (at values name))) }
         ensures err { IfErr result (IsFirstError (λ name. F.post value (at self name))) }
     {
         Ok(Eight {
@@ -237,7 +238,8 @@ impl<T: Drop> Eight<T> {
     /// Makes the value of each component, in the order of the standard, or returns the first error.
     pub fn try_from_fn<E, F: Fn(ComponentName) -> Result<T, E>>(value: F) -> Result<Self, E>
         requires { F.IsAlwaysCallable value }
-        ensures ok { IfOk result (λ values. (name : ComponentName) → F.post value name (Ok (at values name))) }
+        ensures ok { IfOk result (λ values.
+            (name : ComponentName) → F.post value name (Ok (at values name))) }
         ensures err { IfErr result (IsFirstError (F.post value)) }
     {
         Eight::names().try_map(value)

@@ -25,7 +25,8 @@ abbrev pub split_values : Split → Values
 split_values split = each (λ name. option_text (at split.values name))
 
 -- The result is an owned copy of the component, or memory ran out.
-pub record IsOwned (component : Option (List ℕ)) (result : Result (Option (String Global)) Error) : Type 0 where
+pub record IsOwned (component : Option (List ℕ)) (result : Result (Option (String Global)) Error) :
+    Type 0 where
   pub ok : IfOk result (λ owned. option_map text_of owned ≡ component)
   pub memory : OnlyOutOfMemory result
 
@@ -35,14 +36,16 @@ IsSource source = AreLenientTokens (text_of_source source) (tokens_of source)
 
 -- The section may end at the position: at one of its signs, outside of square brackets, or at End.
 abbrev pub may_follow : Section → List TokenView → ℕ → Bool
-may_follow section tokens position = is_ending section true tokens position || ends_at tokens position
+may_follow section tokens position =
+    is_ending section true tokens position || ends_at tokens position
 
 -- ---- turns
 
 -- The turns so far and a look at each token from the index on are at most twice the number of
 -- tokens.
 abbrev pub HasTurns : Source → (index turns : ℕ) → Type 0
-HasTurns source index turns = turns + (length source.tokens.now - index) ≤ 2 * length source.tokens.now
+HasTurns source index turns =
+    turns + (length source.tokens.now - index) ≤ 2 * length source.tokens.now
 
 -- Reading may continue at the position, and a look at each token from there on keeps within twice
 -- the number of tokens.
@@ -55,13 +58,15 @@ pub record CanRead (source : Source) (position : Position) : Type 0 where
 -- number of tokens.
 pub record HasRead (source : Source) (position : Position) : Type 0 where
   pub within : position.index < length source.tokens.now
-  pub turns : position.turns + (length source.tokens.now - position.index) ≤ 2 * length source.tokens.now + 1
+  pub turns : position.turns + (length source.tokens.now - position.index)
+      ≤ 2 * length source.tokens.now + 1
 
 -- Where a slash is seen from the index on, a look at each token from there on keeps within twice
 -- the number of tokens.
 abbrev pub HasTurnForSlash : Source → (index depth turns : ℕ) → Type 0
 HasTurnForSlash source index depth turns =
-    (other : ℕ) → index ≤ other → IsTrue (is_seen (tokens_of source) index depth other) → IsTrue (is_slash_sign (tokens_of source) other)
+    (other : ℕ) → index ≤ other → IsTrue (is_seen (tokens_of source) index depth other)
+    → IsTrue (is_slash_sign (tokens_of source) other)
     → HasTurns source index turns
 
 -- The section in which square brackets are counted.

@@ -37,11 +37,13 @@ impl<'t, 'a> Source<'t, 'a> {
     /// Splits a text with a protocol, which ends at the colon.
     pub fn absolute(&self, colon: Position, protocol: &'a str, special: bool) -> Split<'a>
         requires source { IsSource self.now }
-        requires protocol { IsTextBetween (text_of_source self.now) (tokens_of self.now) 0 colon.index (chars protocol.now) }
+        requires protocol { IsTextBetween (text_of_source self.now) (tokens_of self.now) 0
+            colon.index (chars protocol.now) }
         requires ends { EndsAt Section.Protocol (tokens_of self.now) 0 0 colon.index }
         requires sign { IsTrue (is_colon_sign (tokens_of self.now) colon.index) }
         requires turns { colon.turns ≤ 2 * (colon.index + 1) }
-        ensures split { IsAbsoluteSplit (text_of_source self.now) (tokens_of self.now) special colon.index (split_values result) }
+        ensures split { IsAbsoluteSplit (text_of_source self.now) (tokens_of self.now) special
+            colon.index (split_values result) }
         ensures protocol { (split_values result).protocol ≡ Some (chars protocol.now) }
         ensures turns { result.turns ≤ 2 * length self.now.tokens.now }
     {
@@ -70,7 +72,8 @@ impl<'t, 'a> Source<'t, 'a> {
         requires depth { end.depth ≡ depth_before (tokens_of self.now) 0 0 end.index }
         requires shallow { end.depth ≤ end.index }
         requires turns { end.turns ≤ length self.now.tokens.now }
-        ensures split { IsRelativeSplit (text_of_source self.now) (tokens_of self.now) (split_values result) }
+        ensures split { IsRelativeSplit (text_of_source self.now) (tokens_of self.now)
+            (split_values result) }
         ensures turns { result.turns ≤ 2 * length self.now.tokens.now }
     {
         if self.is_non_special_pattern_char(0, b'#') {
@@ -88,7 +91,8 @@ impl<'t, 'a> Source<'t, 'a> {
         requires within { from.index < length self.now.tokens.now }
         requires level { from.depth ≡ 0 }
         requires turns { from.turns ≤ 2 * from.index }
-        ensures split { AuthorityFrom (text_of_source self.now) (tokens_of self.now) special from.index (split_values result) }
+        ensures split { AuthorityFrom (text_of_source self.now) (tokens_of self.now) special
+            from.index (split_values result) }
         ensures turns { result.turns ≤ 2 * length self.now.tokens.now }
     {
         let end = self.end_of(Section::Authority, from);
@@ -117,8 +121,10 @@ impl<'t, 'a> Source<'t, 'a> {
         requires sign { IsTrue (is_at_sign (tokens_of self.now) until) }
         requires level { from.depth ≡ 0 }
         requires turns { from.turns ≤ from.index + until + 1 }
-        ensures userinfo { UserinfoFrom (text_of_source self.now) (tokens_of self.now) from.index until (split_values result) }
-        ensures hostname { HostnameFrom (text_of_source self.now) (tokens_of self.now) special (until + 1) 0 (split_values result) }
+        ensures userinfo { UserinfoFrom (text_of_source self.now) (tokens_of self.now) from.index
+            until (split_values result) }
+        ensures hostname { HostnameFrom (text_of_source self.now) (tokens_of self.now) special
+            (until + 1) 0 (split_values result) }
         ensures turns { result.turns ≤ 2 * length self.now.tokens.now }
     {
         let end = self.end_of(Section::Username, from);
@@ -143,7 +149,8 @@ impl<'t, 'a> Source<'t, 'a> {
         requires source { IsSource self.now }
         requires reads { CanRead self.now from }
         requires slash { HasTurnForSlash self.now from.index from.depth (from.turns + 1) }
-        ensures split { HostnameFrom (text_of_source self.now) (tokens_of self.now) special from.index from.depth (split_values result) }
+        ensures split { HostnameFrom (text_of_source self.now) (tokens_of self.now) special
+            from.index from.depth (split_values result) }
         ensures turns { result.turns ≤ 2 * length self.now.tokens.now }
     {
         let end = self.end_of(Section::Hostname, from);
@@ -158,7 +165,8 @@ impl<'t, 'a> Source<'t, 'a> {
         requires reads { HasRead self.now end }
         requires sign { IsTrue (may_follow Hostname (tokens_of self.now) end.index) }
         requires slash { HasTurnForSlash self.now end.index 0 end.turns }
-        ensures split { PortAt (text_of_source self.now) (tokens_of self.now) special end.index (split_values result) }
+        ensures split { PortAt (text_of_source self.now) (tokens_of self.now) special end.index
+            (split_values result) }
         ensures turns { result.turns ≤ 2 * length self.now.tokens.now }
     {
         if self.is_non_special_pattern_char(end.index, b':') {
@@ -179,8 +187,10 @@ impl<'t, 'a> Source<'t, 'a> {
         requires source { IsSource self.now }
         requires reads { HasRead self.now end }
         requires sign { IsTrue (may_follow Port (tokens_of self.now) end.index) }
-        requires slash { IsTrue (is_slash_sign (tokens_of self.now) end.index) → HasTurns self.now end.index end.turns }
-        ensures split { PathnameAt (text_of_source self.now) (tokens_of self.now) special end.index (split_values result) }
+        requires slash { IsTrue (is_slash_sign (tokens_of self.now) end.index)
+            → HasTurns self.now end.index end.turns }
+        ensures split { PathnameAt (text_of_source self.now) (tokens_of self.now) special end.index
+            (split_values result) }
         ensures nothing { NoAuthority (split_values result) }
         ensures turns { result.turns ≤ 2 * length self.now.tokens.now }
     {
@@ -199,7 +209,8 @@ impl<'t, 'a> Source<'t, 'a> {
     fn pathname_from(&self, from: Position) -> Split<'a>
         requires source { IsSource self.now }
         requires reads { CanRead self.now from }
-        ensures split { PathnameFrom (text_of_source self.now) (tokens_of self.now) from.index from.depth (split_values result) }
+        ensures split { PathnameFrom (text_of_source self.now) (tokens_of self.now) from.index
+            from.depth (split_values result) }
         ensures nothing { NoAuthority (split_values result) }
         ensures turns { result.turns ≤ 2 * length self.now.tokens.now }
     {
@@ -214,7 +225,8 @@ impl<'t, 'a> Source<'t, 'a> {
         requires source { IsSource self.now }
         requires reads { HasRead self.now end }
         requires sign { IsTrue (may_follow Pathname (tokens_of self.now) end.index) }
-        ensures split { SearchAt (text_of_source self.now) (tokens_of self.now) end.index (split_values result) }
+        ensures split { SearchAt (text_of_source self.now) (tokens_of self.now) end.index
+            (split_values result) }
         ensures nothing { NoPathname (split_values result) }
         ensures turns { result.turns ≤ 2 * length self.now.tokens.now }
     {
@@ -233,7 +245,8 @@ impl<'t, 'a> Source<'t, 'a> {
     fn search_from(&self, from: Position) -> Split<'a>
         requires source { IsSource self.now }
         requires reads { CanRead self.now from }
-        ensures split { SearchFrom (text_of_source self.now) (tokens_of self.now) from.index from.depth (split_values result) }
+        ensures split { SearchFrom (text_of_source self.now) (tokens_of self.now) from.index
+            from.depth (split_values result) }
         ensures nothing { NoPathname (split_values result) }
         ensures turns { result.turns ≤ 2 * length self.now.tokens.now }
     {
@@ -248,7 +261,8 @@ impl<'t, 'a> Source<'t, 'a> {
         requires source { IsSource self.now }
         requires reads { HasRead self.now end }
         requires sign { IsTrue (may_follow Search (tokens_of self.now) end.index) }
-        ensures split { HashAt (text_of_source self.now) (tokens_of self.now) end.index (split_values result) }
+        ensures split { HashAt (text_of_source self.now) (tokens_of self.now) end.index
+            (split_values result) }
         ensures nothing { NoSearch (split_values result) }
         ensures turns { result.turns ≤ 2 * length self.now.tokens.now }
     {
@@ -262,7 +276,8 @@ impl<'t, 'a> Source<'t, 'a> {
     fn hash_from(&self, from: Position) -> Split<'a>
         requires source { IsSource self.now }
         requires reads { CanRead self.now from }
-        ensures split { HashFrom (text_of_source self.now) (tokens_of self.now) from.index (split_values result) }
+        ensures split { HashFrom (text_of_source self.now) (tokens_of self.now) from.index
+            (split_values result) }
         ensures nothing { NoSearch (split_values result) }
         ensures turns { result.turns ≤ 2 * length self.now.tokens.now }
     {

@@ -59,7 +59,8 @@ impl<'t, 'a> Source<'t, 'a> {
         requires shallow { from.depth ≤ length self.now.tokens.now }
         requires turns { from.turns ≤ 2 * length self.now.tokens.now }
         ensures ends { EndsAt section (tokens_of self.now) from.index from.depth result.index }
-        ensures depth { result.depth ≡ depth_before (tokens_of self.now) from.index from.depth result.index }
+        ensures depth { result.depth
+            ≡ depth_before (tokens_of self.now) from.index from.depth result.index }
         ensures shallow { result.depth + from.index ≤ from.depth + result.index }
         ensures turns { result.turns + from.index ≡ from.turns + result.index + 1 }
     {
@@ -129,7 +130,11 @@ impl<'t, 'a> Source<'t, 'a> {
     ) -> usize
         requires ascii { mark < 128 }
         requires room { count + 1 < 2 ^ 64 }
-        ensures { result ≡ count + (if is_hostname section && is_seen && passes_at (is_non_special_pattern_char (mark ∷ [])) (tokens_of self.now) index then 1 else 0) }
+        ensures { result
+            ≡ count
+            + (if is_hostname section && is_seen
+            && passes_at (is_non_special_pattern_char (mark ∷ [])) (tokens_of self.now) index
+            then 1 else 0) }
     {
         if matches!(section, Section::Hostname)
             && is_seen

@@ -17,7 +17,8 @@ impl<'t, 'a> Source<'t, 'a> {
     /// Whether the token at the index is this ASCII character.
     pub fn is_non_special_pattern_char(&self, index: usize, mark: u8) -> bool
         requires { mark < 128 }
-        ensures { result ≡ passes_at (is_non_special_pattern_char (mark ∷ [])) (tokens_of self.now) index }
+        ensures { result
+            ≡ passes_at (is_non_special_pattern_char (mark ∷ [])) (tokens_of self.now) index }
     {
         match self.tokens.get(index) {
             Some(token) => is_character(token.kind) && is_mark(token.value, mark),
@@ -71,7 +72,8 @@ impl<'t, 'a> Source<'t, 'a> {
         requires source { IsSource self.now }
         requires order { from ≤ until }
         requires within { until < length self.now.tokens.now }
-        ensures { IsTextBetween (text_of_source self.now) (tokens_of self.now) from until (chars result.now) }
+        ensures { IsTextBetween (text_of_source self.now) (tokens_of self.now) from until
+            (chars result.now) }
     {
         &self.input[self.tokens[from].index..self.tokens[until].index]
     }

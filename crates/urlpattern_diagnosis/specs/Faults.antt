@@ -31,7 +31,8 @@ marks_len kind = 0
 
 -- The span of a token's spelling.
 abbrev pub IsSpanOfToken : (bytes : List ℕ) → Token → Span → Type 0
-IsSpanOfToken bytes token span = IsSpanAt bytes token.index (length token.value.now + marks_len token.kind) span
+IsSpanOfToken bytes token span =
+    IsSpanAt bytes token.index (length token.value.now + marks_len token.kind) span
 
 -- The span of a custom expression, between its parentheses.
 abbrev pub IsSpanOfBody : (bytes : List ℕ) → Token → Span → Type 0
@@ -81,12 +82,14 @@ mistyped_colon bytes =
 -- The `;` in place of the colon after a scheme is at fault, or else the whole text.
 abbrev pub IsSignFault : (bytes : List ℕ) → Fault → Type 0
 IsSignFault bytes fault =
-    MatchOption (mistyped_colon bytes) (IsWholeFault bytes fault) (λ place. IsSingleSpan (IsSpanAt bytes place 1) fault)
+    MatchOption (mistyped_colon bytes) (IsWholeFault bytes fault) (λ place.
+    IsSingleSpan (IsSpanAt bytes place 1) fault)
 
 -- The place of the missing or mistyped colon after a scheme is at fault, or else the whole text.
 abbrev pub IsUrlFault : (bytes : List ℕ) → Fault → Type 0
 IsUrlFault bytes fault =
-    MatchOption (missing_colon bytes) (IsSignFault bytes fault) (λ place. IsSingleSpan (IsSpanAt bytes place 0) fault)
+    MatchOption (missing_colon bytes) (IsSignFault bytes fault) (λ place.
+    IsSingleSpan (IsSpanAt bytes place 0) fault)
 
 -- A character of a path, a search or a hash that no protocol has.
 abbrev pub is_path_sign : ℕ → Bool
@@ -95,7 +98,8 @@ is_path_sign c = is_among (codes "/#=") c
 -- The colon after a text with a character of a path, a search or a hash is at fault: that text is
 -- no protocol.
 abbrev pub IsColonFault : (bytes before : List ℕ) → Fault → Type 0
-IsColonFault bytes before fault = IsTrue (list_any is_path_sign before) × IsSingleSpan (IsSpanAt bytes (length before) 1) fault
+IsColonFault bytes before fault =
+    IsTrue (list_any is_path_sign before) × IsSingleSpan (IsSpanAt bytes (length before) 1) fault
 
 -- ---- where no token begins
 
@@ -106,7 +110,10 @@ abbrev pub IsBodyFault : (bytes : List ℕ) → (place : ℕ) → (rest : List �
 IsBodyFault bytes place rest fault =
     (BeginsWith (is_among (codes "?)")) rest × IsSingleSpan (IsSpanAt bytes place 2) fault)
     ⊎ (IsRegexpStart rest × IsSingleSpan (IsSpanAt bytes place 1) fault)
-    ⊎ ((left : List ℕ) × (start len : ℕ) × IsAfterRegexpStart rest left × IsRejectedStart left len × BeginsAt (chars bytes) left start
+    ⊎ ((left : List ℕ)
+    × (start len : ℕ) × IsAfterRegexpStart rest left
+    × IsRejectedStart left len
+    × BeginsAt (chars bytes) left start
     × IsSpanAt bytes start len fault.span × IsSomeAnd fault.earlier (IsSpanAt bytes place 1))
 
 -- Whether a character is a square bracket.
@@ -122,7 +129,8 @@ IsLastBracket bracket bytes place =
 -- none.
 abbrev pub IsOpenBracket : (bytes : List ℕ) → Option ℕ → Type 0
 IsOpenBracket bytes (Some place) = IsLastBracket (codes "[") bytes place
-IsOpenBracket bytes None = (list_any is_bracket bytes ≡ false) ⊎ ((place : ℕ) × IsLastBracket (codes "]") bytes place)
+IsOpenBracket bytes None =
+    (list_any is_bracket bytes ≡ false) ⊎ ((place : ℕ) × IsLastBracket (codes "]") bytes place)
 
 -- Whether the component is the hostname.
 abbrev pub is_of_hostname : Option ComponentName → Bool
@@ -140,22 +148,27 @@ first_place (Some other) place = min other place
 abbrev pub IsNameFault : Option ComponentName → (bytes : List ℕ) → (place : ℕ) → Fault → Type 0
 IsNameFault component bytes place fault =
     MatchBool (is_of_hostname component)
-    ((bracket : Option ℕ) × IsOpenBracket bytes bracket × IsSingleSpan (IsSpanAt bytes (first_place bracket place) 1) fault)
+    ((bracket : Option ℕ) × IsOpenBracket bytes bracket
+    × IsSingleSpan (IsSpanAt bytes (first_place bracket place) 1) fault)
     (IsSingleSpan (IsSpanAt bytes place 1) fault)
 
 -- No token begins at the place, where `left` begins, for this reason: the fault is a backslash at
 -- the end, a name, or a custom expression.
-abbrev pub IsTokenFault : Option ComponentName → (bytes : List ℕ) → (place : ℕ) → (left : List ℕ) → FaultView → Fault → Type 0
+abbrev pub IsTokenFault : Option ComponentName → (bytes : List ℕ) → (place : ℕ)
+    → (left : List ℕ) → FaultView → Fault → Type 0
 IsTokenFault component bytes place left IncompleteEscapeCode fault =
-    (start : ℕ) × BeginsAt (chars bytes) (codes "\\") start × IsSingleSpan (IsSpanAt bytes start 1) fault
+    (start : ℕ) × BeginsAt (chars bytes) (codes "\\") start
+    × IsSingleSpan (IsSpanAt bytes start 1) fault
 IsTokenFault component bytes place left InvalidName fault = IsNameFault component bytes place fault
 IsTokenFault component bytes place left (InvalidRegex reported) fault =
     (rest : List ℕ) × (left ≡ codes "(" ++ rest) × IsBodyFault bytes place rest fault
 
 -- The first fault of the text is at the place, for this reason, and `fault` is what is at fault.
-abbrev pub HasTokenFault : Option ComponentName → (bytes : List ℕ) → FaultView → (place : ℕ) → Fault → Type 0
+abbrev pub HasTokenFault : Option ComponentName → (bytes : List ℕ) → FaultView → (place : ℕ) → Fault
+    → Type 0
 HasTokenFault component bytes reported place fault =
-    (is : IsFault (chars bytes) reported place) × IsTokenFault component bytes place is.left reported fault
+    (is : IsFault (chars bytes) reported place)
+    × IsTokenFault component bytes place is.left reported fault
 
 abbrev pub is_end_kind : TokenType → Bool
 is_end_kind End = true
@@ -164,20 +177,25 @@ is_end_kind kind = false
 -- The token at which the pieces of the text before the place end, unless they are all of that text.
 abbrev pub IsStopBefore : (bytes point : List ℕ) → (place : ℕ) → Option Span → Type 0
 IsStopBefore bytes point place earlier =
-    (stop : Stop) × IsStopOf (chars (take place bytes)) point (token_view stop.first) (token_view stop.found)
-    × MatchBool (is_end_kind stop.found.kind) (earlier ≡ None) (IsSomeAnd earlier (IsSpanOfToken bytes stop.found))
+    (stop : Stop)
+    × IsStopOf (chars (take place bytes)) point (token_view stop.first) (token_view stop.found)
+    × MatchBool (is_end_kind stop.found.kind) (earlier ≡ None)
+    (IsSomeAnd earlier (IsSpanOfToken bytes stop.found))
 
 -- The fault is that of `alone`; if it has no earlier part, the token at which the pieces before it
 -- end is at fault too.
 abbrev pub IsWithStop : (bytes point : List ℕ) → (place : ℕ) → (alone fault : Fault) → Type 0
 IsWithStop bytes point place alone fault =
     (fault.span ≡ alone.span)
-    × MatchOption alone.earlier (IsStopBefore bytes point place fault.earlier) (λ span. fault.earlier ≡ Some span)
+    × MatchOption alone.earlier (IsStopBefore bytes point place fault.earlier)
+    (λ span. fault.earlier ≡ Some span)
 
 -- The first fault of the text, with an earlier token that is at fault too.
-abbrev pub IsFirstFault : Option ComponentName → (bytes point : List ℕ) → FaultView → (place : ℕ) → Fault → Type 0
+abbrev pub IsFirstFault : Option ComponentName → (bytes point : List ℕ) → FaultView
+    → (place : ℕ) → Fault → Type 0
 IsFirstFault component bytes point reported place fault =
-    (alone : Fault) × HasTokenFault component bytes reported place alone × IsWithStop bytes point place alone fault
+    (alone : Fault) × HasTokenFault component bytes reported place alone
+    × IsWithStop bytes point place alone fault
 
 -- ---- where the tokens are no pattern
 
@@ -185,7 +203,8 @@ IsFirstFault component bytes point reported place fault =
 abbrev pub IsStopFault : (bytes : List ℕ) → Stop → Fault → Type 0
 IsStopFault bytes stop fault =
     IsSpanOfToken bytes stop.found fault.span
-    × MatchBool (stop.first.index == stop.found.index) (fault.earlier ≡ None) (IsSomeAnd fault.earlier (IsSpanOfToken bytes stop.first))
+    × MatchBool (stop.first.index == stop.found.index) (fault.earlier ≡ None)
+    (IsSomeAnd fault.earlier (IsSpanOfToken bytes stop.first))
 
 abbrev pub is_name : TokenType → Bool
 is_name Name = true
@@ -203,7 +222,8 @@ IsSecondFault bytes tokens fault = IsWholeFault bytes fault
 
 -- The fault of tokens that are no pattern, and whose pieces end at `stop`.
 abbrev pub IsParserFault : (bytes : List ℕ) → Stop → ParserError → Fault → Type 0
-IsParserFault bytes stop (parser_errors.ExpectedToken expected found value) fault = IsStopFault bytes stop fault
+IsParserFault bytes stop (parser_errors.ExpectedToken expected found value) fault =
+    IsStopFault bytes stop fault
 IsParserFault bytes stop (parser_errors.DuplicateName name) fault =
     (tokens : List Token) × AreTokens (chars bytes) (map token_view tokens)
     × IsSecondFault bytes (filter (gives_name (string_bytes name)) tokens) fault
@@ -211,11 +231,13 @@ IsParserFault bytes stop (parser_errors.DuplicateName name) fault =
 -- The fault of a text that consists of tokens, by the error with which the text is rejected.
 abbrev pub IsFaultOfError : (bytes point : List ℕ) → Error → Fault → Type 0
 IsFaultOfError bytes point (errors.Parser error) fault =
-    (stop : Stop) × IsStopOf (chars bytes) point (token_view stop.first) (token_view stop.found) × IsParserFault bytes stop error fault
+    (stop : Stop) × IsStopOf (chars bytes) point (token_view stop.first) (token_view stop.found)
+    × IsParserFault bytes stop error fault
 IsFaultOfError bytes point other fault = IsWholeFault bytes fault
 
 -- The fault is at the first character that begins no token. If each begins one, the error decides.
 abbrev pub IsFaultOf : Option ComponentName → (bytes point : List ℕ) → Error → Fault → Type 0
 IsFaultOf component bytes point error fault =
     ((reported : FaultView) × (place : ℕ) × IsFirstFault component bytes point reported place fault)
-    ⊎ (((tokens : List TokenView) × AreTokens (chars bytes) tokens) × IsFaultOfError bytes point error fault)
+    ⊎ (((tokens : List TokenView) × AreTokens (chars bytes) tokens)
+    × IsFaultOfError bytes point error fault)

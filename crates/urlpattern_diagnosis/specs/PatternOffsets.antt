@@ -24,9 +24,11 @@ IsMovedSpan bytes place span moved =
 abbrev pub IsMovedFault : (bytes : List ℕ) → PatternOffset → (fault moved : Fault) → Type 0
 IsMovedFault bytes place fault moved =
     IsMovedSpan bytes place fault.span moved.span
-    × MatchOption fault.earlier (moved.earlier ≡ None) (λ span. IsSomeAnd moved.earlier (IsMovedSpan bytes place span))
+    × MatchOption fault.earlier (moved.earlier ≡ None)
+    (λ span. IsSomeAnd moved.earlier (IsMovedSpan bytes place span))
 
 -- A fault of the part, moved to a place of the part in the text, or else to the whole text.
 abbrev pub IsFaultMoved : (bytes part : List ℕ) → (fault moved : Fault) → Type 0
 IsFaultMoved bytes part fault moved =
-    ((place : PatternOffset) × IsPlaceOf bytes part place × IsMovedFault bytes place fault moved) ⊎ IsWholeFault bytes moved
+    ((place : PatternOffset) × IsPlaceOf bytes part place × IsMovedFault bytes place fault moved)
+    ⊎ IsWholeFault bytes moved

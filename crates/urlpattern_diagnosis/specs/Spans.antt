@@ -8,7 +8,8 @@ span_between start end = record { start = start; end = end }
 
 -- The span is within the text, and cuts no character.
 abbrev pub IsSpanIn : (bytes : List ℕ) → Span → Type 0
-IsSpanIn bytes span = (span.start ≤ span.end) × IsCharBoundary bytes span.start × IsCharBoundary bytes span.end
+IsSpanIn bytes span =
+    (span.start ≤ span.end) × IsCharBoundary bytes span.start × IsCharBoundary bytes span.end
 
 abbrev pub whole_span : (bytes : List ℕ) → Span
 whole_span bytes = span_between 0 (length bytes)

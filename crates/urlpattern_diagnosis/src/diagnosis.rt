@@ -98,7 +98,8 @@ impl Diagnosis {
         ensures error { IfOk result (λ diagnosis. diagnosis.error ≡ error) }
         ensures subject { IfOk result (λ diagnosis. diagnosis.subject ≡ subject) }
         ensures text { IfOk result (λ diagnosis. string_bytes diagnosis.text ≡ text.now) }
-        ensures fault { IfOk result (λ diagnosis. IsFaultMoved text.now part.now fault diagnosis.fault) }
+        ensures fault { IfOk result (λ diagnosis.
+            IsFaultMoved text.now part.now fault diagnosis.fault) }
         ensures within { IfOk result (λ diagnosis. IsFaultIn text.now diagnosis.fault) }
     {
         let moved = match place {

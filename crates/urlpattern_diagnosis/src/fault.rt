@@ -158,7 +158,8 @@ pub fn fault_of(
     prefix_code_point: &str,
     error: &Error,
 ) -> Result<Fault, OutOfMemory>
-    ensures fault { IfOk result (IsFaultOf component text.now (chars prefix_code_point.now) error.now) }
+    ensures fault { IfOk result
+        (IsFaultOf component text.now (chars prefix_code_point.now) error.now) }
     ensures within { IfOk result (IsFaultIn text.now) }
 {
     let stop = match Stop::of(alloc, text, prefix_code_point) {

@@ -20,7 +20,10 @@ pub fn rejected_expression<F: Fn(&str) -> Result<bool, OutOfMemory>>(
     refuses: F,
 ) -> Result<Option<Span>, OutOfMemory>
     requires { F.IsAlwaysCallable refuses }
-    ensures refused { IfOk result (λ found. IfSome found (λ span. (token : Token) × (token.kind ≡ Regexp) × F.post refuses token.value (Ok true) × IsSpanOfBody text.now token span)) }
+    ensures refused { IfOk result (λ found. IfSome found (λ span.
+        (token : Token) × (token.kind ≡ Regexp)
+        × F.post refuses token.value (Ok true)
+        × IsSpanOfBody text.now token span)) }
     ensures within { IfOk result (λ found. IfSome found (IsSpanIn text.now)) }
 {
     for token in tokens {

@@ -26,7 +26,8 @@ pub(crate) fn first_fault(
     fault: &TokenizerError,
 ) -> Result<Fault, OutOfMemory>
     requires { IsFault (chars text.now) (fault_view fault.now) place }
-    ensures fault { IfOk result (IsFirstFault component text.now (chars prefix_code_point.now) (fault_view fault.now) place) }
+    ensures fault { IfOk result (IsFirstFault component text.now (chars prefix_code_point.now)
+        (fault_view fault.now) place) }
     ensures within { IfOk result (IsFaultIn text.now) }
 {
     let alone = token_fault(component, text, place, fault);
@@ -116,7 +117,8 @@ fn open_bracket(text: &str) -> Option<usize>
 
 /// The fault of a text where `body` follows the `(` at a place, and is no custom expression.
 fn body_fault(text: &str, place: usize, body: &str) -> Fault
-    requires faulty { (reported : List ℕ) × IsFaultAt (codes "(" ++ chars body.now) (InvalidRegex reported) }
+    requires faulty { (reported : List ℕ)
+        × IsFaultAt (codes "(" ++ chars body.now) (InvalidRegex reported) }
     requires within { length body.now ≤ length text.now }
     ensures fault { IsBodyFault text.now place (chars body.now) result }
     ensures within { IsFaultIn text.now result }
@@ -137,10 +139,12 @@ fn body_fault(text: &str, place: usize, body: &str) -> Fault
 /// The rest of a body from its first invalid character on, and the number of invalid bytes. `None`:
 /// the text ends before the body does.
 fn rejected_at(body: &str) -> Option<(&str, usize)>
-    requires faulty { (reported : List ℕ) × IsFaultAt (codes "(" ++ chars body.now) (InvalidRegex reported) }
+    requires faulty { (reported : List ℕ)
+        × IsFaultAt (codes "(" ++ chars body.now) (InvalidRegex reported) }
     requires unmarked { ¬ BeginsWith (is_among (codes "?)")) (chars body.now) }
     ensures end { IfNone result (IsRegexpStart (chars body.now)) }
-    ensures left { IfSome result (λ found. IsAfterRegexpStart (chars body.now) (chars found.0.now)) }
+    ensures left { IfSome result (λ found.
+        IsAfterRegexpStart (chars body.now) (chars found.0.now)) }
     ensures refused { IfSome result (λ found. IsRejectedStart (chars found.0.now) found.1) }
     ensures len { IfSome result (λ found. length found.0.now ≤ length body.now) }
 {

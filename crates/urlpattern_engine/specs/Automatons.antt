@@ -24,11 +24,13 @@ use Rattle.urlpattern_meaning.specs.PartMeaning.{Captures}
 -- The characters between two byte positions, if these are in order and at character boundaries.
 abbrev pub text_cut : (bytes : List ℕ) → ℕ × ℕ → Option (List ℕ)
 text_cut bytes span =
-    if nat_le span.0 span.1 && (is_cut_at true bytes span.0 && is_cut_at true bytes span.1) then Some (text_between bytes span) else None
+    if nat_le span.0 span.1 && (is_cut_at true bytes span.0 && is_cut_at true bytes span.1)
+    then Some (text_between bytes span) else None
 
 -- The captures of the first `count` groups of a match, from group 1 on.
 abbrev pub match_captures : (bytes : List ℕ) → (count : ℕ) → Match → Captures
-match_captures bytes count found = map (λ n. option_and_then (text_cut bytes) (group_of found n)) (range_with_len 1 count)
+match_captures bytes count found =
+    map (λ n. option_and_then (text_cut bytes) (group_of found n)) (range_with_len 1 count)
 
 -- The match at the start of the bytes.
 abbrev pub match_at_start : Nfa → (bytes : List ℕ) → Option Match
@@ -43,7 +45,12 @@ automaton_result nfa text =
 
 -- The default options of the grammar, with case ignored or not.
 abbrev pub config_for : (ignore_case : Bool) → Config
-config_for ignore_case = record default_config { flags = record default_flags { case_insensitive = ignore_case } }
+config_for ignore_case = record default_config {
+  flags = record default_flags {
+    case_insensitive =
+        ignore_case;
+  };
+}
 
 -- The `Regex` was built from the text with the default options, and with case ignored or not.
 pub record IsRegexReadAs (ignore_case : Bool) (regexp : List ℕ) (regex : Regex) : Type 0 where
@@ -54,7 +61,8 @@ pub record IsRegexReadAs (ignore_case : Bool) (regexp : List ℕ) (regex : Regex
 -- The captures of the first match of `regexp`, as the grammar reads it, in the text.
 abbrev pub read_result : (ignore_case : Bool) → (regexp : List ℕ) → List ℕ → Option Captures
 read_result ignore_case regexp text =
-    option_and_then (λ (pattern, names). re_result pattern.value (length names) text) (read (config_for ignore_case) regexp)
+    option_and_then (λ (pattern, names). re_result pattern.value (length names) text)
+    (read (config_for ignore_case) regexp)
 
 -- The names of groups, as UTF-8.
 abbrev pub names_of : List (Option (String Global)) → Names
@@ -80,5 +88,7 @@ place_of cell = if cell == 0 then None else Some (cell - 1)
 -- The captures of the first `count` groups, from group 1 on, each by its two cells: start and end.
 abbrev pub cell_texts : (bytes cells : List ℕ) → (count : ℕ) → Captures
 cell_texts bytes cells count =
-    map (λ n. option_and_then (text_cut bytes) (both (place_of (slice_index cells (2 * n - 2))) (place_of (slice_index cells (2 * n - 1)))))
+    map (λ n.
+    option_and_then (text_cut bytes) (both (place_of (slice_index cells (2 * n - 2)))
+    (place_of (slice_index cells (2 * n - 1)))))
     (range_with_len 1 count)

@@ -25,12 +25,14 @@ state_in trial id = state_of trial.nfa.now id
 
 -- `IsReadable`, in the automaton of the trial.
 abbrev pub IsReadableIn : BoundedSearch → State → Type 0
-IsReadableIn trial state = IsReadable trial.nfa.now.transitions.items (vec_len trial.nfa.now.states) state
+IsReadableIn trial state =
+    IsReadable trial.nfa.now.transitions.items (vec_len trial.nfa.now.states) state
 
 -- The state to which this one goes on the byte at this position, if any.
 abbrev pub next_in : BoundedSearch → State → (at : ℕ) → Option ℕ
 next_in trial state at =
-    option_and_then (next_on trial.nfa.now.transitions.items state) (byte_below trial.bytes.now (length trial.bytes.now) at)
+    option_and_then (next_on trial.nfa.now.transitions.items state)
+    (byte_below trial.bytes.now (length trial.bytes.now) at)
 
 -- The preferred match from a state at this position.
 abbrev pub run_in : BoundedSearch → (id at : ℕ) → Option Trace
@@ -45,23 +47,28 @@ abbrev pub IsFoundEnd : Option Found → (cells : List ℕ) → (end : Option �
 IsFoundEnd found cells end = found_from_span (option_map (λ e. (0, e)) end) cells ≡ found
 
 -- A search from the state `next` at this position, with these cells, finds `found`.
-pub record GoesOn (trial : BoundedSearch) (found : Option Found) (cells : List ℕ) (next place : ℕ) : Type 0 where
+pub record GoesOn (trial : BoundedSearch) (found : Option Found) (cells : List ℕ) (next place : ℕ) :
+    Type 0 where
   pub is_state : IsState trial next
   pub is_place : IsTextPlace trial place
   pub same : found_from trial cells next place ≡ found
 
 -- A search from the first state, or from the second if the first has no match, finds `found`.
-pub record Chooses (trial : BoundedSearch) (found : Option Found) (cells : List ℕ) (first second place : ℕ) : Type 0 where
+pub record Chooses (trial : BoundedSearch) (found : Option Found) (cells : List ℕ)
+    (first second place : ℕ) : Type 0 where
   pub is_first : IsState trial first
   pub is_second : IsState trial second
   pub is_place : IsTextPlace trial place
-  pub same : found_from_trace 0 cells (option_or (run_in trial first place) (run_in trial second place)) ≡ found
+  pub same : found_from_trace 0 cells
+      (option_or (run_in trial first place) (run_in trial second place))
+      ≡ found
 
 -- The move leads to the match that is found.
 abbrev pub FollowsMove : BoundedSearch → Option Found → (cells : List ℕ) → StateMove → Type 0
 FollowsMove trial found cells (Continue next place) = GoesOn trial found cells next place
 FollowsMove trial found cells (ContinueByRest next place) = GoesOn trial found cells next place
-FollowsMove trial found cells (Choice first second place) = Chooses trial found cells first second place
+FollowsMove trial found cells (Choice first second place) =
+    Chooses trial found cells first second place
 FollowsMove trial found cells (Ends end) = IsFoundEnd found cells (Some end)
 FollowsMove trial found cells Fails = IsFoundEnd found cells None
 
@@ -78,8 +85,10 @@ pub record IsInSpan (trial : BoundedSearch) (span : ByteBounds) (at : ℕ) : Typ
 
 -- From the state there is no match at a position whose byte is outside the span.
 abbrev pub NeedsByte : BoundedSearch → ℕ → ByteBounds → Type 0
-NeedsByte trial id span = (at : ℕ) → at < length trial.bytes.now → ¬ IsInSpan trial span at → run_in trial id at ≡ None
+NeedsByte trial id span =
+    (at : ℕ) → at < length trial.bytes.now → ¬ IsInSpan trial span at → run_in trial id at ≡ None
 
 -- At each byte of the span, the match from the state is that from the other one after the byte.
 abbrev pub GoesRound : BoundedSearch → (id other : ℕ) → ByteBounds → Type 0
-GoesRound trial id other span = (at : ℕ) → IsInSpan trial span at → run_in trial id at ≡ run_in trial other (at + 1)
+GoesRound trial id other span =
+    (at : ℕ) → IsInSpan trial span at → run_in trial id at ≡ run_in trial other (at + 1)

@@ -8,18 +8,21 @@ use Rattle.urlpattern_syntax.specs.Text.{is_among}
 -- The grammar reads no pattern in the text, or one that is nested too deep.
 abbrev pub IsUnreadable : (ignore_case : Bool) → List ℕ → Type 0
 IsUnreadable ignore_case regexp =
-    let config = config_for ignore_case in IfSome (read config regexp) (λ (pattern, names). config.nest_limit < pattern.depth)
+    let config = config_for ignore_case in
+    IfSome (read config regexp) (λ (pattern, names). config.nest_limit < pattern.depth)
 
 -- The number so far, continued by the digits that the text begins with.
 abbrev pub number_from : ℕ → List ℕ → ℕ
 number_from number [] = number
-number_from number (c ∷ text) = if is_digit c 10 then number_from (number * 10 + digit_value c) text else number
+number_from number (c ∷ text) =
+    if is_digit c 10 then number_from (number * 10 + digit_value c) text else number
 
 -- A bound for the copies of a piece: the product of the numbers after a brace or comma, as in
 -- `{2,30}`.
 abbrev pub copies_in : List ℕ → ℕ
 copies_in [] = 1
-copies_in (c ∷ text) = (if is_among (codes "{,") c then max 1 (number_from 0 text) else 1) * copies_in text
+copies_in (c ∷ text) =
+    (if is_among (codes "{,") c then max 1 (number_from 0 text) else 1) * copies_in text
 
 -- A bound in bytes for a character. A backslash may begin a Unicode class.
 abbrev pub room_of : ℕ → ℕ

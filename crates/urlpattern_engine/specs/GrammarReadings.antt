@@ -21,16 +21,22 @@ re_result re groups text =
 
 -- Each value that was made with such flags returns the first match of what the grammar reads in the
 -- value's text, custom or not.
-abbrev pub ValuesReturnAsRead : {E : Type 0} → Engine E → (AreSuch : (flags : List ℕ) → Type 0) → Type 0
+abbrev pub ValuesReturnAsRead : {E : Type 0} → Engine E
+    → (AreSuch : (flags : List ℕ) → Type 0) → Type 0
 ValuesReturnAsRead {E} engine AreSuch =
     (regexp flags : List ℕ) (value : E) → AreSuch flags → engine.IsMade value regexp flags
     → IfSome (read default_config regexp) (λ (pattern, names).
-    (text : List ℕ) → IsTrue (all_scalars text) → engine.answer value text ≡ re_result pattern.value (length names) text)
+    (text : List ℕ) → IsTrue (all_scalars text)
+    → engine.answer value text ≡ re_result pattern.value (length names) text)
 
 -- Two values made of the regular expression of the same parts return the same for each text of
 -- characters, if case is kept or no part is custom.
 abbrev pub ExpressionsReturnAlike : {E : Type 0} → Engine E → Type 0
 ExpressionsReturnAlike {E} engine =
-    (options : OptionsView) (parts : List PartView) (value other : E) (text : List ℕ) → (options.ignore_case ≡ false) ⊎ AreGenerated parts →
-    engine.IsMade value (regexp_text options parts) (engine_flags options) → engine.IsMade other (regexp_text options parts) (engine_flags options) →
+    (options : OptionsView) (parts : List PartView) (value other : E) (text : List ℕ)
+    → (options.ignore_case ≡ false) ⊎ AreGenerated parts
+    →
+    engine.IsMade value (regexp_text options parts) (engine_flags options)
+    → engine.IsMade other (regexp_text options parts) (engine_flags options)
+    →
     IsTrue (all_scalars text) → engine.answer value text ≡ engine.answer other text

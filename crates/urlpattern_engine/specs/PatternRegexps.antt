@@ -28,21 +28,28 @@ expression_text (LazyRegex text) = text_of text
 -- The result of an expression for a text.
 abbrev pub expression_result : (ignore_case : Bool) → Strategy → List ℕ → Option Captures
 expression_result ignore_case (Steps own) text = walk ignore_case own.value.steps.items text
-expression_result ignore_case (LazySteps generated) text = first_way_by ignore_case generated.tree.0 text
+expression_result ignore_case (LazySteps generated) text =
+    first_way_by ignore_case generated.tree.0 text
 expression_result ignore_case (Automaton automaton) text = automaton_result automaton.value.nfa text
 expression_result ignore_case (Regex regex) text = regex_result regex.value text
-expression_result ignore_case (LazyRegex regexp) text = read_result ignore_case (text_of regexp) text
+expression_result ignore_case (LazyRegex regexp) text =
+    read_result ignore_case (text_of regexp) text
 
 -- The expression was made of the text: steps of the text; or the text alone, if it is generated
 -- from parts without custom ones; or otherwise an automaton, a `Regex`, or the text alone, in which
 -- the grammar reads a pattern.
 abbrev pub IsExpressionOf : (ignore_case : Bool) → (regexp : List ℕ) → Strategy → Type 0
-IsExpressionOf ignore_case regexp (Steps own) = (text_of own.value.text ≡ regexp) × AreStepsOf regexp own.value.steps.items
+IsExpressionOf ignore_case regexp (Steps own) =
+    (text_of own.value.text ≡ regexp) × AreStepsOf regexp own.value.steps.items
 IsExpressionOf ignore_case regexp (LazySteps generated) = text_of generated.text ≡ regexp
 IsExpressionOf ignore_case regexp (Automaton automaton) =
-    (text_of automaton.value.text ≡ regexp) × IsNfaOf ignore_case (string_bytes automaton.value.text) automaton.value.nfa × ¬ IsGenerated regexp
-IsExpressionOf ignore_case regexp (Regex regex) = IsRegexReadAs ignore_case regexp regex.value × ¬ IsGenerated regexp
-IsExpressionOf ignore_case regexp (LazyRegex text) = (text_of text ≡ regexp) × IsSome (read (config_for ignore_case) regexp) × ¬ IsGenerated regexp
+    (text_of automaton.value.text ≡ regexp)
+    × IsNfaOf ignore_case (string_bytes automaton.value.text) automaton.value.nfa
+    × ¬ IsGenerated regexp
+IsExpressionOf ignore_case regexp (Regex regex) =
+    IsRegexReadAs ignore_case regexp regex.value × ¬ IsGenerated regexp
+IsExpressionOf ignore_case regexp (LazyRegex text) =
+    (text_of text ≡ regexp) × IsSome (read (config_for ignore_case) regexp) × ¬ IsGenerated regexp
 
 -- The text that a value was made of.
 abbrev pub pattern_regexp_text : PatternRegexp → List ℕ
@@ -63,7 +70,8 @@ abbrev pub pattern_engine : Engine PatternRegexp
 pattern_engine = record {
   syntax_of = Rust;
   IsMade = λ value regexp flags. IsPatternRegexpOf regexp flags value;
-  MayReject = λ regexp flags force_eval. (¬ IsGenerated regexp) × HasFault (ignores_case flags) regexp;
+  MayReject =
+      λ regexp flags force_eval. (¬ IsGenerated regexp) × HasFault (ignores_case flags) regexp;
   answer = pattern_result;
   text_made_of = pattern_regexp_text;
 }

@@ -91,7 +91,10 @@ impl BoundedSearch<'_> {
     #[inline(always)]
     fn sparse_bytes(&self, from: usize, to: usize, byte: u8, other: StateId) -> Option<ByteBounds>
         requires { IsSparseRange self.now.nfa.now.transitions.items from to }
-        ensures { IfSome result (λ span. (b : ℕ) → span.low ≤ b → b ≤ span.high → target_in (slice_range self.now.nfa.now.transitions.items from to) b ≡ Some other) }
+        ensures { IfSome result (λ span.
+            (b : ℕ) → span.low ≤ b
+            → b ≤ span.high
+            → target_in (slice_range self.now.nfa.now.transitions.items from to) b ≡ Some other) }
     {
         'transitions: for k in from..to {
             let t = self.nfa.transitions[k];
@@ -217,7 +220,8 @@ impl BoundedSearch<'_> {
     pub(crate) fn next(&self, state: State, at: usize) -> Option<StateId>
         requires { IsReadableIn self.now state }
         ensures is { result ≡ next_in self.now state at }
-        ensures within { IfSome result (λ q. IsState self.now q × (at < length self.now.bytes.now)) }
+        ensures within { IfSome result (λ q.
+            IsState self.now q × (at < length self.now.bytes.now)) }
     {
         if at < self.bytes.len() {
             self.nfa.next_on(state, self.bytes[at])

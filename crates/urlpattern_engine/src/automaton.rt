@@ -53,8 +53,10 @@ impl Automaton {
         regexp: &str,
         ignore_case: bool,
     ) -> Result<Option<Automaton>, RegExpError>
-        ensures text { IfOk result (λ made. IfSome made (λ automaton. string_bytes automaton.text ≡ regexp.now)) }
-        ensures made { IfOk result (λ made. IfSome made (λ automaton. IsNfaOf ignore_case regexp.now automaton.nfa)) }
+        ensures text { IfOk result (λ made. IfSome made (λ automaton.
+            string_bytes automaton.text ≡ regexp.now)) }
+        ensures made { IfOk result (λ made. IfSome made (λ automaton.
+            IsNfaOf ignore_case regexp.now automaton.nfa)) }
         ensures refused { result ≡ Err Pattern → HasFault ignore_case (chars regexp.now) }
     {
         let Parsed { hir, names } = read_expression(alloc, regexp, ignore_case)?;
@@ -79,7 +81,8 @@ impl Automaton {
         alloc: Global,
         text: &'t str,
     ) -> Result<Option<Vec<Option<&'t str>>>, OutOfMemory>
-        ensures { IfOk result (λ found. captures_view found ≡ automaton_result self.now.nfa (chars text.now)) }
+        ensures { IfOk result (λ found.
+            captures_view found ≡ automaton_result self.now.nfa (chars text.now)) }
     {
         let count = self.nfa.slot_count as usize - 2;
         match AutomatonSearch::of(text, count) {
@@ -98,7 +101,8 @@ impl Automaton {
         count: usize,
     ) -> Result<Option<Vec<Option<&'t str>>>, OutOfMemory>
         requires { (count ≡ self.now.nfa.slot_count - 2) × (count ≤ 8) }
-        ensures { IfOk result (λ found. captures_view found ≡ automaton_result self.now.nfa (chars text.now)) }
+        ensures { IfOk result (λ found.
+            captures_view found ≡ automaton_result self.now.nfa (chars text.now)) }
     {
         let trial = BoundedSearch {
             nfa: &self.nfa,
@@ -121,7 +125,8 @@ impl Automaton {
         count: usize,
     ) -> Result<Option<Vec<Option<&'t str>>>, OutOfMemory>
         requires { count ≡ self.now.nfa.slot_count - 2 }
-        ensures { IfOk result (λ found. captures_view found ≡ automaton_result self.now.nfa (chars text.now)) }
+        ensures { IfOk result (λ found.
+            captures_view found ≡ automaton_result self.now.nfa (chars text.now)) }
     {
         let mut cells = vec![in alloc; 0usize; count]?;
         self.matches_in(alloc, text, &mut cells)
@@ -136,7 +141,8 @@ impl Automaton {
         cells: &mut [usize],
     ) -> Result<Option<Vec<Option<&'t str>>>, OutOfMemory>
         requires { length cells.old ≡ self.now.nfa.slot_count - 2 }
-        ensures { IfOk result (λ found. captures_view found ≡ automaton_result self.now.nfa (chars text.now)) }
+        ensures { IfOk result (λ found.
+            captures_view found ≡ automaton_result self.now.nfa (chars text.now)) }
     {
         if self.search(alloc, text.as_bytes(), cells)? {
             Ok(Some(groups(alloc, text, cells)?))
@@ -151,8 +157,10 @@ impl Automaton {
     /// If the visited set would need too many bits, the bytes are searched in one pass.
     fn search(&self, alloc: Global, bytes: &[u8], cells: &mut [usize]) -> Result<bool, OutOfMemory>
         requires { length cells.old ≤ self.now.nfa.slot_count - 2 }
-        ensures found { IfOk result (λ is_match. is_match ≡ is_some (match_at_start self.now.nfa bytes.now)) }
-        ensures cells { OnOk result (IfSome (match_at_start self.now.nfa bytes.now) (λ found. cells.new ≡ group_cells found (length cells.old))) }
+        ensures found { IfOk result (λ is_match.
+            is_match ≡ is_some (match_at_start self.now.nfa bytes.now)) }
+        ensures cells { OnOk result (IfSome (match_at_start self.now.nfa bytes.now) (λ found.
+            cells.new ≡ group_cells found (length cells.old))) }
     {
         let end = bytes.len();
         match Backtracker::new(alloc).find(&self.nfa, bytes, 0, 0, end, cells) {
@@ -173,7 +181,8 @@ pub(crate) fn read_expression(
     regexp: &str,
     ignore_case: bool,
 ) -> Result<Parsed, RegExpError>
-    ensures read { IfOk result (λ parsed. Reads (config_for ignore_case) regexp.now parsed.hir (names_of parsed.names.items)) }
+    ensures read { IfOk result (λ parsed.
+        Reads (config_for ignore_case) regexp.now parsed.hir (names_of parsed.names.items)) }
     ensures formed { IfOk result (λ parsed. IsWellFormed true parsed.hir) }
     ensures refused { result ≡ Err Pattern → IsUnreadable ignore_case (chars regexp.now) }
 {
@@ -268,7 +277,8 @@ fn groups<'t>(
     text: &'t str,
     cells: &[usize],
 ) -> Result<Vec<Option<&'t str>>, OutOfMemory>
-    ensures { IfOk result (λ groups. map option_text groups.items ≡ cell_texts text.now cells.now (length cells.now / 2)) }
+    ensures { IfOk result (λ groups.
+        map option_text groups.items ≡ cell_texts text.now cells.now (length cells.now / 2)) }
 {
     let count = cells.len() / 2;
     let mut groups = Vec::with_capacity(alloc, count)?;
@@ -280,7 +290,8 @@ fn groups<'t>(
 
 /// Returns the capture of a group by its two cells.
 fn group(text: &str, first: usize, last: usize) -> Option<&str>
-    ensures { option_text result ≡ option_and_then (text_cut text.now) (both (place_of first) (place_of last)) }
+    ensures { option_text result
+        ≡ option_and_then (text_cut text.now) (both (place_of first) (place_of last)) }
 {
     let start = first.checked_sub(1)?;
     let end = last.checked_sub(1)?;

@@ -55,7 +55,10 @@ impl BoundedSearch<'_> {
     ///
     /// The error is that the search was given up.
     pub(crate) fn find(&self) -> Result<Option<[usize; FEW]>, BudgetExceeded>
-        ensures { IfOk result (λ cells. cells ≡ option_map (λ found. group_cells found 8) (match_at_start self.now.nfa.now self.now.bytes.now)) }
+        ensures { IfOk result (λ cells.
+            cells
+            ≡ option_map (λ found. group_cells found 8)
+            (match_at_start self.now.nfa.now self.now.bytes.now)) }
     {
         let mut cells = [0usize; FEW];
         let mut budget = self
@@ -85,7 +88,8 @@ impl BoundedSearch<'_> {
     ) -> Result<Option<usize>, BudgetExceeded>
         requires state { IsState self.now state }
         requires place { IsTextPlace self.now at }
-        ensures found { IfOk result (IsFoundEnd (found_from self.now cells.old state at) cells.new) }
+        ensures found { IfOk result
+            (IsFoundEnd (found_from self.now cells.old state at) cells.new) }
         ensures fewer { budget.new ≤ budget.old }
     {
         let mut id = state;
@@ -135,7 +139,8 @@ impl BoundedSearch<'_> {
     ) -> Result<Option<usize>, BudgetExceeded>
         requires state { IsState self.now state }
         requires place { IsTextPlace self.now at }
-        ensures found { IfOk result (IsFoundEnd (found_from self.now cells.old state at) cells.new) }
+        ensures found { IfOk result
+            (IsFoundEnd (found_from self.now cells.old state at) cells.new) }
         ensures kept { IfOk result (λ end. IfNone end (cells.new ≡ cells.old)) }
         ensures fewer { budget.new ≤ budget.old }
     {

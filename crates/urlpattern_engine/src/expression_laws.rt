@@ -47,13 +47,15 @@ pub fn values_of_one_expression_answer_alike()
 /// parts has a value if it needs one, and a component that was compiled to such parts has one.
 pub fn pattern_regexps_take_each_generated_text()
     ensures matcher { MatchersAcceptGenerated pattern_engine }
-    ensures component { (syntax : RegexSyntax) → ComponentsAcceptGenerated (record pattern_engine { syntax_of = syntax }) }
+    ensures component { (syntax : RegexSyntax)
+        → ComponentsAcceptGenerated (record pattern_engine { syntax_of = syntax }) }
 {}
 
 /// A matcher that the engine made with the flags of its options returns the first match of the tree
 /// of the parts in backtracking order: a meaning of the parts, or `None` if they have none. There
 /// is no premise on the engine. All matchers of the same parts return the same.
 pub fn matchers_by_pattern_regexp_answer_the_first_way()
-    ensures first { EachReturnsFirst pattern_engine (λ options flags inner. FlagsAgree options flags) }
+    ensures first { EachReturnsFirst pattern_engine (λ options flags inner.
+        FlagsAgree options flags) }
     ensures one { AllReturnAlike pattern_engine (λ options flags inner. FlagsAgree options flags) }
 {}

@@ -31,7 +31,8 @@ impl BoundedSearch<'_> {
         requires choice { state_in self.now id ≡ states.Split first second }
         requires states { IsState self.now first × IsState self.now second }
         requires place { IsTextPlace self.now at }
-        ensures { (cells : List ℕ) → FollowsMove self.now (found_from self.now cells id at) cells result }
+        ensures { (cells : List ℕ)
+            → FollowsMove self.now (found_from self.now cells id at) cells result }
     {
         let Passed {
             place,
@@ -159,7 +160,8 @@ impl BoundedSearch<'_> {
         leaving: ByteBounds,
         at: usize,
     ) -> usize
-        requires choice { (state_in self.now id ≡ states.Split body exit) ⊎ (state_in self.now id ≡ states.Split exit body) }
+        requires choice { (state_in self.now id ≡ states.Split body exit)
+            ⊎ (state_in self.now id ≡ states.Split exit body) }
         requires goes { GoesRound self.now body id inside }
         requires leaves { NeedsByte self.now exit leaving }
         requires place { IsTextPlace self.now at }

@@ -198,7 +198,8 @@ impl Strategy {
 /// The error says whether `regex` rejects the expression or memory ran out.
 fn compiled(alloc: Global, pattern: &str, ignore_case: bool) -> Result<Strategy, RegExpError>
     ensures refused { result ≡ Err Pattern → HasFault ignore_case (chars pattern.now) }
-    ensures made { IfOk result (λ made. ¬ IsGenerated (chars pattern.now) → IsExpressionOf ignore_case (chars pattern.now) made) }
+    ensures made { IfOk result (λ made.
+        ¬ IsGenerated (chars pattern.now) → IsExpressionOf ignore_case (chars pattern.now) made) }
 {
     match Automaton::new(alloc, pattern, ignore_case)? {
         Some(automaton) => Ok(Strategy::Automaton(boxed(alloc, automaton)?)),

@@ -38,16 +38,22 @@ abbrev pub c_options : (ignore_case : Bool) → UrlPatternOptions
 c_options ignores = record { regex_syntax = Rust; ignore_case = ignores }
 
 -- The constructor string with this base URL is compiled to the pattern.
-abbrev pub IsCompiledFromText : (text : List ℕ) → (base : Option (List ℕ)) → (ignore_case : Bool) → UrlPattern PatternRegexp → Type 0
-IsCompiledFromText text base ignores pattern = IsPatternOfText pattern_engine (chars text) base (c_options ignores) (pattern_view pattern)
+abbrev pub IsCompiledFromText : (text : List ℕ) → (base : Option (List ℕ))
+    → (ignore_case : Bool) → UrlPattern PatternRegexp → Type 0
+IsCompiledFromText text base ignores pattern =
+    IsPatternOfText pattern_engine (chars text) base (c_options ignores) (pattern_view pattern)
 
 -- The pattern keeps the parts that the component texts of the constructor string read as.
-abbrev pub KeepsItsParts : (text : List ℕ) → (base : Option (List ℕ)) → (ignore_case : Bool) → UrlPattern PatternRegexp → Type 0
-KeepsItsParts text base ignores pattern = KeepsPartsOfText pattern_engine (chars text) base (c_options ignores) pattern
+abbrev pub KeepsItsParts : (text : List ℕ) → (base : Option (List ℕ))
+    → (ignore_case : Bool) → UrlPattern PatternRegexp → Type 0
+KeepsItsParts text base ignores pattern =
+    KeepsPartsOfText pattern_engine (chars text) base (c_options ignores) pattern
 
 -- The constructor string with this base URL is rejected with this error.
-abbrev pub RejectsCompilation : (text : List ℕ) → (base : Option (List ℕ)) → (ignore_case : Bool) → ErrorView → Type 0
-RejectsCompilation text base ignores = RejectsPatternOfText pattern_engine (chars text) base (c_options ignores)
+abbrev pub RejectsCompilation : (text : List ℕ) → (base : Option (List ℕ))
+    → (ignore_case : Bool) → ErrorView → Type 0
+RejectsCompilation text base ignores =
+    RejectsPatternOfText pattern_engine (chars text) base (c_options ignores)
 
 -- The status for an error with which a pattern is rejected.
 abbrev pub error_status : ErrorView → Status
@@ -55,20 +61,23 @@ error_status views.OutOfMemory = statuses.OutOfMemory
 error_status error = statuses.Refused
 
 -- The pattern is appended, or memory ran out and the patterns are unchanged.
-abbrev pub IsPushed : (old : List (UrlPattern PatternRegexp)) → UrlPattern PatternRegexp → (new : List (UrlPattern PatternRegexp)) → Status → Type 0
+abbrev pub IsPushed : (old : List (UrlPattern PatternRegexp)) → UrlPattern PatternRegexp
+    → (new : List (UrlPattern PatternRegexp)) → Status → Type 0
 IsPushed old pattern new statuses.Done = new ≡ old ++ pattern ∷ []
 IsPushed old pattern new statuses.OutOfMemory = new ≡ old
 IsPushed old pattern new status = ⊥
 
 -- The constructor string with this base URL is compiled, and its pattern, which keeps its parts, is
 -- appended. Otherwise the patterns are unchanged.
-abbrev pub IsAdded : (old : List (UrlPattern PatternRegexp)) → (text base : List ℕ) → (ignore_case : Bool) → (new : List (UrlPattern PatternRegexp)) → Status → Type 0
+abbrev pub IsAdded : (old : List (UrlPattern PatternRegexp)) → (text base : List ℕ)
+    → (ignore_case : Bool) → (new : List (UrlPattern PatternRegexp)) → Status → Type 0
 IsAdded old text base ignores new statuses.Done =
     (pattern : UrlPattern PatternRegexp) × IsCompiledFromText text (given_base base) ignores pattern
     × KeepsItsParts text (given_base base) ignores pattern × (new ≡ old ++ pattern ∷ [])
 IsAdded old text base ignores new statuses.Refused =
     (error : ErrorView) × RejectsCompilation text (given_base base) ignores error × (new ≡ old)
-IsAdded old text base ignores new statuses.NotUtf8 = ((¬ IsUtf8 text) ⊎ (¬ IsUtf8 base)) × (new ≡ old)
+IsAdded old text base ignores new statuses.NotUtf8 =
+    ((¬ IsUtf8 text) ⊎ (¬ IsUtf8 base)) × (new ≡ old)
 IsAdded old text base ignores new statuses.OutOfMemory = new ≡ old
 IsAdded old text base ignores new status = ⊥
 
@@ -89,26 +98,36 @@ IsNoUrl text base status = ⊥
 
 -- Whether the pattern matches the URL. A text that is not a URL does not match.
 abbrev pub IsUrlTested : PatternView PatternRegexp → (text base : List ℕ) → Status → Type 0
-IsUrlTested pattern text base statuses.Done = (url : Parts) × IsUrlUnderBase text base url × HasMatch pattern_result pattern (match_inputs.Url url)
+IsUrlTested pattern text base statuses.Done =
+    (url : Parts) × IsUrlUnderBase text base url
+    × HasMatch pattern_result pattern (match_inputs.Url url)
 IsUrlTested pattern text base statuses.NoMatch =
     IsNoUrl text base statuses.NoMatch
-    ⊎ ((url : Parts) × IsUrlUnderBase text base url × HasNoMatch pattern_result pattern (match_inputs.Url url))
+    ⊎ ((url : Parts) × IsUrlUnderBase text base url
+    × HasNoMatch pattern_result pattern (match_inputs.Url url))
 IsUrlTested pattern text base status = IsNoUrl text base status
 
 -- Whether the pattern at an index matches the URL.
-abbrev pub IsTested : List (UrlPattern PatternRegexp) → (index : ℕ) → (text base : List ℕ) → Status → Type 0
+abbrev pub IsTested : List (UrlPattern PatternRegexp) → (index : ℕ) → (text base : List ℕ) → Status
+    → Type 0
 IsTested patterns index text base statuses.NoPattern = slice_get patterns index ≡ None
 IsTested patterns index text base status =
-    (pattern : UrlPattern PatternRegexp) × (slice_get patterns index ≡ Some pattern) × IsUrlTested (pattern_view pattern) text base status
+    (pattern : UrlPattern PatternRegexp) × (slice_get patterns index ≡ Some pattern)
+    × IsUrlTested (pattern_view pattern) text base status
 
 -- The first pattern that matches the URL, or none.
-abbrev pub IsFirstReported : List (UrlPattern PatternRegexp) → (text base : List ℕ) → (old new : ℕ) → Status → Type 0
+abbrev pub IsFirstReported : List (UrlPattern PatternRegexp) → (text base : List ℕ) → (old new : ℕ)
+    → Status → Type 0
 IsFirstReported patterns text base old new statuses.Done =
     (url : Parts) × IsUrlUnderBase text base url
-    × ((result : ComponentName → ResultView) × IsFirstMatch pattern_result (patterns_view patterns) (match_inputs.Url url) (Some (new, result)))
+    × ((result : ComponentName → ResultView)
+    × IsFirstMatch pattern_result (patterns_view patterns) (match_inputs.Url url)
+    (Some (new, result)))
 IsFirstReported patterns text base old new statuses.NoMatch =
     (new ≡ old)
     × (IsNoUrl text base statuses.NoMatch
-    ⊎ ((url : Parts) × IsUrlUnderBase text base url × IsFirstMatch pattern_result (patterns_view patterns) (match_inputs.Url url) None))
+    ⊎
+    ((url : Parts) × IsUrlUnderBase text base url
+    × IsFirstMatch pattern_result (patterns_view patterns) (match_inputs.Url url) None))
 IsFirstReported patterns text base old new statuses.NoPattern = (new ≡ old) × (patterns ≡ [])
 IsFirstReported patterns text base old new status = (new ≡ old) × IsNoUrl text base status

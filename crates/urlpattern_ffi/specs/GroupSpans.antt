@@ -32,12 +32,16 @@ abbrev pub NumberedGroup : Type 0
 NumberedGroup = ComponentName × ℕ × Option (List ℕ)
 
 -- The groups of a component, numbered from an index on.
-abbrev pub numbered : ComponentName → (from : ℕ) → List (List ℕ × Option (List ℕ)) → List NumberedGroup
+abbrev pub numbered : ComponentName → (from : ℕ) → List (List ℕ × Option (List ℕ))
+    → List NumberedGroup
 numbered component from [] = []
-numbered component from (group ∷ groups) = (component, from, group.1) ∷ numbered component (from + 1) groups
+numbered component from (group ∷ groups) =
+    (component, from, group.1) ∷ numbered component (from + 1) groups
 
 -- The groups of these components, each component's numbered from 0 on.
-abbrev pub numbered_groups : (groups : ComponentName → List (List ℕ × Option (List ℕ))) → List ComponentName → List NumberedGroup
+abbrev pub numbered_groups : (groups : ComponentName → List (List ℕ × Option (List ℕ)))
+    → List ComponentName
+    → List NumberedGroup
 numbered_groups groups names = flat_map (λ name. numbered name 0 (groups name)) names
 
 -- The groups of a match, in the order of the components.
@@ -45,7 +49,8 @@ abbrev pub found_groups : UrlPatternCaptures → List NumberedGroup
 found_groups found = numbered_groups (groups_view found) components
 
 -- The groups are those of a match of the URL, in the order of the components.
-pub record AreGroupsOf (pattern : PatternView PatternRegexp) (url base : List ℕ) (groups : List NumberedGroup) : Type 0 where
+pub record AreGroupsOf (pattern : PatternView PatternRegexp) (url base : List ℕ)
+    (groups : List NumberedGroup) : Type 0 where
   pub parts : Parts
   pub captures : ComponentName → List (List ℕ × Option (List ℕ))
   pub is_url : IsUrlUnderBase url base parts
@@ -75,7 +80,8 @@ span_at start group = record {
 -- The spans of groups whose texts follow each other from `start` on.
 abbrev pub spans_from : (start : ℕ) → List NumberedGroup → List GroupSpan
 spans_from start [] = []
-spans_from start (group ∷ groups) = span_at start group ∷ spans_from (start + length (capture_bytes group.2)) groups
+spans_from start (group ∷ groups) =
+    span_at start group ∷ spans_from (start + length (capture_bytes group.2)) groups
 
 -- The sizes before anything is written.
 abbrev pub no_sizes : Sizes
@@ -83,36 +89,48 @@ no_sizes = record { bytes = 0; spans = 0 }
 
 -- The sizes that groups need.
 abbrev pub sizes_of : List NumberedGroup → Sizes
-sizes_of groups = record { bytes = length (texts_of_groups groups); spans = length (spans_from 0 groups) }
+sizes_of groups = record {
+  bytes = length (texts_of_groups groups);
+  spans = length (spans_from 0 groups);
+}
 
 -- ---- buffers
 
 -- If the elements fit into the list from `at` on, they are written there, and the rest is
 -- unchanged.
 abbrev pub IsWrittenAt : {A : Type 0} → (at : ℕ) → (added old new : List A) → Type 0
-IsWrittenAt at added old new = at + length added ≤ length old → new ≡ take at old ++ added ++ drop (at + length added) old
+IsWrittenAt at added old new =
+    at + length added ≤ length old → new ≡ take at old ++ added ++ drop (at + length added) old
 
 -- The texts and the spans of the groups are written after the sizes `from`, as far as there is
 -- room.
-pub record AreWrittenAt (groups : List NumberedGroup) (from to : Sizes) (old new : List ℕ) (old_spans new_spans : List GroupSpan) : Type 0 where
+pub record AreWrittenAt (groups : List NumberedGroup) (from to : Sizes) (old new : List ℕ)
+    (old_spans new_spans : List GroupSpan) : Type 0 where
   pub bytes : to.bytes ≡ from.bytes + length (texts_of_groups groups)
   pub spans : to.spans ≡ from.spans + length (spans_from from.bytes groups)
   pub texts_put : IsWrittenAt from.bytes (texts_of_groups groups) old new
   pub spans_put : IsWrittenAt from.spans (spans_from from.bytes groups) old_spans new_spans
 
 -- A group is written after the sizes `from`.
-abbrev pub IsGroupWrittenAt : ComponentName → (group : ℕ) → (capture : Option (List ℕ)) → (from to : Sizes) → (old new : List ℕ)
+abbrev pub IsGroupWrittenAt : ComponentName → (group : ℕ) → (capture : Option (List ℕ))
+    → (from to : Sizes) → (old new : List ℕ)
     → (old_spans new_spans : List GroupSpan) → Type 0
-IsGroupWrittenAt component group capture from to old new old_spans new_spans = AreWrittenAt ((component, group, capture) ∷ []) from to old new old_spans new_spans
+IsGroupWrittenAt component group capture from to old new old_spans new_spans =
+    AreWrittenAt ((component, group, capture) ∷ []) from to old new old_spans new_spans
 
 -- The list begins with these elements, and the rest is unchanged.
 abbrev pub BeginsWithElements : {A : Type 0} → (elements old new : List A) → Type 0
-BeginsWithElements elements old new = (length elements ≤ length old) × (new ≡ elements ++ drop (length elements) old)
+BeginsWithElements elements old new =
+    (length elements ≤ length old) × (new ≡ elements ++ drop (length elements) old)
 
 -- Done: the texts and the spans of the groups are written. TooSmall: there is no room for both.
-abbrev pub AreSpansWritten : List NumberedGroup → (old new : List ℕ) → (old_spans new_spans : List GroupSpan) → (needed : Sizes) → Status → Type 0
+abbrev pub AreSpansWritten : List NumberedGroup
+    → (old new : List ℕ) → (old_spans new_spans : List GroupSpan) → (needed : Sizes) → Status
+    → Type 0
 AreSpansWritten groups old new old_spans new_spans needed statuses.Done =
-    (needed ≡ sizes_of groups) × BeginsWithElements (texts_of_groups groups) old new × BeginsWithElements (spans_from 0 groups) old_spans new_spans
+    (needed ≡ sizes_of groups)
+    × BeginsWithElements (texts_of_groups groups) old new
+    × BeginsWithElements (spans_from 0 groups) old_spans new_spans
 AreSpansWritten groups old new old_spans new_spans needed statuses.TooSmall =
     (needed ≡ sizes_of groups) × ((length old < needed.bytes) ⊎ (length old_spans < needed.spans))
 AreSpansWritten groups old new old_spans new_spans needed statuses.OutOfMemory = Unit {0}
@@ -121,18 +139,22 @@ AreSpansWritten groups old new old_spans new_spans needed status = ⊥
 -- ---- matches
 
 -- The groups of the match are written, or there is no match.
-abbrev pub AreUrlCaptures : PatternView PatternRegexp → (url base : List ℕ) → (old new : List ℕ) → (old_spans new_spans : List GroupSpan) → (needed : Sizes)
+abbrev pub AreUrlCaptures : PatternView PatternRegexp → (url base : List ℕ) → (old new : List ℕ)
+    → (old_spans new_spans : List GroupSpan) → (needed : Sizes)
     → Status → Type 0
 AreUrlCaptures pattern url base old new old_spans new_spans needed statuses.Done =
-    (groups : List NumberedGroup) × AreGroupsOf pattern url base groups × AreSpansWritten groups old new old_spans new_spans needed statuses.Done
+    (groups : List NumberedGroup) × AreGroupsOf pattern url base groups
+    × AreSpansWritten groups old new old_spans new_spans needed statuses.Done
 AreUrlCaptures pattern url base old new old_spans new_spans needed statuses.TooSmall =
-    (groups : List NumberedGroup) × AreGroupsOf pattern url base groups × AreSpansWritten groups old new old_spans new_spans needed statuses.TooSmall
+    (groups : List NumberedGroup) × AreGroupsOf pattern url base groups
+    × AreSpansWritten groups old new old_spans new_spans needed statuses.TooSmall
 AreUrlCaptures pattern url base old new old_spans new_spans needed statuses.OutOfMemory = Unit {0}
 AreUrlCaptures pattern url base old new old_spans new_spans needed status =
     IsUrlTested pattern url base status × (new ≡ old) × (new_spans ≡ old_spans)
 
 -- The captures of the pattern at an index.
-abbrev pub AreCapturesReported : PatternList → (index : ℕ) → (url base : List ℕ) → (old new : List ℕ) → (old_spans new_spans : List GroupSpan)
+abbrev pub AreCapturesReported : PatternList → (index : ℕ) → (url base : List ℕ)
+    → (old new : List ℕ) → (old_spans new_spans : List GroupSpan)
     → (needed : Sizes) → Status → Type 0
 AreCapturesReported patterns index url base old new old_spans new_spans needed statuses.NoPattern =
     (slice_get patterns index ≡ None) × (new ≡ old) × (new_spans ≡ old_spans)
@@ -143,32 +165,42 @@ AreCapturesReported patterns index url base old new old_spans new_spans needed s
 -- ---- first matches
 
 -- The groups of the first pattern of the list that matches the URL, which has this index.
-pub record AreFirstGroupsOf (patterns : PatternList) (url base : List ℕ) (index : ℕ) (groups : List NumberedGroup) : Type 0 where
+pub record AreFirstGroupsOf (patterns : PatternList) (url base : List ℕ) (index : ℕ)
+    (groups : List NumberedGroup) : Type 0 where
   pub parts : Parts
   pub pattern : PatternView PatternRegexp
   pub result : ComponentName → ResultView
   pub captures : ComponentName → List (List ℕ × Option (List ℕ))
   pub is_url : IsUrlUnderBase url base parts
   pub is_there : slice_get (patterns_view patterns) index ≡ Some pattern
-  pub is_first : IsFirstMatch pattern_result (patterns_view patterns) (match_inputs.Url parts) (Some (index, result))
+  pub is_first : IsFirstMatch pattern_result (patterns_view patterns) (match_inputs.Url parts)
+      (Some (index, result))
   pub are_captures : AreGroupsInOrder pattern_result pattern (texts_of_url parts) captures
   pub are_groups : groups ≡ numbered_groups captures components
 
 -- The index of the first match and its groups are written, or there is no match.
-abbrev pub AreFirstCaptures : PatternList → (url base : List ℕ) → (old_index new_index : ℕ) → (old new : List ℕ) → (old_spans new_spans : List GroupSpan)
+abbrev pub AreFirstCaptures : PatternList → (url base : List ℕ) → (old_index new_index : ℕ)
+    → (old new : List ℕ) → (old_spans new_spans : List GroupSpan)
     → (needed : Sizes) → Status → Type 0
-AreFirstCaptures patterns url base old_index new_index old new old_spans new_spans needed statuses.Done =
+AreFirstCaptures patterns url base old_index new_index old new old_spans new_spans needed
+    statuses.Done =
     (groups : List NumberedGroup) × AreFirstGroupsOf patterns url base new_index groups
     × AreSpansWritten groups old new old_spans new_spans needed statuses.Done
-AreFirstCaptures patterns url base old_index new_index old new old_spans new_spans needed statuses.TooSmall =
+AreFirstCaptures patterns url base old_index new_index old new old_spans new_spans needed
+    statuses.TooSmall =
     (groups : List NumberedGroup) × AreFirstGroupsOf patterns url base new_index groups
     × AreSpansWritten groups old new old_spans new_spans needed statuses.TooSmall
-AreFirstCaptures patterns url base old_index new_index old new old_spans new_spans needed statuses.OutOfMemory = Unit {0}
+AreFirstCaptures patterns url base old_index new_index old new old_spans new_spans needed
+    statuses.OutOfMemory = Unit {0}
 AreFirstCaptures patterns url base old_index new_index old new old_spans new_spans needed status =
-    IsFirstReported patterns url base old_index new_index status × (new ≡ old) × (new_spans ≡ old_spans)
+    IsFirstReported patterns url base old_index new_index status
+    × (new ≡ old)
+    × (new_spans ≡ old_spans)
 
 -- The first match of the patterns of a handle.
-abbrev pub AreFirstInBox : Option (Box PatternBox Global) → (url base : List ℕ) → (old_index new_index : ℕ) → (old new : List ℕ)
+abbrev pub AreFirstInBox : Option (Box PatternBox Global)
+    → (url base : List ℕ) → (old_index new_index : ℕ) → (old new : List ℕ)
     → (old_spans new_spans : List GroupSpan) → (needed : Sizes) → Status → Type 0
 AreFirstInBox kept url base old_index new_index old new old_spans new_spans needed status =
-    AreFirstCaptures (boxed_patterns kept) url base old_index new_index old new old_spans new_spans needed status
+    AreFirstCaptures (boxed_patterns kept) url base old_index new_index old new old_spans new_spans
+    needed status

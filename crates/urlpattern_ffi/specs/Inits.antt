@@ -32,27 +32,34 @@ pub record IsInitOfJson (json : List ℕ) (init : UrlPatternInit) : Type 0 where
 
 -- `url` rejects the base URL in the JSON.
 abbrev pub HasRejectedBase : (json : List ℕ) → ErrorView → Type 0
-HasRejectedBase json error = (plain : PlainInit) × (plain_init_of json ≡ Some (init_view plain)) × RejectsInput (inputs.Init plain) None error
+HasRejectedBase json error =
+    (plain : PlainInit) × (plain_init_of json ≡ Some (init_view plain))
+    × RejectsInput (inputs.Init plain) None error
 
 -- The reason why the JSON is not an init.
 abbrev pub IsNoInit : (json : List ℕ) → Status → Type 0
 IsNoInit json statuses.NotUtf8 = ¬ IsUtf8 json
-IsNoInit json statuses.Refused = (plain_init_of json ≡ None) ⊎ ((error : ErrorView) × HasRejectedBase json error)
+IsNoInit json statuses.Refused =
+    (plain_init_of json ≡ None) ⊎ ((error : ErrorView) × HasRejectedBase json error)
 IsNoInit json statuses.OutOfMemory = Unit {0}
 IsNoInit json status = ⊥
 
 -- The init is rejected with this error.
 abbrev pub IsInitRejected : (json : List ℕ) → (ignore_case : Bool) → ErrorView → Type 0
-IsInitRejected json ignores error = (init : UrlPatternInit) × IsInitOfJson json init × RejectsInit pattern_engine init (c_options ignores) error
+IsInitRejected json ignores error =
+    (init : UrlPatternInit) × IsInitOfJson json init
+    × RejectsInit pattern_engine init (c_options ignores) error
 
 -- The init is compiled, and its pattern, which keeps its parts, is appended. Otherwise the patterns
 -- are unchanged.
-abbrev pub IsInitAdded : (old : PatternList) → (json : List ℕ) → (ignore_case : Bool) → (new : PatternList) → Status → Type 0
+abbrev pub IsInitAdded : (old : PatternList) → (json : List ℕ)
+    → (ignore_case : Bool) → (new : PatternList) → Status → Type 0
 IsInitAdded old json ignores new statuses.Done =
     (init : UrlPatternInit) × (pattern : UrlPattern PatternRegexp) × IsInitOfJson json init
     × IsPatternOfInit pattern_engine init (c_options ignores) (pattern_view pattern)
     × KeepsPartsOf pattern_engine init (c_options ignores) pattern × (new ≡ old ++ pattern ∷ [])
 IsInitAdded old json ignores new statuses.Refused =
-    (IsNoInit json statuses.Refused ⊎ ((error : ErrorView) × IsInitRejected json ignores error)) × (new ≡ old)
+    (IsNoInit json statuses.Refused ⊎ ((error : ErrorView) × IsInitRejected json ignores error))
+    × (new ≡ old)
 IsInitAdded old json ignores new statuses.OutOfMemory = new ≡ old
 IsInitAdded old json ignores new status = IsNoInit json status × (new ≡ old)

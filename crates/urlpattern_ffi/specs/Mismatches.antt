@@ -31,31 +31,43 @@ component_number names.Search = 6
 component_number names.Hash = 7
 
 -- The number is that of the first component that does not match the URL.
-abbrev pub IsMismatchNumber : PatternView PatternRegexp → (text base : List ℕ) → (number : ℕ) → Type 0
+abbrev pub IsMismatchNumber : PatternView PatternRegexp → (text base : List ℕ) → (number : ℕ)
+    → Type 0
 IsMismatchNumber pattern text base number =
-    (url : Parts) × (name : ComponentName) × IsUrlUnderBase text base url × (slice_get components number ≡ Some name)
+    (url : Parts) × (name : ComponentName)
+    × IsUrlUnderBase text base url
+    × (slice_get components number ≡ Some name)
     × FindsMismatch pattern_result pattern (texts_of_url url) (Some name)
 
 -- Done: each component matches. NoMatch: the first one that does not match is reported, or none if
 -- the text is not a URL.
-abbrev pub IsUrlMismatched : PatternView PatternRegexp → (text base : List ℕ) → (number : ℕ) → Status → Type 0
+abbrev pub IsUrlMismatched : PatternView PatternRegexp → (text base : List ℕ) → (number : ℕ)
+    → Status → Type 0
 IsUrlMismatched pattern text base number statuses.Done =
-    (number ≡ no_component) × ((url : Parts) × IsUrlUnderBase text base url × FindsMismatch pattern_result pattern (texts_of_url url) None)
+    (number ≡ no_component)
+    × ((url : Parts) × IsUrlUnderBase text base url
+    × FindsMismatch pattern_result pattern (texts_of_url url) None)
 IsUrlMismatched pattern text base number statuses.NoMatch =
-    ((number ≡ no_component) × IsNoUrl text base statuses.NoMatch) ⊎ IsMismatchNumber pattern text base number
+    ((number ≡ no_component) × IsNoUrl text base statuses.NoMatch)
+    ⊎ IsMismatchNumber pattern text base number
 IsUrlMismatched pattern text base number status = (number ≡ no_component) × IsNoUrl text base status
 
 -- The first component of the pattern at an index that does not match.
-abbrev pub IsMismatchReported : PatternList → (index : ℕ) → (text base : List ℕ) → (number : ℕ) → Status → Type 0
-IsMismatchReported patterns index text base number statuses.NoPattern = (slice_get patterns index ≡ None) × (number ≡ no_component)
+abbrev pub IsMismatchReported : PatternList → (index : ℕ) → (text base : List ℕ)
+    → (number : ℕ) → Status → Type 0
+IsMismatchReported patterns index text base number statuses.NoPattern =
+    (slice_get patterns index ≡ None) × (number ≡ no_component)
 IsMismatchReported patterns index text base number status =
-    (pattern : UrlPattern PatternRegexp) × (slice_get patterns index ≡ Some pattern) × IsUrlMismatched (pattern_view pattern) text base number status
+    (pattern : UrlPattern PatternRegexp) × (slice_get patterns index ≡ Some pattern)
+    × IsUrlMismatched (pattern_view pattern) text base number status
 
 -- Whether the pattern at an index has a custom regular expression.
 abbrev pub IsCustomReported : PatternList → (index : ℕ) → Status → Type 0
 IsCustomReported patterns index statuses.NoPattern = slice_get patterns index ≡ None
 IsCustomReported patterns index statuses.Done =
-    (pattern : UrlPattern PatternRegexp) × (slice_get patterns index ≡ Some pattern) × (has_regexp_groups (pattern_view pattern) ≡ true)
+    (pattern : UrlPattern PatternRegexp) × (slice_get patterns index ≡ Some pattern)
+    × (has_regexp_groups (pattern_view pattern) ≡ true)
 IsCustomReported patterns index statuses.NoMatch =
-    (pattern : UrlPattern PatternRegexp) × (slice_get patterns index ≡ Some pattern) × (has_regexp_groups (pattern_view pattern) ≡ false)
+    (pattern : UrlPattern PatternRegexp) × (slice_get patterns index ≡ Some pattern)
+    × (has_regexp_groups (pattern_view pattern) ≡ false)
 IsCustomReported patterns index status = ⊥

@@ -15,26 +15,36 @@ use Rattle.urlpattern_compare.specs.declared.pattern_parts.{Parting.Parting, Pat
 
 -- Eight texts tell the two patterns apart, in the component with this number.
 abbrev pub IsPartedIn : (number : ℕ) → (parts asked : PatternParts) → Type 0
-IsPartedIn number parts asked = (parting : Parting) × IsParting parts asked parting × (number ≡ component_number parting.component)
+IsPartedIn number parts asked =
+    (parting : Parting) × IsParting parts asked parting
+    × (number ≡ component_number parting.component)
 
 -- Whether the pattern covers the asked one is not known, because of the component with this number.
 abbrev pub IsUnknownIn : (number : ℕ) → (parts asked : PatternParts) → Type 0
-IsUnknownIn number parts asked = (name : ComponentName) × (reason : Reason) × IsReasonIn parts asked name reason × (number ≡ component_number name)
+IsUnknownIn number parts asked =
+    (name : ComponentName) × (reason : Reason)
+    × IsReasonIn parts asked name reason
+    × (number ≡ component_number name)
 
 -- Done: by their parts, the pattern covers the asked one. NoMatch: it does not, and a component in
 -- which they differ is reported. Unknown: it is not known, because of the component that is
 -- reported, or because a pattern has no parts.
 abbrev pub AreCompared : (pattern asked : UrlPattern PatternRegexp) → (number : ℕ) → Status → Type 0
-AreCompared pattern asked number statuses.Done = (number ≡ no_component) × OfBoth pattern asked IsCovered
+AreCompared pattern asked number statuses.Done =
+    (number ≡ no_component) × OfBoth pattern asked IsCovered
 AreCompared pattern asked number statuses.NoMatch = OfBoth pattern asked (IsPartedIn number)
-AreCompared pattern asked number statuses.Unknown = OfBoth pattern asked (IsUnknownIn number) ⊎ ((number ≡ no_component) × LackParts pattern asked NoParts)
+AreCompared pattern asked number statuses.Unknown =
+    OfBoth pattern asked (IsUnknownIn number)
+    ⊎ ((number ≡ no_component) × LackParts pattern asked NoParts)
 AreCompared pattern asked number statuses.OutOfMemory = number ≡ no_component
 AreCompared pattern asked number status = ⊥
 
 -- The comparison of the pattern at `index` with the one at `asked`, which may be in another list.
-abbrev pub IsCoveringReported : PatternList → (index : ℕ) → (others : PatternList) → (asked : ℕ) → (number : ℕ) → Status → Type 0
+abbrev pub IsCoveringReported : PatternList → (index : ℕ) → (others : PatternList)
+    → (asked : ℕ) → (number : ℕ) → Status → Type 0
 IsCoveringReported patterns index others asked number statuses.NoPattern =
     ((slice_get patterns index ≡ None) ⊎ (slice_get others asked ≡ None)) × (number ≡ no_component)
 IsCoveringReported patterns index others asked number status =
-    (pattern other : UrlPattern PatternRegexp) × (slice_get patterns index ≡ Some pattern) × (slice_get others asked ≡ Some other)
+    (pattern other : UrlPattern PatternRegexp) × (slice_get patterns index ≡ Some pattern)
+    × (slice_get others asked ≡ Some other)
     × AreCompared pattern other number status

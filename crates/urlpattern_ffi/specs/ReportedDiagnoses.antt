@@ -32,11 +32,16 @@ init_subject_number (subjects.Component name) = 2 + component_number name
 
 -- The place of the fault, in the text with this number.
 abbrev pub place_of_diagnosis : (subject : ℕ) → Diagnosis → Place
-place_of_diagnosis subject diagnosis = record { subject = subject; start = diagnosis.fault.span.start; end = diagnosis.fault.span.end }
+place_of_diagnosis subject diagnosis = record {
+  subject = subject;
+  start = diagnosis.fault.span.start;
+  end = diagnosis.fault.span.end;
+}
 
 -- The reason and the place are those of a diagnosis that shows the fault, whose error is one with
 -- which the pattern is rejected, and whose place is within its text.
-pub record IsDiagnosis (Refuses : ErrorView → Type 0) (Shows : Diagnosis → Type 0) (number : Subject → ℕ) (place : Place) (reason : List ℕ) : Type 0 where
+pub record IsDiagnosis (Refuses : ErrorView → Type 0) (Shows : Diagnosis → Type 0)
+    (number : Subject → ℕ) (place : Place) (reason : List ℕ) : Type 0 where
   pub diagnosis : Diagnosis
   pub is_refused : Refuses (error_view diagnosis.error)
   pub shows : Shows diagnosis
@@ -46,33 +51,44 @@ pub record IsDiagnosis (Refuses : ErrorView → Type 0) (Shows : Diagnosis → T
 
 -- The errors with which the constructor string is rejected.
 abbrev pub RejectsTextByOptions : (text base : List ℕ) → (ignore_case : Bool) → ErrorView → Type 0
-RejectsTextByOptions text base ignores error = RejectsCompilation text (given_base base) ignores error
+RejectsTextByOptions text base ignores error =
+    RejectsCompilation text (given_base base) ignores error
 
 -- The reason and the place are those of a diagnosis of the constructor string.
-abbrev pub IsDiagnosisOfText : (text base : List ℕ) → (ignore_case : Bool) → Place → (reason : List ℕ) → Type 0
+abbrev pub IsDiagnosisOfText : (text base : List ℕ) → (ignore_case : Bool) → Place
+    → (reason : List ℕ) → Type 0
 IsDiagnosisOfText text base ignores =
-    IsDiagnosis (RejectsTextByOptions text base ignores) (ShowsGiven pattern_engine text (given_base base) (c_options ignores)) subject_number
+    IsDiagnosis (RejectsTextByOptions text base ignores)
+    (ShowsGiven pattern_engine text (given_base base) (c_options ignores)) subject_number
 
 -- The diagnosis shows the fault of an init in JSON.
 abbrev pub ShowsInitOfJson : (json : List ℕ) → (ignore_case : Bool) → Diagnosis → Type 0
-ShowsInitOfJson json ignores diagnosis = (init : UrlPatternInit) × IsInitOfJson json init × ShowsInit pattern_engine init (c_options ignores) diagnosis
+ShowsInitOfJson json ignores diagnosis =
+    (init : UrlPatternInit) × IsInitOfJson json init
+    × ShowsInit pattern_engine init (c_options ignores) diagnosis
 
 -- The reason and the place are those of a diagnosis of an init in JSON.
-abbrev pub IsDiagnosisOfInit : (json : List ℕ) → (ignore_case : Bool) → Place → (reason : List ℕ) → Type 0
-IsDiagnosisOfInit json ignores = IsDiagnosis (IsInitRejected json ignores) (ShowsInitOfJson json ignores) init_subject_number
+abbrev pub IsDiagnosisOfInit : (json : List ℕ) → (ignore_case : Bool) → Place
+    → (reason : List ℕ) → Type 0
+IsDiagnosisOfInit json ignores =
+    IsDiagnosis (IsInitRejected json ignores) (ShowsInitOfJson json ignores) init_subject_number
 
 -- Done: the reason why the pattern is rejected is written. NoMatch: it is not rejected.
-abbrev pub IsDiagnosed : (text base : List ℕ) → (ignore_case : Bool) → (old new : List ℕ) → (needed : ℕ) → Place → Status → Type 0
+abbrev pub IsDiagnosed : (text base : List ℕ) → (ignore_case : Bool)
+    → (old new : List ℕ) → (needed : ℕ) → Place → Status → Type 0
 IsDiagnosed text base ignores old new needed place statuses.Done =
     WritesToBuffer (IsDiagnosisOfText text base ignores place) old new needed statuses.Done
 IsDiagnosed text base ignores old new needed place statuses.TooSmall =
     WritesToBuffer (IsDiagnosisOfText text base ignores place) old new needed statuses.TooSmall
 IsDiagnosed text base ignores old new needed place statuses.NoMatch =
-    ((pattern : PatternView PatternRegexp) × IsPatternOfText pattern_engine (chars text) (given_base base) (c_options ignores) pattern) × (new ≡ old)
+    ((pattern : PatternView PatternRegexp)
+    × IsPatternOfText pattern_engine (chars text) (given_base base) (c_options ignores) pattern)
+    × (new ≡ old)
 IsDiagnosed text base ignores old new needed place status = IsNoUrl text base status × (new ≡ old)
 
 -- Done: the reason why the init is rejected is written. NoMatch: it is not rejected.
-abbrev pub IsInitDiagnosed : (json : List ℕ) → (ignore_case : Bool) → (old new : List ℕ) → (needed : ℕ) → Place → Status → Type 0
+abbrev pub IsInitDiagnosed : (json : List ℕ) → (ignore_case : Bool)
+    → (old new : List ℕ) → (needed : ℕ) → Place → Status → Type 0
 IsInitDiagnosed json ignores old new needed place statuses.Done =
     WritesToBuffer (IsDiagnosisOfInit json ignores place) old new needed statuses.Done
 IsInitDiagnosed json ignores old new needed place statuses.TooSmall =

@@ -23,42 +23,54 @@ use Rattle.urlpattern_pattern.specs.UrlPatterns.{UrlPattern}
 -- Done: the buffer begins with the text, and the rest is unchanged. TooSmall: the text is longer
 -- than the buffer, which is unchanged.
 abbrev pub IsWrittenTo : (text old new : List ℕ) → Status → Type 0
-IsWrittenTo text old new statuses.Done = (length text ≤ length old) × (new ≡ text ++ drop (length text) old)
+IsWrittenTo text old new statuses.Done =
+    (length text ≤ length old) × (new ≡ text ++ drop (length text) old)
 IsWrittenTo text old new statuses.TooSmall = (length old < length text) × (new ≡ old)
 IsWrittenTo text old new status = ⊥
 
 -- A text for which `IsText` is true is written, of `needed` bytes.
-abbrev pub WritesToBuffer : (IsText : List ℕ → Type 0) → (old new : List ℕ) → (needed : ℕ) → Status → Type 0
-WritesToBuffer IsText old new needed status = (text : List ℕ) × IsText text × (needed ≡ length text) × IsWrittenTo text old new status
+abbrev pub WritesToBuffer : (IsText : List ℕ → Type 0) → (old new : List ℕ) → (needed : ℕ) → Status
+    → Type 0
+WritesToBuffer IsText old new needed status =
+    (text : List ℕ) × IsText text × (needed ≡ length text) × IsWrittenTo text old new status
 
 -- ---- components
 
 -- The pattern text of a component, given its number.
-abbrev pub IsTextOfComponent : List (UrlPattern PatternRegexp) → (index component : ℕ) → (text : List ℕ) → Type 0
+abbrev pub IsTextOfComponent : List (UrlPattern PatternRegexp)
+    → (index component : ℕ) → (text : List ℕ) → Type 0
 IsTextOfComponent patterns index component text =
-    (pattern : UrlPattern PatternRegexp) × (name : ComponentName) × (slice_get patterns index ≡ Some pattern) × (slice_get components component ≡ Some name)
+    (pattern : UrlPattern PatternRegexp) × (name : ComponentName)
+    × (slice_get patterns index ≡ Some pattern)
+    × (slice_get components component ≡ Some name)
     × (chars text ≡ (pattern_view pattern name).pattern_string)
 
 -- The pattern text of a component is written. NoPattern: there is no such pattern or component.
-abbrev pub IsComponentWritten : List (UrlPattern PatternRegexp) → (index component : ℕ) → (old new : List ℕ) → (needed : ℕ) → Status → Type 0
+abbrev pub IsComponentWritten : List (UrlPattern PatternRegexp)
+    → (index component : ℕ) → (old new : List ℕ) → (needed : ℕ) → Status → Type 0
 IsComponentWritten patterns index component old new needed statuses.NoPattern =
     ((slice_get patterns index ≡ None) ⊎ (slice_get components component ≡ None)) × (new ≡ old)
-IsComponentWritten patterns index component old new needed status = WritesToBuffer (IsTextOfComponent patterns index component) old new needed status
+IsComponentWritten patterns index component old new needed status =
+    WritesToBuffer (IsTextOfComponent patterns index component) old new needed status
 
 -- ---- names of groups
 
 -- The name of a group, given its number in a component.
 abbrev pub group_name_at : PatternList → (index component group : ℕ) → Option (List ℕ)
 group_name_at patterns index component group =
-    option_and_then (λ pattern. option_and_then (λ name. slice_get (pattern_view pattern name).group_name_list group) (slice_get components component))
+    option_and_then (λ pattern.
+    option_and_then (λ name. slice_get (pattern_view pattern name).group_name_list group)
+    (slice_get components component))
     (slice_get patterns index)
 
 -- The name of a group is written. NoPattern: there is no such group.
-abbrev pub IsGroupNameWritten : PatternList → (index component group : ℕ) → (old new : List ℕ) → (needed : ℕ) → Status → Type 0
+abbrev pub IsGroupNameWritten : PatternList → (index component group : ℕ) → (old new : List ℕ)
+    → (needed : ℕ) → Status → Type 0
 IsGroupNameWritten patterns index component group old new needed statuses.NoPattern =
     (group_name_at patterns index component group ≡ None) × (new ≡ old)
 IsGroupNameWritten patterns index component group old new needed status =
-    WritesToBuffer (λ text. Some (chars text) ≡ group_name_at patterns index component group) old new needed status
+    WritesToBuffer (λ text. Some (chars text) ≡ group_name_at patterns index component group) old
+    new needed status
 
 -- ---- matches
 
@@ -68,25 +80,33 @@ IsTextOf tree text = depth tree ≤ max_depth → read text ≡ Some tree
 
 -- The text is the JSON of the result.
 abbrev pub IsResultText : UrlPatternResult → (text : List ℕ) → Type 0
-IsResultText result text = (tree : Data) × IsResultTree (plain_results_view result) tree × IsTextOf tree text
+IsResultText result text =
+    (tree : Data) × IsResultTree (plain_results_view result) tree × IsTextOf tree text
 
 -- The text is the JSON of the pattern's match of the URL.
-pub record IsJsonOfMatch (pattern : PatternView PatternRegexp) (url base text : List ℕ) : Type 0 where
-  pub parts : Parts
-  pub result : UrlPatternResult
-  pub is_url : IsUrlUnderBase url base parts
-  pub is_match : IsMatch pattern_result pattern (match_inputs.Url parts) (result_view result)
-  pub is_text : IsResultText result text
+pub record IsJsonOfMatch (pattern : PatternView PatternRegexp) (url base text : List ℕ) : Type 0
+  where
+    pub parts : Parts
+    pub result : UrlPatternResult
+    pub is_url : IsUrlUnderBase url base parts
+    pub is_match : IsMatch pattern_result pattern (match_inputs.Url parts) (result_view result)
+    pub is_text : IsResultText result text
 
 -- The match of the URL is written, or there is no match.
-abbrev pub IsUrlExecuted : PatternView PatternRegexp → (url base : List ℕ) → (old new : List ℕ) → (needed : ℕ) → Status → Type 0
-IsUrlExecuted pattern url base old new needed statuses.Done = WritesToBuffer (IsJsonOfMatch pattern url base) old new needed statuses.Done
-IsUrlExecuted pattern url base old new needed statuses.TooSmall = WritesToBuffer (IsJsonOfMatch pattern url base) old new needed statuses.TooSmall
-IsUrlExecuted pattern url base old new needed status = IsUrlTested pattern url base status × (new ≡ old)
+abbrev pub IsUrlExecuted : PatternView PatternRegexp → (url base : List ℕ) → (old new : List ℕ)
+    → (needed : ℕ) → Status → Type 0
+IsUrlExecuted pattern url base old new needed statuses.Done =
+    WritesToBuffer (IsJsonOfMatch pattern url base) old new needed statuses.Done
+IsUrlExecuted pattern url base old new needed statuses.TooSmall =
+    WritesToBuffer (IsJsonOfMatch pattern url base) old new needed statuses.TooSmall
+IsUrlExecuted pattern url base old new needed status =
+    IsUrlTested pattern url base status × (new ≡ old)
 
 -- The match by the pattern at an index.
-abbrev pub IsExecReported : List (UrlPattern PatternRegexp) → (index : ℕ) → (url base : List ℕ) → (old new : List ℕ) → (needed : ℕ) → Status → Type 0
-IsExecReported patterns index url base old new needed statuses.NoPattern = (slice_get patterns index ≡ None) × (new ≡ old)
+abbrev pub IsExecReported : List (UrlPattern PatternRegexp) → (index : ℕ) → (url base : List ℕ)
+    → (old new : List ℕ) → (needed : ℕ) → Status → Type 0
+IsExecReported patterns index url base old new needed statuses.NoPattern =
+    (slice_get patterns index ≡ None) × (new ≡ old)
 IsExecReported patterns index url base old new needed status =
     (pattern : UrlPattern PatternRegexp) × (slice_get patterns index ≡ Some pattern)
     × IsUrlExecuted (pattern_view pattern) url base old new needed status

@@ -19,33 +19,46 @@ SaysWhy reason text = IfSome (no_link_text reason) (λ words. text ≡ words)
 
 -- Refused: the reason why there is no URL is written. TooSmall: there is no room for it.
 abbrev pub IsReasonWritten : NoLink → (old new : List ℕ) → (needed : ℕ) → Status → Type 0
-IsReasonWritten reason old new needed statuses.Refused = WritesToBuffer (SaysWhy reason) old new needed statuses.Done
-IsReasonWritten reason old new needed statuses.TooSmall = WritesToBuffer (SaysWhy reason) old new needed statuses.TooSmall
+IsReasonWritten reason old new needed statuses.Refused =
+    WritesToBuffer (SaysWhy reason) old new needed statuses.Done
+IsReasonWritten reason old new needed statuses.TooSmall =
+    WritesToBuffer (SaysWhy reason) old new needed statuses.TooSmall
 IsReasonWritten reason old new needed statuses.OutOfMemory = new ≡ old
 IsReasonWritten reason old new needed status = ⊥
 
 -- `written` is the URL of the pattern with the groups that `given` cuts out of `text`.
-abbrev pub IsTextOfLink : UrlPattern PatternRegexp → (text : List ℕ) → List GivenBytes → (written : List ℕ) → Type 0
-IsTextOfLink pattern text given written = (url : Parts) × IsLinkOfBytes pattern text given url × (written ≡ serialize url)
+abbrev pub IsTextOfLink : UrlPattern PatternRegexp → (text : List ℕ) → List GivenBytes
+    → (written : List ℕ) → Type 0
+IsTextOfLink pattern text given written =
+    (url : Parts) × IsLinkOfBytes pattern text given url × (written ≡ serialize url)
 
 -- `written` says why the pattern has no URL with the groups that `given` cuts out of `text`.
-abbrev pub IsTextOfNoLink : UrlPattern PatternRegexp → (text : List ℕ) → List GivenBytes → (written : List ℕ) → Type 0
-IsTextOfNoLink pattern text given written = (reason : NoLink) × RejectsLinkOfBytes pattern text given reason × SaysWhy reason written
+abbrev pub IsTextOfNoLink : UrlPattern PatternRegexp → (text : List ℕ) → List GivenBytes
+    → (written : List ℕ) → Type 0
+IsTextOfNoLink pattern text given written =
+    (reason : NoLink) × RejectsLinkOfBytes pattern text given reason × SaysWhy reason written
 
 -- Done: the URL is written. Refused: the reason why there is none is written. TooSmall: there is no
 -- room for the URL or the reason.
-abbrev pub IsUrlLinked : UrlPattern PatternRegexp → (text : List ℕ) → List GivenBytes → (old new : List ℕ) → (needed : ℕ) → Status → Type 0
-IsUrlLinked pattern text given old new needed statuses.Done = WritesToBuffer (IsTextOfLink pattern text given) old new needed statuses.Done
-IsUrlLinked pattern text given old new needed statuses.Refused = WritesToBuffer (IsTextOfNoLink pattern text given) old new needed statuses.Done
+abbrev pub IsUrlLinked : UrlPattern PatternRegexp → (text : List ℕ) → List GivenBytes
+    → (old new : List ℕ) → (needed : ℕ) → Status → Type 0
+IsUrlLinked pattern text given old new needed statuses.Done =
+    WritesToBuffer (IsTextOfLink pattern text given) old new needed statuses.Done
+IsUrlLinked pattern text given old new needed statuses.Refused =
+    WritesToBuffer (IsTextOfNoLink pattern text given) old new needed statuses.Done
 IsUrlLinked pattern text given old new needed statuses.TooSmall =
-    WritesToBuffer (λ written. IsTextOfLink pattern text given written ⊎ IsTextOfNoLink pattern text given written) old new needed statuses.TooSmall
-IsUrlLinked pattern text given old new needed statuses.NoPattern = Any (GivesNothing text) given × (new ≡ old)
+    WritesToBuffer (λ written.
+    IsTextOfLink pattern text given written ⊎ IsTextOfNoLink pattern text given written) old new
+    needed statuses.TooSmall
+IsUrlLinked pattern text given old new needed statuses.NoPattern =
+    Any (GivesNothing text) given × (new ≡ old)
 IsUrlLinked pattern text given old new needed statuses.OutOfMemory = new ≡ old
 IsUrlLinked pattern text given old new needed status = ⊥
 
 -- The outcome for the pattern at an index. NoPattern: there is no pattern, or a part of the text
 -- gives no group.
-abbrev pub IsLinkReported : PatternList → (index : ℕ) → (text : List ℕ) → List GivenBytes → (old new : List ℕ) → (needed : ℕ) → Status → Type 0
+abbrev pub IsLinkReported : PatternList → (index : ℕ) → (text : List ℕ) → List GivenBytes
+    → (old new : List ℕ) → (needed : ℕ) → Status → Type 0
 IsLinkReported patterns index text given old new needed statuses.NoPattern =
     ((slice_get patterns index ≡ None) ⊎ Any (GivesNothing text) given) × (new ≡ old)
 IsLinkReported patterns index text given old new needed status =

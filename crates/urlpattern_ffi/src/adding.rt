@@ -19,7 +19,8 @@ pub fn add(
     base: &[u8],
     ignore_case: bool,
 ) -> Status
-    ensures { IsAdded (boxed_patterns kept.old) text.now base.now ignore_case (boxed_patterns kept.new) result }
+    ensures { IsAdded (boxed_patterns kept.old) text.now base.now ignore_case
+        (boxed_patterns kept.new) result }
 {
     let Ok(text) = str::from_utf8(text) else {
         return Status::NotUtf8;
@@ -61,9 +62,11 @@ fn compiled(
     base: Option<&str>,
     ignore_case: bool,
 ) -> Result<UrlPattern<PatternRegexp>, Error>
-    ensures compiled { IfOk result (IsCompiledFromText text.now (option_copied base.entry) ignore_case) }
+    ensures compiled { IfOk result
+        (IsCompiledFromText text.now (option_copied base.entry) ignore_case) }
     ensures kept { IfOk result (KeepsItsParts text.now (option_copied base.entry) ignore_case) }
-    ensures refused { IfErr result (MemoryOr (RejectsCompilation text.now (option_copied base.entry) ignore_case)) }
+    ensures refused { IfErr result
+        (MemoryOr (RejectsCompilation text.now (option_copied base.entry) ignore_case)) }
 {
     UrlPattern::from_constructor_string(alloc, text, base, options(ignore_case))
 }

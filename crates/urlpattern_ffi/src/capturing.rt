@@ -41,7 +41,8 @@ fn pattern_captures(
     spans: &mut [GroupSpan],
     needed: &mut Sizes,
 ) -> Status
-    ensures { AreUrlCaptures (pattern_view pattern.now) url.now base.now buffer.old buffer.new spans.old spans.new needed.new result }
+    ensures { AreUrlCaptures (pattern_view pattern.now) url.now base.now buffer.old buffer.new
+        spans.old spans.new needed.new result }
 {
     let url = match url_of(alloc, url, base) {
         Ok(url) => url,
@@ -66,7 +67,8 @@ pub fn first_captures(
     spans: &mut [GroupSpan],
     needed: &mut Sizes,
 ) -> Status
-    ensures { AreFirstInBox kept.now url.now base.now index.old index.new buffer.old buffer.new spans.old spans.new needed.new result }
+    ensures { AreFirstInBox kept.now url.now base.now index.old index.new buffer.old buffer.new
+        spans.old spans.new needed.new result }
 {
     match kept {
         Some(kept) => list_captures(alloc, &kept.list, url, base, index, buffer, spans, needed),
@@ -86,7 +88,8 @@ fn list_captures(
     spans: &mut [GroupSpan],
     needed: &mut Sizes,
 ) -> Status
-    ensures { AreFirstCaptures list.now url.now base.now index.old index.new buffer.old buffer.new spans.old spans.new needed.new result }
+    ensures { AreFirstCaptures list.now url.now base.now index.old index.new buffer.old buffer.new
+        spans.old spans.new needed.new result }
 {
     let url = match url_of(alloc, url, base) {
         Ok(url) => url,

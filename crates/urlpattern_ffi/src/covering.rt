@@ -23,7 +23,8 @@ pub fn covers(
     asked: usize,
     component: &mut u32,
 ) -> Status
-    ensures { IsCoveringReported (boxed_patterns kept.now) index (boxed_patterns others.now) asked component.new result }
+    ensures { IsCoveringReported (boxed_patterns kept.now) index (boxed_patterns others.now) asked
+        component.new result }
 {
     *component = NO_COMPONENT;
     let pattern = match pattern_at(kept, index) {

@@ -36,7 +36,8 @@ pub fn diagnose(
     needed: &mut usize,
     place: &mut Place,
 ) -> Status
-    ensures { IsDiagnosed text.now base.now ignore_case buffer.old buffer.new needed.new place.new result }
+    ensures { IsDiagnosed text.now base.now ignore_case buffer.old buffer.new needed.new place.new
+        result }
 {
     let Ok(text) = str::from_utf8(text) else {
         return Status::NotUtf8;
@@ -64,7 +65,8 @@ pub fn diagnose_init(
     needed: &mut usize,
     place: &mut Place,
 ) -> Status
-    ensures { IsInitDiagnosed json.now ignore_case buffer.old buffer.new needed.new place.new result }
+    ensures { IsInitDiagnosed json.now ignore_case buffer.old buffer.new needed.new place.new
+        result }
 {
     let init = match init_of(alloc, json) {
         Ok(init) => init,

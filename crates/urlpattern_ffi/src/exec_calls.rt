@@ -58,7 +58,8 @@ pub fn first(
     base: &[u8],
     index: &mut usize,
 ) -> Status
-    ensures { IsFirstReported (boxed_patterns kept.now) url.now base.now index.old index.new result }
+    ensures { IsFirstReported (boxed_patterns kept.now) url.now base.now index.old index.new
+        result }
 {
     match kept {
         Some(kept) => first_in(alloc, &kept.list, url, base, index),
@@ -101,7 +102,8 @@ pub fn execute(
     buffer: &mut [u8],
     needed: &mut usize,
 ) -> Status
-    ensures { IsExecReported (boxed_patterns kept.now) index url.now base.now buffer.old buffer.new needed.new result }
+    ensures { IsExecReported (boxed_patterns kept.now) index url.now base.now buffer.old buffer.new
+        needed.new result }
 {
     match pattern_at(kept, index) {
         Some(pattern) => execute_pattern(alloc, pattern, url, base, buffer, needed),
@@ -118,7 +120,8 @@ fn execute_pattern(
     buffer: &mut [u8],
     needed: &mut usize,
 ) -> Status
-    ensures { IsUrlExecuted (pattern_view pattern.now) url.now base.now buffer.old buffer.new needed.new result }
+    ensures { IsUrlExecuted (pattern_view pattern.now) url.now base.now buffer.old buffer.new
+        needed.new result }
 {
     match match_text(alloc, pattern, url, base) {
         Ok(text) => write(&text, buffer, needed),
@@ -136,8 +139,10 @@ fn match_text(
     url: &[u8],
     base: &[u8],
 ) -> Result<String, Status>
-    ensures text { IfOk result (λ text. IsJsonOfMatch (pattern_view pattern.now) url.now base.now (string_bytes text)) }
-    ensures none { IfErr result (λ status. (status ≢ statuses.Done) × IsUrlTested (pattern_view pattern.now) url.now base.now status) }
+    ensures text { IfOk result (λ text.
+        IsJsonOfMatch (pattern_view pattern.now) url.now base.now (string_bytes text)) }
+    ensures none { IfErr result (λ status.
+        (status ≢ statuses.Done) × IsUrlTested (pattern_view pattern.now) url.now base.now status) }
 {
     let url = url_of(alloc, url, base)?;
     let found = match pattern.exec_url(alloc, &url) {

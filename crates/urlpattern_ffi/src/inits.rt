@@ -22,7 +22,8 @@ pub fn add_init(
     json: &[u8],
     ignore_case: bool,
 ) -> Status
-    ensures { IsInitAdded (boxed_patterns kept.old) json.now ignore_case (boxed_patterns kept.new) result }
+    ensures { IsInitAdded (boxed_patterns kept.old) json.now ignore_case (boxed_patterns kept.new)
+        result }
 {
     let init = match init_of(alloc, json) {
         Ok(init) => init,

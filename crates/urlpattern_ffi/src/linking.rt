@@ -21,7 +21,8 @@ pub fn link(
     buffer: &mut [u8],
     needed: &mut usize,
 ) -> Status
-    ensures { IsLinkReported (boxed_patterns kept.now) index text.now given.now buffer.old buffer.new needed.new result }
+    ensures { IsLinkReported (boxed_patterns kept.now) index text.now given.now buffer.old
+        buffer.new needed.new result }
 {
     match pattern_at(kept, index) {
         Some(pattern) => link_pattern(alloc, pattern, text, given, buffer, needed),

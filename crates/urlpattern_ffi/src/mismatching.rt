@@ -25,7 +25,8 @@ pub fn mismatch(
     base: &[u8],
     component: &mut u32,
 ) -> Status
-    ensures { IsMismatchReported (boxed_patterns kept.now) index url.now base.now component.new result }
+    ensures { IsMismatchReported (boxed_patterns kept.now) index url.now base.now component.new
+        result }
 {
     match pattern_at(kept, index) {
         Some(pattern) => pattern_mismatch(alloc, pattern, url, base, component),

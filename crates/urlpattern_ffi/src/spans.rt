@@ -43,7 +43,8 @@ pub(crate) fn write_groups(
     spans: &mut [GroupSpan],
     needed: &mut Sizes,
 ) -> Status
-    ensures { AreSpansWritten (found_groups found.now) buffer.old buffer.new spans.old spans.new needed.new result }
+    ensures { AreSpansWritten (found_groups found.now) buffer.old buffer.new spans.old spans.new
+        needed.new result }
 {
     let Some(sizes) = put_all(found, buffer, spans) else {
         return Status::OutOfMemory;
@@ -65,7 +66,9 @@ fn put_all(
     buffer: &mut [u8],
     spans: &mut [GroupSpan],
 ) -> Option<Sizes>
-    ensures { IfSome result (λ to. AreWrittenAt (found_groups found.now) no_sizes to buffer.old buffer.new spans.old spans.new) }
+    ensures { IfSome result (λ to.
+        AreWrittenAt (found_groups found.now) no_sizes to buffer.old buffer.new spans.old
+        spans.new) }
 {
     let mut sizes = Sizes { bytes: 0, spans: 0 };
     for name in ComponentName::all() {
@@ -83,8 +86,9 @@ fn put_groups(
     buffer: &mut [u8],
     spans: &mut [GroupSpan],
 ) -> Option<Sizes>
-    ensures { IfSome result (λ to. AreWrittenAt (numbered component 0 (groups_left groups.entry)) from to
-        buffer.old buffer.new spans.old spans.new) }
+    ensures { IfSome result (λ to.
+        AreWrittenAt (numbered component 0 (groups_left groups.entry)) from to buffer.old buffer.new
+        spans.old spans.new) }
 {
     let mut sizes = from;
     for (_, capture) in groups {
@@ -103,8 +107,9 @@ fn put_group(
     buffer: &mut [u8],
     spans: &mut [GroupSpan],
 ) -> Option<Sizes>
-    ensures { IfSome result (λ to. IsGroupWrittenAt component group (option_text capture.entry) from to
-        buffer.old buffer.new spans.old spans.new) }
+    ensures { IfSome result (λ to.
+        IsGroupWrittenAt component group (option_text capture.entry) from to buffer.old buffer.new
+        spans.old spans.new) }
 {
     let text = capture_bytes(capture);
     let bytes = put_text(text, from.bytes, buffer)?;

@@ -34,7 +34,8 @@ pub fn write_component(
     buffer: &mut [u8],
     needed: &mut usize,
 ) -> Status
-    ensures { IsComponentWritten (boxed_patterns kept.now) index component buffer.old buffer.new needed.new result }
+    ensures { IsComponentWritten (boxed_patterns kept.now) index component buffer.old buffer.new
+        needed.new result }
 {
     let Some(pattern) = pattern_at(kept, index) else {
         return Status::NoPattern;
@@ -61,7 +62,8 @@ pub fn write_group_name(
     buffer: &mut [u8],
     needed: &mut usize,
 ) -> Status
-    ensures { IsGroupNameWritten (boxed_patterns kept.now) index component group buffer.old buffer.new needed.new result }
+    ensures { IsGroupNameWritten (boxed_patterns kept.now) index component group buffer.old
+        buffer.new needed.new result }
 {
     match group_name(kept, index, component, group) {
         Some(name) => write(name, buffer, needed),

@@ -25,7 +25,8 @@ GroupOfBytes = ComponentName × Bor (List ℕ) × Bor (List ℕ)
 abbrev pub GivesGroup : (text : List ℕ) → GivenBytes → GroupOfBytes → Type 0
 GivesGroup text given group =
     (slice_get components given.component ≡ Some group.0)
-    × IsPart text given.name_start given.name_length group.1.now × IsPart text given.start given.length group.2.now
+    × IsPart text given.name_start given.name_length group.1.now
+    × IsPart text given.start given.length group.2.now
 
 -- The parts give no group.
 abbrev pub GivesNothing : (text : List ℕ) → GivenBytes → Type 0

@@ -15,18 +15,23 @@ use Rattle.urlpattern_generate.specs.declared.no_link.NoLink.{NoLink}
 use Rattle.urlpattern_generate.specs.declared.no_link.NoLink.TheVariants as no_link
 
 -- The URL is that of the pattern with these parts of the text for its groups.
-abbrev pub IsLinkOfBytes : UrlPattern PatternRegexp → (text : List ℕ) → List GivenBytes → Parts → Type 0
+abbrev pub IsLinkOfBytes : UrlPattern PatternRegexp → (text : List ℕ) → List GivenBytes → Parts
+    → Type 0
 IsLinkOfBytes pattern text given url =
-    (groups : List GroupOfBytes) × AllZip (GivesGroup text) given groups × IsLink pattern_result pattern (given_groups groups) url
+    (groups : List GroupOfBytes) × AllZip (GivesGroup text) given groups
+    × IsLink pattern_result pattern (given_groups groups) url
 
 -- The pattern has no URL with these parts of the text for its groups, for this reason.
-abbrev pub RejectsLinkOfBytes : UrlPattern PatternRegexp → (text : List ℕ) → List GivenBytes → NoLink → Type 0
+abbrev pub RejectsLinkOfBytes : UrlPattern PatternRegexp → (text : List ℕ) → List GivenBytes
+    → NoLink → Type 0
 RejectsLinkOfBytes pattern text given error =
     (error ≢ no_link.OutOfMemory)
-    × ((groups : List GroupOfBytes) × AllZip (GivesGroup text) given groups × RejectsLink pattern_result pattern (given_groups groups) error)
+    × ((groups : List GroupOfBytes) × AllZip (GivesGroup text) given groups
+    × RejectsLink pattern_result pattern (given_groups groups) error)
 
 -- The reason why there is no URL.
-abbrev pub IsUnlinked : UrlPattern PatternRegexp → (text : List ℕ) → List GivenBytes → Unlinked → Type 0
+abbrev pub IsUnlinked : UrlPattern PatternRegexp → (text : List ℕ) → List GivenBytes → Unlinked
+    → Type 0
 IsUnlinked pattern text given unlinked.Given = Any (GivesNothing text) given
 IsUnlinked pattern text given (unlinked.NoLink error) = RejectsLinkOfBytes pattern text given error
 IsUnlinked pattern text given unlinked.OutOfMemory = Unit {0}

@@ -19,7 +19,8 @@ is_dot_mark c = is_among (codes ".%") c
 -- follows a slash.
 abbrev pub is_kept_path : (begins : Bool) → List ℕ → Bool
 is_kept_path begins [] = true
-is_kept_path begins (c ∷ text) = (is_kept_character c && not (begins && is_dot_mark c)) && is_kept_path (c == slash) text
+is_kept_path begins (c ∷ text) =
+    (is_kept_character c && not (begins && is_dot_mark c)) && is_kept_path (c == slash) text
 
 -- A lowercase letter or a hyphen.
 abbrev pub is_label_character : ℕ → Bool
@@ -40,7 +41,9 @@ is_kept_opaque value = not (slice_index value 0 == slash) && list_all is_kept_ch
 
 -- At most four digits, the first of which is not 0.
 abbrev pub is_kept_port : List ℕ → Bool
-is_kept_port value = not (slice_index value 0 == digit_zero) && (leb (length value) 4 && list_all is_ascii_digit value)
+is_kept_port value =
+    not (slice_index value 0 == digit_zero)
+    && (leb (length value) 4 && list_all is_ascii_digit value)
 
 -- The value is known to be canonical in the component. A pathname is a path of segments or opaque;
 -- a hostname is not an IPv6 address.

@@ -16,17 +16,26 @@ use Rattle.urlpattern_syntax.specs.Parts.{PartView}
 -- ---- what a matcher finds
 
 -- The matcher finds the requested captures in the text.
-abbrev pub FindsRequested : {E : Type 0} → (answer : E → List ℕ → Option Captures) → MatcherView E → WriteSettings → List PartView → (text : List ℕ) → Type 0
-FindsRequested answer matcher settings parts text = (captures : Captures) × AreRequested settings parts captures × Returns answer matcher text (Some captures)
+abbrev pub FindsRequested : {E : Type 0} → (answer : E → List ℕ → Option Captures) → MatcherView E
+    → WriteSettings → List PartView → (text : List ℕ) → Type 0
+FindsRequested answer matcher settings parts text =
+    (captures : Captures) × AreRequested settings parts captures
+    × Returns answer matcher text (Some captures)
 
 -- The matcher finds other captures, or does not match the text.
-abbrev pub FindsOther : {E : Type 0} → (answer : E → List ℕ → Option Captures) → MatcherView E → WriteSettings → List PartView → (text : List ℕ) → Type 0
+abbrev pub FindsOther : {E : Type 0} → (answer : E → List ℕ → Option Captures) → MatcherView E
+    → WriteSettings → List PartView → (text : List ℕ) → Type 0
 FindsOther answer matcher settings parts text =
-    (found : Option Captures) × Returns answer matcher text found × ((captures : Captures) → AreRequested settings parts captures → found ≢ Some captures)
+    (found : Option Captures) × Returns answer matcher text found
+    × ((captures : Captures) → AreRequested settings parts captures → found ≢ Some captures)
 
 -- Whether the matcher finds the requested captures.
-abbrev pub DecidesFound : {E : Type 0} → Bool → (answer : E → List ℕ → Option Captures) → MatcherView E → WriteSettings → List PartView → (text : List ℕ) → Type 0
-DecidesFound is answer matcher settings parts text = MatchBool is (FindsRequested answer matcher settings parts text) (FindsOther answer matcher settings parts text)
+abbrev pub DecidesFound : {E : Type 0} → Bool
+    → (answer : E → List ℕ → Option Captures) → MatcherView E → WriteSettings → List PartView
+    → (text : List ℕ) → Type 0
+DecidesFound is answer matcher settings parts text =
+    MatchBool is (FindsRequested answer matcher settings parts text)
+    (FindsOther answer matcher settings parts text)
 
 -- Whether the filter, if there is one, is a character other than an ASCII letter.
 abbrev pub has_one_case : (filter : Option ℕ) → Bool
@@ -37,7 +46,8 @@ has_one_case (Some c) = not (is_ascii_alphabetic c)
 -- case is ignored, no filter that is an ASCII letter.
 abbrev pub ReadsWritten : {E : Type 0} → (ignore_case : Bool) → InnerView E → Type 0
 ReadsWritten ignore_case (Literal literal) = Unit {0}
-ReadsWritten ignore_case (SingleCapture filter allow_empty) = IsTrue (not ignore_case || has_one_case filter)
+ReadsWritten ignore_case (SingleCapture filter allow_empty) =
+    IsTrue (not ignore_case || has_one_case filter)
 ReadsWritten ignore_case (RegExp engine) = ⊥
 
 -- ---- canonical texts
@@ -48,28 +58,35 @@ IsCanonical canonical text = canonical text ≡ Ok text
 
 -- The text of these bytes is not its own canonical form, or is too long to tell.
 abbrev pub IsNotCanonical : (List ℕ → Parsed (List ℕ)) → (bytes : List ℕ) → Type 0
-IsNotCanonical canonical bytes = (¬ IsCanonical canonical (chars bytes)) ⊎ (long_text ≤ length bytes)
+IsNotCanonical canonical bytes =
+    (¬ IsCanonical canonical (chars bytes)) ⊎ (long_text ≤ length bytes)
 
 -- Whether the text is its own canonical form.
 abbrev pub DecidesCanonical : Bool → (List ℕ → Parsed (List ℕ)) → (bytes : List ℕ) → Type 0
-DecidesCanonical is canonical bytes = MatchBool is (IsCanonical canonical (chars bytes)) (IsNotCanonical canonical bytes)
+DecidesCanonical is canonical bytes =
+    MatchBool is (IsCanonical canonical (chars bytes)) (IsNotCanonical canonical bytes)
 
 -- ---- the text of a component
 
 -- The text is written from the parts, is canonical, as that of a URL is, and the matcher finds the
 -- requested captures in it.
-pub record HasText {E : Type 0} (answer : E → List ℕ → Option Captures) (matcher : MatcherView E) (settings : WriteSettings) (parts : List PartView) (text : List ℕ) : Type 0 where
+pub record HasText {E : Type 0} (answer : E → List ℕ → Option Captures) (matcher : MatcherView E)
+    (settings : WriteSettings) (parts : List PartView) (text : List ℕ) : Type 0 where
   pub is_written : IsWritten settings parts text
   pub is_found : FindsRequested answer matcher settings parts text
   pub is_canonical : IsCanonical settings.canonical text
 
 -- In the text of the parts the matcher finds other captures, or the text is not canonical.
-abbrev pub IsTextReadOtherwise : {E : Type 0} → (answer : E → List ℕ → Option Captures) → MatcherView E → WriteSettings → List PartView → Type 0
+abbrev pub IsTextReadOtherwise : {E : Type 0} → (answer : E → List ℕ → Option Captures)
+    → MatcherView E → WriteSettings → List PartView → Type 0
 IsTextReadOtherwise answer matcher settings parts =
     (bytes : List ℕ) × IsWritten settings parts (chars bytes)
-    × (FindsOther answer matcher settings parts (chars bytes) ⊎ IsNotCanonical settings.canonical bytes)
+    × (FindsOther answer matcher settings parts (chars bytes)
+    ⊎ IsNotCanonical settings.canonical bytes)
 
 -- The error that says why there is no such text.
-abbrev pub LacksText : {E : Type 0} → (answer : E → List ℕ → Option Captures) → MatcherView E → ComponentName → WriteSettings → List PartView → GenerateError → Type 0
-LacksText answer matcher component settings parts (ReadOtherwise of) = (of ≡ component) × IsTextReadOtherwise answer matcher settings parts
+abbrev pub LacksText : {E : Type 0} → (answer : E → List ℕ → Option Captures) → MatcherView E
+    → ComponentName → WriteSettings → List PartView → GenerateError → Type 0
+LacksText answer matcher component settings parts (ReadOtherwise of) =
+    (of ≡ component) × IsTextReadOtherwise answer matcher settings parts
 LacksText answer matcher component settings parts error = CannotWrite component settings parts error

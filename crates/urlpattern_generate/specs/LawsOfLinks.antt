@@ -7,20 +7,27 @@ use Rattle.urlpattern_syntax.specs.{Options.OptionsView, Parts.PartView}
 
 -- The parts have no fixed text with a modifier.
 abbrev pub HavePlainTexts : List PartView → Type 0
-HavePlainTexts parts = All (λ part. part.kind ≡ PartType.FixedText → part.modifier ≡ PartModifier.None) parts
+HavePlainTexts parts =
+    All (λ part. part.kind ≡ PartType.FixedText → part.modifier ≡ PartModifier.None) parts
 
 -- The parts mean the text that is written from them, with the captures that it was written with.
 abbrev pub WrittenTextsAreMeant : Type 0
-WrittenTextsAreMeant = (options : OptionsView) (parts : List PartView) (captures : Captures) → AreGenerated parts →
-    MayCaptureAll options parts captures → PartsMean options parts (text_of_parts parts captures) captures
+WrittenTextsAreMeant =
+    (options : OptionsView) (parts : List PartView) (captures : Captures) → AreGenerated parts →
+    MayCaptureAll options parts captures
+    → PartsMean options parts (text_of_parts parts captures) captures
 
 -- Captures that the parts have in some text may be captured.
 abbrev pub MeantCapturesMayBeCaptured : Type 0
-MeantCapturesMayBeCaptured = (options : OptionsView) (parts : List PartView) (text : List ℕ) (captures : Captures) →
+MeantCapturesMayBeCaptured =
+    (options : OptionsView) (parts : List PartView) (text : List ℕ) (captures : Captures) →
     PartsMean options parts text captures → MayCaptureAll options parts captures
 
 -- If no fixed text has a modifier, the text that is written with the captures of a text is that
 -- text.
 abbrev pub MatchingIsReadBackwards : Type 0
-MatchingIsReadBackwards = (options : OptionsView) (parts : List PartView) (text : List ℕ) (captures : Captures) →
-    HavePlainTexts parts → PartsMean options parts text captures → text_of_parts parts captures ≡ text
+MatchingIsReadBackwards =
+    (options : OptionsView) (parts : List PartView) (text : List ℕ) (captures : Captures) →
+    HavePlainTexts parts
+    → PartsMean options parts text captures
+    → text_of_parts parts captures ≡ text

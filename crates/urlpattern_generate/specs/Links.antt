@@ -15,7 +15,10 @@ IsCopyText options kind text = IsWildcardText options kind text
 -- Texts of this kind, the first and n more, joined by `between`.
 abbrev pub AreTextsWith : (Is : List ℕ → Type 0) → (between : List ℕ) → ℕ → List ℕ → Type 0
 AreTextsWith Is between zero text = Is text
-AreTextsWith Is between (suc n) text = (first rest : List ℕ) × (text ≡ first ++ (between ++ rest)) × Is first × AreTextsWith Is between n rest
+AreTextsWith Is between (suc n) text =
+    (first rest : List ℕ) × (text ≡ first ++ (between ++ rest))
+    × Is first
+    × AreTextsWith Is between n rest
 
 -- The modifier allows zero copies, which have this capture.
 abbrev pub IsOfNoCopies : PartView → Option (List ℕ) → Type 0
@@ -25,7 +28,8 @@ IsOfNoCopies part capture = Allows part.modifier 0 × (capture ≡ capture_of_no
 -- and prefix.
 abbrev pub IsOfCopies : (Is : List ℕ → Type 0) → PartView → Option (List ℕ) → Type 0
 IsOfCopies Is part None = ⊥
-IsOfCopies Is part (Some text) = (n : ℕ) × Allows part.modifier (suc n) × AreTextsWith Is (part.suffix ++ part.prefix) n text
+IsOfCopies Is part (Some text) =
+    (n : ℕ) × Allows part.modifier (suc n) × AreTextsWith Is (part.suffix ++ part.prefix) n text
 
 -- Copies of the group may have this capture.
 abbrev pub CopiesMayCapture : OptionsView → PartView → Option (List ℕ) → Type 0
@@ -33,7 +37,8 @@ CopiesMayCapture options part capture = IsOfCopies (IsCopyText options part.kind
 
 -- The group may have this capture.
 abbrev pub MayCapture : OptionsView → PartView → Option (List ℕ) → Type 0
-MayCapture options part capture = IsOfNoCopies part capture ⊎ IsOfCopies (IsCopyText options part.kind) part capture
+MayCapture options part capture =
+    IsOfNoCopies part capture ⊎ IsOfCopies (IsCopyText options part.kind) part capture
 
 -- ---- lists of captures: one for each group, in order
 
@@ -44,15 +49,18 @@ captures_after kind [] = []
 captures_after kind (capture ∷ captures) = captures
 
 -- `Is` holds of the part and the first capture, if a part of this kind is a group.
-abbrev pub OfFirst : (Is : PartView → Option (List ℕ) → Type 0) → PartType → PartView → Captures → Type 0
+abbrev pub OfFirst : (Is : PartView → Option (List ℕ) → Type 0) → PartType → PartView → Captures
+    → Type 0
 OfFirst Is PartType.FixedText part captures = Unit {0}
 OfFirst Is kind part [] = ⊥
 OfFirst Is kind part (capture ∷ captures) = Is part capture
 
 -- `Is` holds of each group of the parts and its capture, and there are no other captures.
-abbrev pub OfEachGroup : (Is : PartView → Option (List ℕ) → Type 0) → List PartView → Captures → Type 0
+abbrev pub OfEachGroup : (Is : PartView → Option (List ℕ) → Type 0) → List PartView → Captures
+    → Type 0
 OfEachGroup Is [] captures = captures ≡ []
-OfEachGroup Is (part ∷ parts) captures = OfFirst Is part.kind part captures × OfEachGroup Is parts (captures_after part.kind captures)
+OfEachGroup Is (part ∷ parts) captures =
+    OfFirst Is part.kind part captures × OfEachGroup Is parts (captures_after part.kind captures)
 
 -- The groups of the parts may have these captures.
 abbrev pub MayCaptureAll : OptionsView → List PartView → Captures → Type 0
@@ -80,4 +88,5 @@ text_of_part kind part (capture ∷ captures) = text_of_group part capture
 -- The text of parts whose groups have these captures.
 abbrev pub text_of_parts : List PartView → Captures → List ℕ
 text_of_parts [] captures = []
-text_of_parts (part ∷ parts) captures = text_of_part part.kind part captures ++ text_of_parts parts (captures_after part.kind captures)
+text_of_parts (part ∷ parts) captures =
+    text_of_part part.kind part captures ++ text_of_parts parts (captures_after part.kind captures)

@@ -9,5 +9,6 @@ use Rattle.urlpattern_generate.specs.declared.no_link.NoLink.TheVariants as erro
 abbrev pub no_link_text : NoLink → Option (List ℕ)
 no_link_text (errors.Component error) = Some (generate_error_text error)
 no_link_text (errors.Url reason) = None
-no_link_text (errors.OtherText component) = Some (codes "a URL with these texts has another " ++ name_text component)
+no_link_text (errors.OtherText component) =
+    Some (codes "a URL with these texts has another " ++ name_text component)
 no_link_text errors.OutOfMemory = Some (codes "out of memory")

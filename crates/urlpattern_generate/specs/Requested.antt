@@ -31,13 +31,16 @@ default_capture part = capture_by_modifier part.modifier part
 
 -- The requested capture of a group: the canonical form of its value, or the capture of a group
 -- without one.
-abbrev pub IsRequestedBy : (List ℕ → Parsed (List ℕ)) → (given : Option (List ℕ)) → PartView → Option (List ℕ) → Type 0
+abbrev pub IsRequestedBy : (List ℕ → Parsed (List ℕ)) → (given : Option (List ℕ)) → PartView
+    → Option (List ℕ) → Type 0
 IsRequestedBy canonical None part capture = capture ≡ default_capture part
-IsRequestedBy canonical (Some text) part capture = (value : List ℕ) × (canonical text ≡ Ok value) × (capture ≡ Some value)
+IsRequestedBy canonical (Some text) part capture =
+    (value : List ℕ) × (canonical text ≡ Ok value) × (capture ≡ Some value)
 
 -- The capture is the one that is requested of the group.
 abbrev pub IsRequested : WriteSettings → PartView → Option (List ℕ) → Type 0
-IsRequested settings part capture = IsRequestedBy settings.canonical (settings.given part.name) part capture
+IsRequested settings part capture =
+    IsRequestedBy settings.canonical (settings.given part.name) part capture
 
 -- The captures are those that are requested of the groups of the parts.
 abbrev pub AreRequested : WriteSettings → List PartView → Captures → Type 0
@@ -45,4 +48,6 @@ AreRequested settings = OfEachGroup (IsRequested settings)
 
 -- `url` rejects the value of this group, or the value may be too long.
 abbrev pub RejectsGiven : WriteSettings → (name : List ℕ) → Type 0
-RejectsGiven settings name = (bytes : List ℕ) × (settings.given name ≡ Some (chars bytes)) × IsRejectedByUrl (settings.canonical (chars bytes)) (length bytes)
+RejectsGiven settings name =
+    (bytes : List ℕ) × (settings.given name ≡ Some (chars bytes))
+    × IsRejectedByUrl (settings.canonical (chars bytes)) (length bytes)

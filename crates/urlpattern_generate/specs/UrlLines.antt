@@ -17,20 +17,28 @@ marked mark text = when (not (is_empty text)) (mark ++ text)
 
 -- The user name and the password, or nothing if both are empty.
 abbrev pub user_line : (username password : List ℕ) → List ℕ
-user_line username password = when (not (is_empty username && is_empty password)) (username ++ (marked (codes ":") password ++ codes "@"))
+user_line username password =
+    when (not (is_empty username && is_empty password))
+    (username ++ (marked (codes ":") password ++ codes "@"))
 
 -- The URL has two slashes before its path: it has a host, or the path itself begins with two
 -- slashes.
 abbrev pub has_authority : (hostname pathname : List ℕ) → Bool
-has_authority hostname pathname = not (is_empty hostname) || (slice_index pathname 0 == slash && slice_index pathname 1 == slash)
+has_authority hostname pathname =
+    not (is_empty hostname) || (slice_index pathname 0 == slash && slice_index pathname 1 == slash)
 
 -- The two slashes, the user, the host and the port.
 abbrev pub authority_line : Eight (List ℕ) → List ℕ
 authority_line texts =
     when (has_authority texts.hostname texts.pathname)
-    (codes "//" ++ (user_line texts.username texts.password ++ (texts.hostname ++ marked (codes ":") texts.port)))
+    (codes "//"
+    ++ (user_line texts.username texts.password
+    ++ (texts.hostname ++ marked (codes ":") texts.port)))
 
 -- The whole text.
 abbrev pub url_line : Eight (List ℕ) → List ℕ
 url_line texts =
-    texts.protocol ++ (codes ":" ++ (authority_line texts ++ (texts.pathname ++ (marked (codes "?") texts.search ++ marked (codes "#") texts.hash))))
+    texts.protocol
+    ++ (codes ":"
+    ++ (authority_line texts
+    ++ (texts.pathname ++ (marked (codes "?") texts.search ++ marked (codes "#") texts.hash))))

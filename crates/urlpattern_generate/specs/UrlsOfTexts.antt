@@ -62,7 +62,8 @@ compared_components false = components
 -- text.
 abbrev pub IsAtFault : Parts → Texts → ComponentName → Type 0
 IsAtFault url texts component =
-    (before after : List ComponentName) × (compared_components (runs_on texts) ≡ before ++ component ∷ after)
+    (before after : List ComponentName)
+    × (compared_components (runs_on texts) ≡ before ++ component ∷ after)
     × All (λ earlier. url_text earlier url ≡ at texts earlier) before
     × HasOtherText url texts component
 
@@ -75,5 +76,6 @@ RejectsLine bytes error = ⊥
 -- The error says why there is no URL with these texts: `url` rejects the joined texts, or parses
 -- them as a URL with other texts; or memory ran out.
 abbrev pub RejectsTexts : Texts → NoLink → Type 0
-RejectsTexts texts (OtherText component) = (url : Parts) × IsReadOfTexts texts url × IsAtFault url texts component
+RejectsTexts texts (OtherText component) =
+    (url : Parts) × IsReadOfTexts texts url × IsAtFault url texts component
 RejectsTexts texts error = RejectsLine (line_of texts) error

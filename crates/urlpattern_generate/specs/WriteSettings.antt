@@ -23,7 +23,11 @@ pub record GivenView : Type 0 where
 
 -- The view of a value.
 abbrev pub given_view : (ComponentName × Bor (List ℕ) × Bor (List ℕ)) → GivenView
-given_view given = record { component = given.0; name = chars given.1.now; text = chars given.2.now }
+given_view given = record {
+  component = given.0;
+  name = chars given.1.now;
+  text = chars given.2.now;
+}
 
 -- The views of values.
 abbrev pub given_groups : List (ComponentName × Bor (List ℕ) × Bor (List ℕ)) → List GivenView
@@ -31,12 +35,14 @@ given_groups groups = map given_view groups
 
 -- The value is for this group.
 abbrev pub is_given_for : ComponentName → (name : List ℕ) → GivenView → Bool
-is_given_for component name given = bytes_eq (name_text given.component) (name_text component) && bytes_eq given.name name
+is_given_for component name given =
+    bytes_eq (name_text given.component) (name_text component) && bytes_eq given.name name
 
 -- The first value for a group, or None.
 abbrev pub text_given : List GivenView → ComponentName → (name : List ℕ) → Option (List ℕ)
 text_given [] component name = None
-text_given (given ∷ others) component name = if is_given_for component name given then Some given.text else text_given others component name
+text_given (given ∷ others) component name =
+    if is_given_for component name given then Some given.text else text_given others component name
 
 -- ---- a component
 
@@ -53,9 +59,11 @@ abbrev pub canonical_for : ComponentName → (hierarchical is_ipv6 : Bool) → L
 canonical_for Protocol hierarchical is_ipv6 text = canonical_protocol text
 canonical_for Username hierarchical is_ipv6 text = canonical_username text
 canonical_for Password hierarchical is_ipv6 text = canonical_password text
-canonical_for Hostname hierarchical is_ipv6 text = if is_ipv6 then canonical_ipv6_hostname text else canonical_hostname text
+canonical_for Hostname hierarchical is_ipv6 text =
+    if is_ipv6 then canonical_ipv6_hostname text else canonical_hostname text
 canonical_for Port hierarchical is_ipv6 text = canonical_port None text
-canonical_for Pathname hierarchical is_ipv6 text = if hierarchical then canonical_pathname text else canonical_opaque_pathname text
+canonical_for Pathname hierarchical is_ipv6 text =
+    if hierarchical then canonical_pathname text else canonical_opaque_pathname text
 canonical_for Search hierarchical is_ipv6 text = canonical_search text
 canonical_for Hash hierarchical is_ipv6 text = canonical_hash text
 
@@ -72,7 +80,8 @@ leading_text kind part = part.prefix
 -- The first part begins with `[`, as an IPv6 address does.
 abbrev pub begins_ipv6 : List PartView → Bool
 begins_ipv6 [] = false
-begins_ipv6 (part ∷ parts) = begins_with (λ c. c == slice_index (codes "[") 0) (leading_text part.kind part)
+begins_ipv6 (part ∷ parts) =
+    begins_with (λ c. c == slice_index (codes "[") 0) (leading_text part.kind part)
 
 -- The component is a hostname that is an IPv6 address.
 abbrev pub is_ipv6_host : ComponentName → List PartView → Bool
@@ -80,7 +89,8 @@ is_ipv6_host Hostname parts = begins_ipv6 parts
 is_ipv6_host component parts = false
 
 -- How a component of these parts is written with these values.
-abbrev pub settings_for : ComponentName → OptionsView → List PartView → List GivenView → WriteSettings
+abbrev pub settings_for : ComponentName → OptionsView → List PartView → List GivenView
+    → WriteSettings
 settings_for component options parts groups = record {
   options = options;
   canonical = canonical_for component (is_slash_delimiter options.delimiter) (begins_ipv6 parts);

@@ -18,11 +18,12 @@ use Rattle.urlpattern_syntax.specs.Parts.{PartView}
 use Rattle.urlpattern_syntax.specs.Text.{text_of}
 
 -- The text is that of the parts with the requested captures, which their groups may have.
-pub record IsWritten (settings : WriteSettings) (parts : List PartView) (text : List ℕ) : Type 0 where
-  pub captures : Captures
-  pub are_requested : AreRequested settings parts captures
-  pub may_capture : MayCaptureAll settings.options parts captures
-  pub is_text : text ≡ text_of_parts parts captures
+pub record IsWritten (settings : WriteSettings) (parts : List PartView) (text : List ℕ) : Type 0
+  where
+    pub captures : Captures
+    pub are_requested : AreRequested settings parts captures
+    pub may_capture : MayCaptureAll settings.options parts captures
+    pub is_text : text ≡ text_of_parts parts captures
 
 -- ---- errors
 
@@ -33,7 +34,9 @@ IsMissing settings part = IsRequested settings part None × ¬ MayCapture settin
 -- `url` rejects the value of the group, or the group may not capture the canonical form.
 abbrev pub IsNotCaptured : WriteSettings → PartView → Type 0
 IsNotCaptured settings part =
-    RejectsGiven settings part.name ⊎ ((text : List ℕ) × IsRequested settings part (Some text) × ¬ MayCapture settings.options part (Some text))
+    RejectsGiven settings part.name
+    ⊎ ((text : List ℕ) × IsRequested settings part (Some text)
+    × ¬ MayCapture settings.options part (Some text))
 
 -- The part is a group of this name.
 abbrev pub IsGroup : (name : List ℕ) → PartView → Type 0
@@ -42,8 +45,10 @@ IsGroup name part = (part.kind ≢ PartType.FixedText) × (part.name ≡ name)
 -- The error says why the part cannot be written, with the name of its group, or that memory ran
 -- out.
 abbrev pub RejectsPart : ComponentName → WriteSettings → PartView → GenerateError → Type 0
-RejectsPart component settings part (Missing of name) = (of ≡ component) × IsGroup (text_of name) part × IsMissing settings part
-RejectsPart component settings part (NotCaptured of name) = (of ≡ component) × IsGroup (text_of name) part × IsNotCaptured settings part
+RejectsPart component settings part (Missing of name) =
+    (of ≡ component) × IsGroup (text_of name) part × IsMissing settings part
+RejectsPart component settings part (NotCaptured of name) =
+    (of ≡ component) × IsGroup (text_of name) part × IsNotCaptured settings part
 RejectsPart component settings part OutOfMemory = Unit {0}
 RejectsPart component settings part error = ⊥
 
@@ -51,7 +56,9 @@ RejectsPart component settings part error = ⊥
 abbrev pub CannotWrite : ComponentName → WriteSettings → List PartView → GenerateError → Type 0
 CannotWrite component settings parts error =
     (error ≡ OutOfMemory)
-    ⊎ ((before after : List PartView) × (part : PartView) × (text : List ℕ) × (parts ≡ before ++ part ∷ after)
+    ⊎ ((before after : List PartView)
+    × (part : PartView) × (text : List ℕ)
+    × (parts ≡ before ++ part ∷ after)
     × IsWritten settings before text × RejectsPart component settings part error)
 
 -- ---- steps of writing
@@ -62,15 +69,21 @@ cow_text text = chars (cow_str_bytes text)
 
 -- How a writer writes.
 abbrev pub settings_of_writer : Substitution → WriteSettings
-settings_of_writer writer = settings_for writer.component (kept_options writer.kept.now) (kept_parts writer.kept.now) (given_groups writer.groups.now)
+settings_of_writer writer =
+    settings_for writer.component (kept_options writer.kept.now) (kept_parts writer.kept.now)
+    (given_groups writer.groups.now)
 
 -- The capture at `index` is the requested one, if the part is a group, and the next part's begins
 -- at `next`. None: it is not.
-abbrev pub LeavesRequested : WriteSettings → PartView → Captures → (index : ℕ) → (next : Option ℕ) → Type 0
-LeavesRequested settings part captures index None = ¬ OfFirst (IsRequested settings) part.kind part (drop index captures)
+abbrev pub LeavesRequested : WriteSettings → PartView → Captures → (index : ℕ) → (next : Option ℕ)
+    → Type 0
+LeavesRequested settings part captures index None =
+    ¬ OfFirst (IsRequested settings) part.kind part (drop index captures)
 LeavesRequested settings part captures index (Some next) =
-    OfFirst (IsRequested settings) part.kind part (drop index captures) × (captures_after part.kind (drop index captures) ≡ drop next captures)
+    OfFirst (IsRequested settings) part.kind part (drop index captures)
+    × (captures_after part.kind (drop index captures) ≡ drop next captures)
 
 -- The text of a part was appended.
 abbrev pub GetsPart : WriteSettings → PartView → (old new : String Global) → Type 0
-GetsPart settings part old new = (text : List ℕ) × IsWritten settings (part ∷ []) text × (text_of new ≡ text_of old ++ text)
+GetsPart settings part old new =
+    (text : List ℕ) × IsWritten settings (part ∷ []) text × (text_of new ≡ text_of old ++ text)

@@ -38,7 +38,8 @@ const SHORT_PORT: usize = 4;
 /// Whether the characters of a text show that it is canonical in a component. A pathname is
 /// hierarchical or not; a hostname is an IPv6 address or not.
 pub(crate) fn keeps(component: ComponentName, hierarchical: bool, is_ipv6: bool, text: &str) -> bool
-    ensures canonical { IsTrue result → canonical_for component hierarchical is_ipv6 (chars text.now) ≡ Ok (chars text.now) }
+    ensures canonical { IsTrue result
+        → canonical_for component hierarchical is_ipv6 (chars text.now) ≡ Ok (chars text.now) }
     ensures line { IsTrue result → IsTrue (lacks line_feed (chars text.now)) }
 {
     if is_ipv6 {

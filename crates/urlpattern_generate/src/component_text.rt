@@ -28,8 +28,11 @@ impl<'d> Substitution<'d> {
     /// The error is that of the first part that cannot be written, or that memory ran out.
     #[inline(always)]
     pub(crate) fn text(&self) -> Result<CowStr<'d>, GenerateError>
-        ensures written { IfOk result (λ text. IsWritten (settings_of_writer self.now) (kept_parts self.now.kept.now) (cow_text text)) }
-        ensures refused { IfErr result (CannotWrite self.now.component (settings_of_writer self.now) (kept_parts self.now.kept.now)) }
+        ensures written { IfOk result (λ text.
+            IsWritten (settings_of_writer self.now) (kept_parts self.now.kept.now)
+            (cow_text text)) }
+        ensures refused { IfErr result (CannotWrite self.now.component (settings_of_writer self.now)
+            (kept_parts self.now.kept.now)) }
     {
         if let Some(text) = self.borrowed_text() {
             return Ok(CowStr::Borrowed(text));
@@ -44,7 +47,9 @@ impl<'d> Substitution<'d> {
     /// text has to be built.
     #[inline(always)]
     fn borrowed_text(&self) -> Option<&'d str>
-        ensures { IfSome result (λ text. IsWritten (settings_of_writer self.now) (kept_parts self.now.kept.now) (chars text.now)) }
+        ensures { IfSome result (λ text.
+            IsWritten (settings_of_writer self.now) (kept_parts self.now.kept.now)
+            (chars text.now)) }
     {
         match self.kept.parts.as_slice() {
             [] => Some(""),
@@ -57,7 +62,8 @@ impl<'d> Substitution<'d> {
     /// wildcard without prefix and suffix.
     #[inline(always)]
     fn borrowed_part(&self, part: &'d Part) -> Option<&'d str>
-        ensures { IfSome result (λ text. IsWritten (settings_of_writer self.now) (part_view part.now ∷ []) (chars text.now)) }
+        ensures { IfSome result (λ text.
+            IsWritten (settings_of_writer self.now) (part_view part.now ∷ []) (chars text.now)) }
     {
         if part.modifier != PartModifier::None {
             return None;
@@ -73,7 +79,9 @@ impl<'d> Substitution<'d> {
     /// captures nothing, or the value has to be made canonical.
     #[inline(always)]
     fn borrowed_capture(&self, part: &Part) -> Option<&'d str>
-        ensures asked { IfSome result (λ text. IsRequested (settings_of_writer self.now) (part_view part.now) (Some (chars text.now))) }
+        ensures asked { IfSome result (λ text.
+            IsRequested (settings_of_writer self.now) (part_view part.now)
+            (Some (chars text.now))) }
         ensures line { IfSome result (λ text. IsTrue (lacks line_feed (chars text.now))) }
     {
         match given_text(self.groups, self.component, &part.name) {
@@ -88,8 +96,10 @@ impl<'d> Substitution<'d> {
     /// The error is that of the first part that cannot be written, or that memory ran out.
     #[inline(never)]
     fn build_text(&self) -> Result<String, GenerateError>
-        ensures written { IfOk result (λ text. IsWritten (settings_of_writer self.now) (kept_parts self.now.kept.now) (text_of text)) }
-        ensures refused { IfErr result (CannotWrite self.now.component (settings_of_writer self.now) (kept_parts self.now.kept.now)) }
+        ensures written { IfOk result (λ text.
+            IsWritten (settings_of_writer self.now) (kept_parts self.now.kept.now) (text_of text)) }
+        ensures refused { IfErr result (CannotWrite self.now.component (settings_of_writer self.now)
+            (kept_parts self.now.kept.now)) }
     {
         let mut text = String::with_capacity(self.alloc, ROOM)?;
         for part in &self.kept.parts {
@@ -104,8 +114,10 @@ impl<'d> Substitution<'d> {
     /// Appends the text of a part.
     #[inline(always)]
     fn push_part(&self, text: &mut String, part: &Part) -> Result<(), GenerateError>
-        ensures written { OnOk result (GetsPart (settings_of_writer self.now) (part_view part.now) text.old text.new) }
-        ensures refused { IfErr result (RejectsPart self.now.component (settings_of_writer self.now) (part_view part.now)) }
+        ensures written { OnOk result
+            (GetsPart (settings_of_writer self.now) (part_view part.now) text.old text.new) }
+        ensures refused { IfErr result
+            (RejectsPart self.now.component (settings_of_writer self.now) (part_view part.now)) }
     {
         if part.kind == PartType::FixedText {
             push_fixed(text, part)?;
@@ -127,9 +139,12 @@ impl<'d> Substitution<'d> {
         given: &str,
     ) -> Result<(), GenerateError>
         requires group { part.now.kind ≢ FixedText }
-        requires given { (settings_of_writer self.now).given (text_of part.now.name) ≡ Some (chars given.now) }
-        ensures written { OnOk result (GetsPart (settings_of_writer self.now) (part_view part.now) text.old text.new) }
-        ensures refused { IfErr result (RejectsPart self.now.component (settings_of_writer self.now) (part_view part.now)) }
+        requires given { (settings_of_writer self.now).given (text_of part.now.name)
+            ≡ Some (chars given.now) }
+        ensures written { OnOk result
+            (GetsPart (settings_of_writer self.now) (part_view part.now) text.old text.new) }
+        ensures refused { IfErr result
+            (RejectsPart self.now.component (settings_of_writer self.now) (part_view part.now)) }
     {
         match self.canonical(given) {
             Ok(value) => self.push_capture(text, part, Some(&value)),
@@ -147,9 +162,12 @@ impl<'d> Substitution<'d> {
         capture: Option<&str>,
     ) -> Result<(), GenerateError>
         requires group { part.now.kind ≢ FixedText }
-        requires asked { IsRequested (settings_of_writer self.now) (part_view part.now) (option_text capture) }
-        ensures written { OnOk result (GetsPart (settings_of_writer self.now) (part_view part.now) text.old text.new) }
-        ensures refused { IfErr result (RejectsPart self.now.component (settings_of_writer self.now) (part_view part.now)) }
+        requires asked { IsRequested (settings_of_writer self.now) (part_view part.now)
+            (option_text capture) }
+        ensures written { OnOk result
+            (GetsPart (settings_of_writer self.now) (part_view part.now) text.old text.new) }
+        ensures refused { IfErr result
+            (RejectsPart self.now.component (settings_of_writer self.now) (part_view part.now)) }
     {
         if push_group(text, &self.kept.options, part, capture)? {
             return Ok(());

@@ -29,10 +29,15 @@ impl Substitution<'_> {
         matcher: &Matcher<R>,
         text: &str,
     ) -> Result<bool, AllocError>
-        requires made { IsMadeOf (IsEngineOf R.RegExp false (engine_flags (kept_options self.now.kept.now)))
-            (kept_options self.now.kept.now) (kept_parts self.now.kept.now) (matcher_view matcher.now) }
-        requires written { IsWritten (settings_of_writer self.now) (kept_parts self.now.kept.now) (chars text.now) }
-        ensures { IfOk result (λ is. DecidesFound is R.answer (matcher_view matcher.now) (settings_of_writer self.now) (kept_parts self.now.kept.now) (chars text.now)) }
+        requires made { IsMadeOf
+            (IsEngineOf R.RegExp false (engine_flags (kept_options self.now.kept.now)))
+            (kept_options self.now.kept.now) (kept_parts self.now.kept.now)
+            (matcher_view matcher.now) }
+        requires written { IsWritten (settings_of_writer self.now) (kept_parts self.now.kept.now)
+            (chars text.now) }
+        ensures { IfOk result (λ is.
+            DecidesFound is R.answer (matcher_view matcher.now) (settings_of_writer self.now)
+            (kept_parts self.now.kept.now) (chars text.now)) }
     {
         if reads_what_is_written(matcher) {
             return Ok(true);
@@ -43,7 +48,9 @@ impl Substitution<'_> {
     /// Whether a matcher finds the requested captures in a text.
     #[inline(never)]
     fn finds<R: RegExp>(&self, matcher: &Matcher<R>, text: &str) -> Result<bool, AllocError>
-        ensures { IfOk result (λ is. DecidesFound is R.answer (matcher_view matcher.now) (settings_of_writer self.now) (kept_parts self.now.kept.now) (chars text.now)) }
+        ensures { IfOk result (λ is.
+            DecidesFound is R.answer (matcher_view matcher.now) (settings_of_writer self.now)
+            (kept_parts self.now.kept.now) (chars text.now)) }
     {
         let Ok(found) = matcher.matches(self.alloc, text) else {
             return Err(AllocError);
@@ -56,7 +63,10 @@ impl Substitution<'_> {
 
     /// Whether the captures are the requested ones.
     fn are_requested(&self, found: &[Option<&str>]) -> Result<bool, AllocError>
-        ensures { IfOk result (λ are. IsTrue are ↔ AreRequested (settings_of_writer self.now) (kept_parts self.now.kept.now) (map option_text found.now)) }
+        ensures { IfOk result (λ are.
+            IsTrue are
+            ↔ AreRequested (settings_of_writer self.now) (kept_parts self.now.kept.now)
+            (map option_text found.now)) }
     {
         let mut next = 0;
         for part in &self.kept.parts {
@@ -77,7 +87,8 @@ impl Substitution<'_> {
         index: usize,
     ) -> Result<Option<usize>, AllocError>
         requires { index ≤ length found.now }
-        ensures next { IfOk result (LeavesRequested (settings_of_writer self.now) (part_view part.now) (map option_text found.now) index) }
+        ensures next { IfOk result (LeavesRequested (settings_of_writer self.now)
+            (part_view part.now) (map option_text found.now) index) }
         ensures within { IfOk result (λ next. IfSome next (λ later. later ≤ length found.now)) }
     {
         if part.kind == PartType::FixedText {
@@ -95,7 +106,10 @@ impl Substitution<'_> {
 
     /// Whether a capture is the one that is requested of a group.
     fn is_requested(&self, part: &Part, capture: Option<&str>) -> Result<bool, AllocError>
-        ensures { IfOk result (λ is. IsTrue is ↔ IsRequested (settings_of_writer self.now) (part_view part.now) (option_text capture.entry)) }
+        ensures { IfOk result (λ is.
+            IsTrue is
+            ↔ IsRequested (settings_of_writer self.now) (part_view part.now)
+            (option_text capture.entry)) }
     {
         let Some(given) = given_text(self.groups, self.component, &part.name) else {
             return Ok(is_same(capture, default_capture(part)));
@@ -109,7 +123,9 @@ impl Substitution<'_> {
     /// Whether the canonical form of a text is `value`. A rejection by `url` is reported as memory
     /// that ran out, since texts that were written are not rejected.
     fn has_form(&self, given: &str, value: &str) -> Result<bool, AllocError>
-        ensures { IfOk result (λ has. IsTrue has ↔ ((settings_of_writer self.now).canonical (chars given.now) ≡ Ok (chars value.now))) }
+        ensures { IfOk result (λ has.
+            IsTrue has
+            ↔ ((settings_of_writer self.now).canonical (chars given.now) ≡ Ok (chars value.now))) }
     {
         if self.keeps(given) {
             return Ok(is_same_text(given, value));
@@ -124,7 +140,8 @@ impl Substitution<'_> {
 /// Whether a matcher always finds what was written: it has no engine and, if case is ignored, no
 /// filter that is an ASCII letter.
 fn reads_what_is_written<R>(matcher: &Matcher<R>) -> bool
-    ensures { IsTrue result → ReadsWritten matcher.now.ignore_case (matcher_view matcher.now).inner }
+    ensures { IsTrue result
+        → ReadsWritten matcher.now.ignore_case (matcher_view matcher.now).inner }
 {
     match &matcher.inner {
         InnerMatcher::Literal { .. } => true,

@@ -36,11 +36,14 @@ pub fn generate_component<R: RegExp>(
     component: ComponentName,
     groups: &[GivenGroup<'_>],
 ) -> Result<String, GenerateError>
-    requires { IsMadeOf (IsEngineOf R.RegExp false (engine_flags (kept_options kept.now))) (kept_options kept.now) (kept_parts kept.now) (matcher_view matcher.now) }
-    ensures generated { IfOk result (λ text. HasText R.answer (matcher_view matcher.now)
-        (settings_for component (kept_options kept.now) (kept_parts kept.now) (given_groups groups.now)) (kept_parts kept.now) (text_of text)) }
+    requires { IsMadeOf (IsEngineOf R.RegExp false (engine_flags (kept_options kept.now)))
+        (kept_options kept.now) (kept_parts kept.now) (matcher_view matcher.now) }
+    ensures generated { IfOk result (λ text.
+        HasText R.answer (matcher_view matcher.now) (settings_for component (kept_options kept.now)
+        (kept_parts kept.now) (given_groups groups.now)) (kept_parts kept.now) (text_of text)) }
     ensures refused { IfErr result (LacksText R.answer (matcher_view matcher.now) component
-        (settings_for component (kept_options kept.now) (kept_parts kept.now) (given_groups groups.now)) (kept_parts kept.now)) }
+        (settings_for component (kept_options kept.now) (kept_parts kept.now)
+        (given_groups groups.now)) (kept_parts kept.now)) }
 {
     let writer = Substitution {
         alloc,
@@ -71,10 +74,12 @@ pub fn written_component<'d>(
     component: ComponentName,
     groups: &'d [GivenGroup<'d>],
 ) -> Result<CowStr<'d>, GenerateError>
-    ensures written { IfOk result (λ text. IsWritten
-        (settings_for component (kept_options kept.now) (kept_parts kept.now) (given_groups groups.now)) (kept_parts kept.now) (cow_text text)) }
-    ensures refused { IfErr result (CannotWrite component
-        (settings_for component (kept_options kept.now) (kept_parts kept.now) (given_groups groups.now)) (kept_parts kept.now)) }
+    ensures written { IfOk result (λ text.
+        IsWritten (settings_for component (kept_options kept.now) (kept_parts kept.now)
+        (given_groups groups.now)) (kept_parts kept.now) (cow_text text)) }
+    ensures refused { IfErr result (CannotWrite component (settings_for component
+        (kept_options kept.now) (kept_parts kept.now) (given_groups groups.now))
+        (kept_parts kept.now)) }
 {
     let writer = Substitution {
         alloc,
@@ -96,11 +101,14 @@ pub fn confirms<R: RegExp>(
     text: &str,
     groups: &[GivenGroup<'_>],
 ) -> Result<bool, AllocError>
-    requires made { IsMadeOf (IsEngineOf R.RegExp false (engine_flags (kept_options kept.now))) (kept_options kept.now) (kept_parts kept.now) (matcher_view matcher.now) }
-    requires written { IsWritten
-        (settings_for component (kept_options kept.now) (kept_parts kept.now) (given_groups groups.now)) (kept_parts kept.now) (chars text.now) }
-    ensures { IfOk result (λ is. DecidesFound is R.answer (matcher_view matcher.now)
-        (settings_for component (kept_options kept.now) (kept_parts kept.now) (given_groups groups.now)) (kept_parts kept.now) (chars text.now)) }
+    requires made { IsMadeOf (IsEngineOf R.RegExp false (engine_flags (kept_options kept.now)))
+        (kept_options kept.now) (kept_parts kept.now) (matcher_view matcher.now) }
+    requires written { IsWritten (settings_for component (kept_options kept.now)
+        (kept_parts kept.now) (given_groups groups.now)) (kept_parts kept.now) (chars text.now) }
+    ensures { IfOk result (λ is.
+        DecidesFound is R.answer (matcher_view matcher.now) (settings_for component
+        (kept_options kept.now) (kept_parts kept.now) (given_groups groups.now))
+        (kept_parts kept.now) (chars text.now)) }
 {
     let writer = Substitution {
         alloc,

@@ -29,7 +29,9 @@ pub(crate) fn may_capture(
     part: &Part,
     text: &str,
 ) -> Result<bool, AllocError>
-    ensures { IfOk result (λ may. IsTrue may ↔ MayCapture (options_view options.now) (part_view part.now) (Some (chars text.now))) }
+    ensures { IfOk result (λ may.
+        IsTrue may
+        ↔ MayCapture (options_view options.now) (part_view part.now) (Some (chars text.now))) }
 {
     Ok(is_of_no_copies(part, text) || is_of_copies(alloc, options, part, text)?)
 }
@@ -51,7 +53,10 @@ fn is_of_copies(
     part: &Part,
     text: &str,
 ) -> Result<bool, AllocError>
-    ensures { IfOk result (λ are. IsTrue are ↔ CopiesMayCapture (options_view options.now) (part_view part.now) (Some (chars text.now))) }
+    ensures { IfOk result (λ are.
+        IsTrue are
+        ↔ CopiesMayCapture (options_view options.now) (part_view part.now)
+        (Some (chars text.now))) }
 {
     match part.kind {
         PartType::FixedText => Ok(false),
@@ -82,7 +87,8 @@ struct CopyTexts {
 impl CopyTexts {
     /// Whether one or more copies of a group, as many as its modifier allows, capture a text.
     fn are_copies(self, alloc: Global, part: &Part, text: &str) -> Result<bool, AllocError>
-        ensures { IfOk result (λ are. IsTrue are ↔ IsOfCopies (Allowed self) (part_view part.now) (Some (chars text.now))) }
+        ensures { IfOk result (λ are.
+            IsTrue are ↔ IsOfCopies (Allowed self) (part_view part.now) (Some (chars text.now))) }
     {
         match part.modifier {
             PartModifier::None | PartModifier::Optional => Ok(self.is_one(text)),

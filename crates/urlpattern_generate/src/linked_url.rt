@@ -86,7 +86,9 @@ fn other_text(url: &Url, texts: &Eight<&str>) -> Option<ComponentName>
 /// Whether the path runs into the host before it, and the URL has another path.
 fn is_path_at_fault(url: &Url, texts: &Eight<&str>) -> bool
     ensures at_fault { IsTrue result → IsAtFault url.now (texts_seen texts.now) Pathname }
-    ensures other { result ≡ false → runs_on (texts_seen texts.now) ≡ true → url_text Pathname url.now ≡ at (texts_seen texts.now) Pathname }
+    ensures other { result ≡ false
+        → runs_on (texts_seen texts.now) ≡ true
+        → url_text Pathname url.now ≡ at (texts_seen texts.now) Pathname }
 {
     runs_on(texts) && !has_text(url, texts, ComponentName::Pathname)
 }

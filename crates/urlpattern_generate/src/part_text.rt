@@ -14,7 +14,8 @@ use urlpattern_syntax::parser::{Options, Part, PartModifier};
 
 /// Appends a fixed text, in as few copies as its modifier allows.
 pub fn push_fixed(text: &mut String, part: &Part) -> Result<(), AllocError>
-    ensures { OnOk result (GetsText text.old text.new (fewest_copies part.now.modifier (text_of part.now.value))) }
+    ensures { OnOk result
+        (GetsText text.old text.new (fewest_copies part.now.modifier (text_of part.now.value))) }
 {
     match part.modifier {
         PartModifier::None | PartModifier::OneOrMore => {
@@ -33,8 +34,12 @@ pub fn push_group(
     part: &Part,
     capture: Option<&str>,
 ) -> Result<bool, AllocError>
-    ensures may { IfOk result (λ may. IsTrue may ↔ MayCapture (options_view options.now) (part_view part.now) (option_text capture.entry)) }
-    ensures written { IfOk result (λ may. GetsTextIf may text.old text.new (text_of_group (part_view part.now) (option_text capture.entry))) }
+    ensures may { IfOk result (λ may.
+        IsTrue may
+        ↔ MayCapture (options_view options.now) (part_view part.now) (option_text capture.entry)) }
+    ensures written { IfOk result (λ may.
+        GetsTextIf may text.old text.new
+        (text_of_group (part_view part.now) (option_text capture.entry))) }
 {
     let Some(capture) = capture else {
         return Ok(may_be_missing(options, part));
@@ -48,7 +53,8 @@ pub fn push_group(
 
 /// Appends a text between the prefix and the suffix of a part.
 fn push_between(text: &mut String, part: &Part, between: &str) -> Result<(), AllocError>
-    ensures { OnOk result (GetsText text.old text.new (text_of part.now.prefix ++ chars between.now ++ text_of part.now.suffix)) }
+    ensures { OnOk result (GetsText text.old text.new
+        (text_of part.now.prefix ++ chars between.now ++ text_of part.now.suffix)) }
 {
     text.push_str(&part.prefix)?;
     text.push_str(between)?;

@@ -32,7 +32,8 @@ pub(crate) struct Substitution<'d> {
 impl Substitution<'_> {
     /// Whether a value is known to be canonical in the component.
     pub(crate) fn keeps(&self, text: &str) -> bool
-        ensures canonical { IsTrue result → (settings_of_writer self.now).canonical (chars text.now) ≡ Ok (chars text.now) }
+        ensures canonical { IsTrue result
+            → (settings_of_writer self.now).canonical (chars text.now) ≡ Ok (chars text.now) }
         ensures line { IsTrue result → IsTrue (lacks line_feed (chars text.now)) }
     {
         keeps(
@@ -48,7 +49,8 @@ impl Substitution<'_> {
     /// The error is that `url` rejects the value, or that memory ran out.
     #[inline(never)]
     pub(crate) fn canonical(&self, text: &str) -> Result<String, Error>
-        ensures { IsResult ((settings_of_writer self.now).canonical (chars text.now)) (length text.now) result }
+        ensures { IsResult ((settings_of_writer self.now).canonical (chars text.now))
+            (length text.now) result }
     {
         let values = Canonicalizer::new(self.alloc);
         match self.component {
@@ -69,7 +71,8 @@ impl Substitution<'_> {
 
     /// Whether a text is its own canonical form.
     pub(crate) fn is_canonical(&self, text: &str) -> Result<bool, AllocError>
-        ensures { IfOk result (λ is. DecidesCanonical is (settings_of_writer self.now).canonical text.now) }
+        ensures { IfOk result (λ is.
+            DecidesCanonical is (settings_of_writer self.now).canonical text.now) }
     {
         if self.keeps(text) {
             return Ok(true);

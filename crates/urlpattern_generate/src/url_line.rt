@@ -25,7 +25,8 @@ pub(crate) fn url_line(alloc: Global, texts: &Eight<&str>) -> Result<String, All
 
 /// Appends the two slashes, the user, the host and the port, if the URL has them.
 fn push_authority(line: &mut String, texts: &Eight<&str>) -> Result<(), AllocError>
-    ensures { OnOk result (string_bytes line.new ≡ string_bytes line.old ++ authority_line (bytes_of_each texts.now)) }
+    ensures { OnOk result (string_bytes line.new
+        ≡ string_bytes line.old ++ authority_line (bytes_of_each texts.now)) }
 {
     if !has_authority(texts.hostname, texts.pathname) {
         return Ok(());
@@ -46,7 +47,8 @@ fn has_authority(hostname: &str, pathname: &str) -> bool
 
 /// Appends the user name and the password, unless both are empty.
 fn push_user(line: &mut String, username: &str, password: &str) -> Result<(), AllocError>
-    ensures { OnOk result (string_bytes line.new ≡ string_bytes line.old ++ user_line username.now password.now) }
+    ensures { OnOk result
+        (string_bytes line.new ≡ string_bytes line.old ++ user_line username.now password.now) }
 {
     if username.is_empty() && password.is_empty() {
         return Ok(());
@@ -58,7 +60,8 @@ fn push_user(line: &mut String, username: &str, password: &str) -> Result<(), Al
 
 /// Appends a text after its mark, unless the text is empty.
 fn push_marked(line: &mut String, mark: &str, text: &str) -> Result<(), AllocError>
-    ensures { OnOk result (string_bytes line.new ≡ string_bytes line.old ++ marked mark.now text.now) }
+    ensures { OnOk result
+        (string_bytes line.new ≡ string_bytes line.old ++ marked mark.now text.now) }
 {
     if text.is_empty() {
         return Ok(());

@@ -24,7 +24,8 @@ option_hash None = 0
 -- precedes the path in its first segment.
 abbrev pub segment_hashes : (hash : ℕ) → List ℕ → List ℕ
 segment_hashes hash [] = hash ∷ []
-segment_hashes hash (c ∷ path) = if c == 47 then hash ∷ segment_hashes 0 path else segment_hashes (mixed hash c) path
+segment_hashes hash (c ∷ path) =
+    if c == 47 then hash ∷ segment_hashes 0 path else segment_hashes (mixed hash c) path
 
 -- The hashes of protocol and hostname, and of the first segments of the path.
 pub record Hashes : Type 0 where
@@ -41,7 +42,11 @@ hashes_of address = record {
 }
 
 abbrev pub hashes_view : AddressHashes → Hashes
-hashes_view hashes = record { protocol = hashes.protocol; hostname = hashes.hostname; segments = hashes.segments.items }
+hashes_view hashes = record {
+  protocol = hashes.protocol;
+  hostname = hashes.hostname;
+  segments = hashes.segments.items;
+}
 
 -- ---- keys
 
@@ -54,7 +59,12 @@ pub record FormView : Type 0 where
   pub is_exact : Bool
 
 abbrev pub form_view : Form → FormView
-form_view form = record { uses_protocol = form.uses_protocol; uses_hostname = form.uses_hostname; segments = form.segments.items; is_exact = form.is_exact }
+form_view form = record {
+  uses_protocol = form.uses_protocol;
+  uses_hostname = form.uses_hostname;
+  segments = form.segments.items;
+  is_exact = form.is_exact;
+}
 
 -- `count` is the number of segments that a form requires, or above it if the path has more.
 abbrev pub HasSegmentCount : (is_exact : Bool) → (segments count : ℕ) → Type 0
@@ -81,12 +91,15 @@ forms_for forms count = group forms 0 ++ group forms count
 abbrev pub mixed_segments : (hash : ℕ) → List Bool → (hashes : List ℕ) → ℕ
 mixed_segments hash [] hashes = hash
 mixed_segments hash (has_text ∷ segments) [] = hash
-mixed_segments hash (has_text ∷ segments) (own ∷ hashes) = mixed_segments (mixed hash (if has_text then own else 1)) segments hashes
+mixed_segments hash (has_text ∷ segments) (own ∷ hashes) =
+    mixed_segments (mixed hash (if has_text then own else 1)) segments hashes
 
 -- The key of an address, in a form.
 abbrev pub form_key : FormView → Hashes → ℕ
 form_key form hashes =
-    let hosts = mixed (if form.uses_protocol then hashes.protocol else 0) (if form.uses_hostname then hashes.hostname else 0) in
+    let hosts =
+    mixed (if form.uses_protocol then hashes.protocol else 0)
+    (if form.uses_hostname then hashes.hostname else 0) in
     mixed (mixed_segments hosts form.segments hashes.segments) (if form.is_exact then 1 else 0)
 
 -- The address fits the form, and has this key in it.

@@ -14,7 +14,8 @@ pub record Listing : Type 0 where
 -- The numbers under which a key is in a list, of which the first number is `first`.
 abbrev pub numbers_of : (key first : ℕ) → List ℕ → List ℕ
 numbers_of key first [] = []
-numbers_of key first (k ∷ keys) = if key == k then first ∷ numbers_of key (first + 1) keys else numbers_of key (first + 1) keys
+numbers_of key first (k ∷ keys) =
+    if key == k then first ∷ numbers_of key (first + 1) keys else numbers_of key (first + 1) keys
 
 -- The numbers of each key.
 abbrev pub NumbersByKey : Type 0
@@ -22,7 +23,8 @@ NumbersByKey = (key : ℕ) → List ℕ
 
 -- The numbers that a map has at a key.
 abbrev pub numbers_at : {A S : Type 0} → HashMap ℕ (Vec ℕ A) S → NumbersByKey
-numbers_at numbers = λ key. unwrap_or (option_map (λ listed. listed.items) (get nat_eq numbers key)) []
+numbers_at numbers =
+    λ key. unwrap_or (option_map (λ listed. listed.items) (get nat_eq numbers key)) []
 
 -- The numbers of each key are those under which it is in the list.
 abbrev pub AreListed : (keys : List ℕ) → NumbersByKey → Type 0
@@ -30,11 +32,13 @@ AreListed keys numbers = (key : ℕ) → numbers key ≡ numbers_of key 0 keys
 
 -- A key has numbers only if its remainder is marked.
 abbrev pub AreMarked : (marks : List Bool) → NumbersByKey → Type 0
-AreMarked marks numbers = (key : ℕ) → slice_index_or marks (key % 1024) true ≡ false → numbers key ≡ []
+AreMarked marks numbers =
+    (key : ℕ) → slice_index_or marks (key % 1024) true ≡ false → numbers key ≡ []
 
 -- A key gains a number, and the other keys keep theirs.
 abbrev pub GainsNumber : (old new : NumbersByKey) → (key number : ℕ) → Type 0
-GainsNumber old new key number = (other : ℕ) → new other ≡ old other ++ (if other == key then number ∷ [] else [])
+GainsNumber old new key number =
+    (other : ℕ) → new other ≡ old other ++ (if other == key then number ∷ [] else [])
 
 -- Each key keeps its numbers.
 abbrev pub HaveSameNumbers : (old new : NumbersByKey) → Type 0
@@ -76,23 +80,29 @@ lesser None b = b
 -- The pattern with this number is found by one of the forms: its key is that of the address.
 abbrev pub FindsBy : (forms : List FormView) → (keys : List ℕ) → Hashes → (number : ℕ) → Type 0
 FindsBy forms keys hashes number =
-    (form : FormView) × Contains forms form × Fits form hashes × (slice_get keys number ≡ Some (form_key form hashes))
+    (form : FormView) × Contains forms form
+    × Fits form hashes
+    × (slice_get keys number ≡ Some (form_key form hashes))
 
 -- The pattern with this number, at or above `from`, is found by one of the forms.
-abbrev pub FindsByFrom : (forms : List FormView) → (keys : List ℕ) → Hashes → (from number : ℕ) → Type 0
+abbrev pub FindsByFrom : (forms : List FormView) → (keys : List ℕ) → Hashes
+    → (from number : ℕ) → Type 0
 FindsByFrom forms keys hashes from number = (from ≤ number) × FindsBy forms keys hashes number
 
 -- The pattern with this number, at or above `from`, is found by the form.
 abbrev pub FindsFrom : FormView → (keys : List ℕ) → Hashes → (from number : ℕ) → Type 0
-FindsFrom form keys hashes from number = (from ≤ number) × Fits form hashes × (slice_get keys number ≡ Some (form_key form hashes))
+FindsFrom form keys hashes from number =
+    (from ≤ number) × Fits form hashes × (slice_get keys number ≡ Some (form_key form hashes))
 
 -- The pattern with this number is found by the forms for the number of segments.
 abbrev pub Finds : Listing → Hashes → (number : ℕ) → Type 0
-Finds listing hashes number = FindsBy (forms_for listing.forms (length hashes.segments)) listing.keys hashes number
+Finds listing hashes number =
+    FindsBy (forms_for listing.forms (length hashes.segments)) listing.keys hashes number
 
 -- A pattern gets the next number. An address that has its fixed texts finds it, and what was found
 -- before still is.
 pub record GetsPattern (old new : Listing) (fixed : FixedTexts) : Type 0 where
   pub one_more : length new.keys ≡ length old.keys + 1
   pub others : (hashes : Hashes) (number : ℕ) → Finds old hashes number → Finds new hashes number
-  pub found : (address : AddressTexts) → HasTexts fixed address → Finds new (hashes_of address) (length old.keys)
+  pub found : (address : AddressTexts) → HasTexts fixed address
+      → Finds new (hashes_of address) (length old.keys)

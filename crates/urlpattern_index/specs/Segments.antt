@@ -8,19 +8,25 @@ use Rattle.urlpattern_index.specs.declared.path_segments.PathSegments.{PathSegme
 
 -- `hashes` and `own` result in the same keys.
 abbrev pub HaveEqualKeys : (are_fixed : List Bool) → (hashes own : List ℕ) → Type 0
-HaveEqualKeys are_fixed hashes own = (hash : ℕ) → mixed_segments hash are_fixed own ≡ mixed_segments hash are_fixed hashes
+HaveEqualKeys are_fixed hashes own =
+    (hash : ℕ) → mixed_segments hash are_fixed own ≡ mixed_segments hash are_fixed hashes
 
 -- Each text that fits the path has the segments that were read, with their fixed texts.
 pub record AreSegmentsOf (path : PathView) (segments : PathSegments) : Type 0 where
   pub few : length segments.are_fixed.items ≤ 12
   pub as_many : length segments.hashes.items ≡ length segments.are_fixed.items
-  pub enough : (text : List ℕ) → FitsPath path text → HasSegmentCount segments.is_exact (length segments.are_fixed.items) (length (segment_hashes 0 text))
-  pub alike : (text : List ℕ) → FitsPath path text → HaveEqualKeys segments.are_fixed.items segments.hashes.items (segment_hashes 0 text)
+  pub enough : (text : List ℕ) → FitsPath path text
+      → HasSegmentCount segments.is_exact (length segments.are_fixed.items)
+      (length (segment_hashes 0 text))
+  pub alike : (text : List ℕ) → FitsPath path text
+      → HaveEqualKeys segments.are_fixed.items segments.hashes.items (segment_hashes 0 text)
 
 -- Each address that has the fixed texts fits the form, and has the key in it.
 abbrev pub IsPlaceFor : FixedTexts → FormKey → Type 0
 IsPlaceFor fixed place =
-    (address : AddressTexts) → HasTexts fixed address → Fits (form_view place.form) (hashes_of address) × (place.key ≡ form_key (form_view place.form) (hashes_of address))
+    (address : AddressTexts) → HasTexts fixed address
+    → Fits (form_view place.form) (hashes_of address)
+    × (place.key ≡ form_key (form_view place.form) (hashes_of address))
 
 -- ---- reading
 

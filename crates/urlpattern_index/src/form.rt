@@ -56,7 +56,8 @@ impl Form {
 
     /// Whether a path with `count` segments has as many as the form requires.
     fn fits(&self, count: usize) -> bool
-        ensures { IsTrue result ↔ HasSegmentCount self.now.is_exact (array_vec_len self.now.segments) count }
+        ensures { IsTrue result
+            ↔ HasSegmentCount self.now.is_exact (array_vec_len self.now.segments) count }
     {
         if self.is_exact {
             count == self.segments.len()

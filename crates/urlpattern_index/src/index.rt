@@ -37,7 +37,11 @@ impl Model for Index {
 
     ghost Value = { Listing };
 
-    ghost view = { λ index. record { keys = index.keys.items; forms = map (λ group. map (λ form. form_view form) group.items) index.forms } };
+    ghost view = { λ index.
+        record {
+          keys = index.keys.items;
+          forms = map (λ group. map (λ form. form_view form) group.items) index.forms;
+        } };
 
     ghost invariant = { λ index. AreListed index.keys.items (numbers_at index.numbers.by_key) };
 }
@@ -92,7 +96,8 @@ impl Index {
     ///
     /// Does not allocate.
     pub fn first_from(&self, hashes: &AddressHashes, from: usize) -> Option<usize>
-        ensures { IsLeast (λ number. (from ≤ number) × Finds self.now (hashes_view hashes.now) number) result }
+        ensures { IsLeast
+            (λ number. (from ≤ number) × Finds self.now (hashes_view hashes.now) number) result }
     {
         let least = self.first_by_forms(self.forms_of(0), hashes, from);
         let whole = self.forms_of(hashes.segments.len());
@@ -101,7 +106,8 @@ impl Index {
 
     /// Returns the least number, at or above `from`, of a pattern found by one of the forms.
     fn first_by_forms(&self, forms: &[Form], hashes: &AddressHashes, from: usize) -> Option<usize>
-        ensures { IsLeast (FindsByFrom (map (λ form. form_view form) forms.now) self.now.keys (hashes_view hashes.now) from) result }
+        ensures { IsLeast (FindsByFrom (map (λ form. form_view form) forms.now) self.now.keys
+            (hashes_view hashes.now) from) result }
     {
         let mut least = None;
         for form in forms {
@@ -112,7 +118,8 @@ impl Index {
 
     /// Returns the least number, at or above `from`, of a pattern found by the form.
     fn first_by(&self, form: &Form, hashes: &AddressHashes, from: usize) -> Option<usize>
-        ensures { IsLeast (FindsFrom (form_view form.now) self.now.keys (hashes_view hashes.now) from) result }
+        ensures { IsLeast
+            (FindsFrom (form_view form.now) self.now.keys (hashes_view hashes.now) from) result }
     {
         let key = form.key(hashes)?;
         first_from(self.numbers.get(key), from)
@@ -143,7 +150,9 @@ impl Index {
 
     /// Whether the index has the form.
     fn has_form(&self, form: &Form) -> bool
-        ensures { IsTrue result → Contains (group self.now.forms (group_of_form (form_view form.now))) (form_view form.now) }
+        ensures { IsTrue result
+            → Contains (group self.now.forms (group_of_form (form_view form.now)))
+            (form_view form.now) }
     {
         for other in &self.forms[form.group()] {
             if other.is_same(form) {

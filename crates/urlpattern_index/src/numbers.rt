@@ -34,8 +34,10 @@ impl Numbers {
     ///
     /// If memory runs out, the numbers are unchanged.
     pub(crate) fn push(&mut self, key: u64, number: usize) -> Result<(), AllocError>
-        ensures appended { OnOk result (GainsNumber (numbers_at self.old.by_key) (numbers_at self.new.by_key) key number) }
-        ensures unchanged { OnErr result (HaveSameNumbers (numbers_at self.old.by_key) (numbers_at self.new.by_key)) }
+        ensures appended { OnOk result
+            (GainsNumber (numbers_at self.old.by_key) (numbers_at self.new.by_key) key number) }
+        ensures unchanged { OnErr result
+            (HaveSameNumbers (numbers_at self.old.by_key) (numbers_at self.new.by_key)) }
     {
         self.by_key.entry(key)?.or_default().push(number)?;
         self.marks[(key % MARKS) as usize] = true;

@@ -13,11 +13,13 @@ use Rattle.urlpattern_syntax.specs.Tokens.{AreLenientTokens, TokenView}
 -- The text is split into these components, by its lenient tokens.
 abbrev pub SplitsInto : (IsSpecial : List ℕ → Bool → Type 0) → (text : List ℕ) → Values → Type 0
 SplitsInto IsSpecial text components =
-    (tokens : List TokenView) × AreLenientTokens text tokens × IsSplit IsSpecial text tokens components
+    (tokens : List TokenView) × AreLenientTokens text tokens
+    × IsSplit IsSpecial text tokens components
 
 -- A source's text is split into the components of a `Split`, by the tokens of the source.
 abbrev pub IsSplitOf : (IsSpecial : List ℕ → Bool → Type 0) → Source → Split → Type 0
-IsSplitOf IsSpecial source split = IsSplit IsSpecial (text_of_source source) (tokens_of source) (split_values split)
+IsSplitOf IsSpecial source split =
+    IsSplit IsSpecial (text_of_source source) (tokens_of source) (split_values split)
 
 -- The text is split into these components if its protocol, where it has one, is special or not as
 -- given.
@@ -26,7 +28,8 @@ SplitsAs text special components = SplitsInto (λ protocol answer. answer ≡ sp
 
 -- The turns are at most two for each lenient token of the text.
 abbrev pub AreFewTurns : (text : List ℕ) → (turns : ℕ) → Type 0
-AreFewTurns text turns = (tokens : List TokenView) × AreLenientTokens text tokens × (turns ≤ 2 * length tokens)
+AreFewTurns text turns =
+    (tokens : List TokenView) × AreLenientTokens text tokens × (turns ≤ 2 * length tokens)
 
 -- The text is rejected with this error: that of its protocol, or `BaseUrlRequired` if it has
 -- neither a protocol nor a base URL.
@@ -45,4 +48,5 @@ HasProtocolOrBase init = ¬ ((init.protocol ≡ None) × (init.base_url ≡ None
 abbrev pub SplitsAreOneOrInDoubt : (IsSpecial : List ℕ → Bool → Type 0) → Type 0
 SplitsAreOneOrInDoubt IsSpecial = (text : List ℕ) (components others : Values) →
     SplitsInto IsSpecial text components → SplitsInto IsSpecial text others →
-    (components ≡ others) ⊎ HasProtocol text (λ protocol. IsSpecial protocol true × IsSpecial protocol false)
+    (components ≡ others)
+    ⊎ HasProtocol text (λ protocol. IsSpecial protocol true × IsSpecial protocol false)

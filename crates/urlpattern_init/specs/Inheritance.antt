@@ -21,7 +21,16 @@ use Rattle.urlpattern_syntax.specs.Text.{begins_with, byte_len, chars, text_of}
 
 -- The texts of an init's components.
 abbrev pub given_texts : UrlPatternInit → Eight (Option (String Global))
-given_texts given = record { protocol = given.protocol; username = given.username; password = given.password; hostname = given.hostname; port = given.port; pathname = given.pathname; search = given.search; hash = given.hash }
+given_texts given = record {
+  protocol = given.protocol;
+  username = given.username;
+  password = given.password;
+  hostname = given.hostname;
+  port = given.port;
+  pathname = given.pathname;
+  search = given.search;
+  hash = given.hash;
+}
 
 -- Optional texts as values.
 abbrev pub values_of : Eight (Option (String Global)) → Values
@@ -62,7 +71,8 @@ is_inheritable ProcessType.Pattern Password = false
 is_inheritable mode component = true
 
 -- The processed text of a component; port and pathname depend on the processed protocol.
-abbrev pub processed_text : ProcessType → (protocol : Option (List ℕ)) → ComponentName → List ℕ → Parsed (List ℕ)
+abbrev pub processed_text : ProcessType → (protocol : Option (List ℕ)) → ComponentName → List ℕ
+    → Parsed (List ℕ)
 processed_text mode protocol Protocol text = processed_protocol mode text
 processed_text mode protocol Username text = processed_username mode text
 processed_text mode protocol Password text = processed_password mode text
@@ -81,7 +91,8 @@ is_slash c = c == slash
 -- or one open brace.
 abbrev pub is_absolute : ProcessType → List ℕ → Bool
 is_absolute ProcessType.Pattern text =
-    begins_with is_slash (without_first backslash text) || begins_with is_slash (without_first left_brace text)
+    begins_with is_slash (without_first backslash text)
+    || begins_with is_slash (without_first left_brace text)
 is_absolute ProcessType.Url text = begins_with is_slash text
 
 -- A path up to its last slash, the slash included.
@@ -94,7 +105,8 @@ up_to_last_slash (c ∷ path) = if list_any is_slash (c ∷ path) then c ∷ up_
 abbrev pub path_prefix : ProcessType → Option Parts → List ℕ → List ℕ
 path_prefix mode None text = []
 path_prefix mode (Some base) text =
-    if is_absolute mode text || cannot_be_a_base base then [] else processed_base mode (chars (up_to_last_slash base.path))
+    if is_absolute mode text || cannot_be_a_base base then []
+    else processed_base mode (chars (up_to_last_slash base.path))
 
 -- ---- processed values
 
@@ -120,14 +132,18 @@ missing ProcessType.Pattern = None
 missing ProcessType.Url = Some []
 
 -- The processed value of a component, given its text in the init, if there is one.
-abbrev pub value_given : ProcessType → Values → Option Parts → (protocol : Option (List ℕ)) → ComponentName → Option (List ℕ)
+abbrev pub value_given : ProcessType → Values → Option Parts
+    → (protocol : Option (List ℕ)) → ComponentName → Option (List ℕ)
     → Parsed (Option (List ℕ))
-value_given mode values base protocol component None = Ok (option_or (inherited mode values base component) (missing mode))
+value_given mode values base protocol component None =
+    Ok (option_or (inherited mode values base component) (missing mode))
 value_given mode values base protocol component (Some text) =
-    and_then (processed_text mode protocol component (given_text mode base component text)) (λ value. Ok (Some value))
+    and_then (processed_text mode protocol component (given_text mode base component text))
+    (λ value. Ok (Some value))
 
 -- The processed value of a component.
-abbrev pub processed_value : ProcessType → Values → Option Parts → (protocol : Option (List ℕ)) → ComponentName → Parsed (Option (List ℕ))
+abbrev pub processed_value : ProcessType → Values → Option Parts
+    → (protocol : Option (List ℕ)) → ComponentName → Parsed (Option (List ℕ))
 processed_value mode values base protocol component =
     value_given mode values base protocol component (at values component)
 
@@ -137,7 +153,8 @@ error_or (Err reason) later = Some reason
 error_or (Ok value) later = later
 
 -- The first error among the results for these components.
-abbrev pub first_error : {A : Type 0} → (ComponentName → Parsed A) → List ComponentName → Option ParseError
+abbrev pub first_error : {A : Type 0} → (ComponentName → Parsed A) → List ComponentName
+    → Option ParseError
 first_error answers [] = None
 first_error answers (name ∷ others) = error_or (answers name) (first_error answers others)
 
@@ -153,12 +170,14 @@ unless_error None values = Ok values
 
 -- The values that are the results for the components, or the first error.
 abbrev pub all_values : (ComponentName → Parsed (Option (List ℕ))) → Parsed Values
-all_values answers = unless_error (first_error answers components) (each (λ name. value_or_none (answers name)))
+all_values answers =
+    unless_error (first_error answers components) (each (λ name. value_or_none (answers name)))
 
 -- The processed values of an init with this base, or the first error.
 unfoldable pub processed_values : ProcessType → Values → Option Parts → Parsed Values
 processed_values mode values base =
-    and_then (processed_value mode values base None Protocol) (λ protocol. all_values (processed_value mode values base protocol))
+    and_then (processed_value mode values base None Protocol) (λ protocol.
+    all_values (processed_value mode values base protocol))
 
 -- ---- lengths of texts that `url` receives
 
@@ -169,7 +188,8 @@ bytes_of text = byte_len (unwrap_or text [])
 -- The length in bytes of a component's given text: of a relative pathname, with what is put before
 -- it from the base.
 abbrev pub given_bytes : ProcessType → Values → Option Parts → ComponentName → ℕ
-given_bytes mode values base component = bytes_of (option_map (given_text mode base component) (at values component))
+given_bytes mode values base component =
+    bytes_of (option_map (given_text mode base component) (at values component))
 
 -- The length in bytes of the processed protocol, 0 for an error.
 abbrev pub protocol_bytes : Parsed (Option (List ℕ)) → ℕ
@@ -179,7 +199,8 @@ protocol_bytes (Err reason) = 0
 -- The length in bytes of the longest text that `url` receives; for a pattern it receives none.
 unfoldable pub longest_bytes : ProcessType → Values → Option Parts → ℕ
 longest_bytes mode values base =
-    bytes_passed mode (fold max (protocol_bytes (processed_value mode values base None Protocol)) (map (given_bytes mode values base) components))
+    bytes_passed mode (fold max (protocol_bytes (processed_value mode values base None Protocol))
+    (map (given_bytes mode values base) components))
 
 -- The processed values of an init, or the first error.
 abbrev pub init_values : ProcessType → UrlPatternInit → Parsed Values

@@ -17,9 +17,11 @@ abbrev pub given_values : Processing → Values
 given_values processing = values_view processing.init.now
 
 -- The processed value of a component, under this protocol.
-abbrev pub value_in : Processing → (protocol : Option (List ℕ)) → ComponentName → Parsed (Option (List ℕ))
+abbrev pub value_in : Processing → (protocol : Option (List ℕ)) → ComponentName
+    → Parsed (Option (List ℕ))
 value_in processing protocol component =
-    processed_value processing.kind.now (given_values processing) processing.init.now.base_url protocol component
+    processed_value processing.kind.now (given_values processing) processing.init.now.base_url
+    protocol component
 
 -- The processed values of the init.
 abbrev pub values_in : Processing → Parsed Values
@@ -34,14 +36,17 @@ bytes_in processing = longest_init_bytes processing.kind.now processing.init.now
 abbrev pub component_bytes : Processing → (protocol_bytes : ℕ) → ComponentName → ℕ
 component_bytes processing protocol_bytes component =
     bytes_passed processing.kind.now
-    (max protocol_bytes (given_bytes processing.kind.now (given_values processing) processing.init.now.base_url component))
+    (max protocol_bytes (given_bytes processing.kind.now (given_values processing)
+    processing.init.now.base_url component))
 
 -- A given text of the init, after what is put before it.
 abbrev pub given_in : Processing → ComponentName → List ℕ → List ℕ
-given_in processing component text = given_text processing.kind.now processing.init.now.base_url component text
+given_in processing component text =
+    given_text processing.kind.now processing.init.now.base_url component text
 
 -- The processed value of a given text, under this protocol.
-abbrev pub text_value_in : Processing → (protocol : Option (List ℕ)) → ComponentName → List ℕ → Parsed (List ℕ)
+abbrev pub text_value_in : Processing → (protocol : Option (List ℕ)) → ComponentName → List ℕ
+    → Parsed (List ℕ)
 text_value_in processing protocol component text =
     processed_text processing.kind.now protocol component (given_in processing component text)
 
@@ -50,28 +55,38 @@ abbrev pub optional_bytes : Option (Bor (List ℕ)) → ℕ
 optional_bytes text = length (unwrap_or (option_copied text) [])
 
 -- The result is that of processing a given text under a protocol.
-abbrev pub IsTextResult : Processing → (protocol : Option (Bor (List ℕ))) → ComponentName → List ℕ → Result (String Global) Error → Type 0
+abbrev pub IsTextResult : Processing → (protocol : Option (Bor (List ℕ))) → ComponentName → List ℕ
+    → Result (String Global) Error → Type 0
 IsTextResult processing protocol component text result =
     IsResult (text_value_in processing (option_text protocol) component text)
-    (bytes_passed processing.kind.now (max (optional_bytes protocol) (byte_len (given_in processing component text)))) result
+    (bytes_passed processing.kind.now
+    (max (optional_bytes protocol) (byte_len (given_in processing component text)))) result
 
 -- The result is that of processing a given pathname; its errors depend on its own length alone.
-abbrev pub IsGivenPathnameResult : Processing → (protocol : Option (Bor (List ℕ))) → List ℕ → Result (String Global) Error → Type 0
+abbrev pub IsGivenPathnameResult : Processing → (protocol : Option (Bor (List ℕ))) → List ℕ
+    → Result (String Global) Error → Type 0
 IsGivenPathnameResult processing protocol text result =
     IsResult (text_value_in processing (option_text protocol) ComponentName.Pathname text)
-    (bytes_passed processing.kind.now (byte_len (given_in processing ComponentName.Pathname text))) result
+    (bytes_passed processing.kind.now (byte_len (given_in processing ComponentName.Pathname text)))
+    result
 
 -- The value of a component that the init lacks.
 abbrev pub lacking_in : Processing → ComponentName → Option (List ℕ)
 lacking_in processing component =
-    option_or (inherited processing.kind.now (given_values processing) processing.init.now.base_url component) (missing processing.kind.now)
+    option_or (inherited processing.kind.now (given_values processing) processing.init.now.base_url
+    component) (missing processing.kind.now)
 
 -- The error is that of a component's value, or `OutOfMemory`.
-abbrev pub IsFailureIn : Processing → (protocol : Option (List ℕ)) → (protocol_bytes : ℕ) → ComponentName → Error → Type 0
+abbrev pub IsFailureIn : Processing → (protocol : Option (List ℕ)) → (protocol_bytes : ℕ)
+    → ComponentName → Error → Type 0
 IsFailureIn processing protocol protocol_bytes component =
-    MemoryOr (Reports (value_in processing protocol component) (component_bytes processing protocol_bytes component))
+    MemoryOr (Reports (value_in processing protocol component)
+    (component_bytes processing protocol_bytes component))
 
 -- The result is the processed value of a component other than the protocol, or its error.
-pub record IsValueAfter (processing : Processing) (protocol : Option (List ℕ)) (component : ComponentName) (result : Result (Option (String Global)) Error) : Type 0 where
-  pub ok : IfOk result (λ value. component ≢ ComponentName.Protocol → value_in processing protocol component ≡ Ok (option_map text_of value))
+pub record IsValueAfter (processing : Processing) (protocol : Option (List ℕ))
+    (component : ComponentName) (result : Result (Option (String Global)) Error) : Type 0 where
+  pub ok : IfOk result (λ value.
+      component ≢ ComponentName.Protocol
+      → value_in processing protocol component ≡ Ok (option_map text_of value))
   pub err : IfErr result (IsFailureIn processing protocol (bytes_of protocol) component)

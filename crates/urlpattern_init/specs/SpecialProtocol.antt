@@ -16,27 +16,34 @@ use Rattle.urlpattern_syntax.specs.Reading.{Encoding, Reads, Rejects, encoding_o
 
 -- What `canonicalize_protocol` may return for the bytes of a text.
 abbrev pub CanonicalizesProtocol : List ℕ → Result (String Global) Error → Type 0
-CanonicalizesProtocol bytes returned = IsResult (canonical_protocol (chars bytes)) (length bytes) returned
+CanonicalizesProtocol bytes returned =
+    IsResult (canonical_protocol (chars bytes)) (length bytes) returned
 
 -- The encoding by `canonicalize_protocol`.
 abbrev pub protocol_encoding : Encoding
 protocol_encoding = encoding_of CanonicalizesProtocol
 
 -- The matcher accepts one of these texts, with engines that match by `answer`.
-abbrev pub AcceptsAny : {E : Type 0} → (answer : E → List ℕ → Option Captures) → Matcher E → List (Bor (List ℕ)) → Type 0
-AcceptsAny answer matcher texts = Any (λ text. IsMatched answer (matcher_view matcher) (chars text.now)) texts
+abbrev pub AcceptsAny : {E : Type 0} → (answer : E → List ℕ → Option Captures) → Matcher E
+    → List (Bor (List ℕ)) → Type 0
+AcceptsAny answer matcher texts =
+    Any (λ text. IsMatched answer (matcher_view matcher) (chars text.now)) texts
 
 -- The matcher accepts one of the special schemes, with engines that match by `answer`.
-abbrev pub AcceptsSpecialScheme : {E : Type 0} → (answer : E → List ℕ → Option Captures) → MatcherView E → Type 0
-AcceptsSpecialScheme answer matcher = Any (λ scheme. IsMatched answer matcher scheme.0) special_schemes
+abbrev pub AcceptsSpecialScheme : {E : Type 0} → (answer : E → List ℕ → Option Captures)
+    → MatcherView E → Type 0
+AcceptsSpecialScheme answer matcher =
+    Any (λ scheme. IsMatched answer matcher scheme.0) special_schemes
 
 -- The matcher accepts this text and no other.
-abbrev pub AcceptsOnly : {E : Type 0} → (answer : E → List ℕ → Option Captures) → MatcherView E → (only : List ℕ) → Type 0
+abbrev pub AcceptsOnly : {E : Type 0} → (answer : E → List ℕ → Option Captures) → MatcherView E
+    → (only : List ℕ) → Type 0
 AcceptsOnly answer matcher only = (text : List ℕ) → IsMatched answer matcher text ↔ (text ≡ only)
 
 -- The engine compiles the protocol's pattern under the default options, and the matcher decides
 -- whether the protocol is special.
-pub record IsSpecialTo {E : Type 0} (engine : Engine E) (protocol : List ℕ) (special : Bool) : Type 0 where
+pub record IsSpecialTo {E : Type 0} (engine : Engine E) (protocol : List ℕ) (special : Bool) : Type
+    0 where
   pub parts : List PartView
   pub matcher : MatcherView E
   pub reads : Reads protocol default_options protocol_encoding parts
@@ -45,7 +52,8 @@ pub record IsSpecialTo {E : Type 0} (engine : Engine E) (protocol : List ℕ) (s
 
 -- The text of a protocol and its component, compiled with its parts under the default options.
 abbrev pub IsKnownProtocol : {E : Type 0} → Engine E → Bor (List ℕ) × ComponentWithParts E → Type 0
-IsKnownProtocol engine known = IsCompiledKeeping engine (chars known.0.now) default_options protocol_encoding known.1
+IsKnownProtocol engine known =
+    IsCompiledKeeping engine (chars known.0.now) default_options protocol_encoding known.1
 
 -- The pattern of a protocol is rejected with this error.
 abbrev pub RejectsProtocol : List ℕ → ErrorView → Type 0

@@ -17,7 +17,8 @@ use urlpattern_matcher::regexp::RegExp;
 /// A constructor string has exactly one split once it is decided whether its protocol is special.
 /// With engines of one type it has at most one, unless they permit both decisions.
 pub fn splits_are_one<R: RegExp>()
-    ensures exist { (text : List ℕ) (special : Bool) → (components : Values) × SplitsAs text special components }
+    ensures exist { (text : List ℕ) (special : Bool)
+        → (components : Values) × SplitsAs text special components }
     ensures given { (text : List ℕ) (special : Bool) → AtMostOne (SplitsAs text special) }
     ensures computed { SplitsAreOneOrInDoubt (IsSpecialTo R.RegExp) }
 {}

@@ -40,7 +40,8 @@ impl UrlPatternInit {
         pattern: &str,
         base_url: Option<Url>,
     ) -> Result<UrlPatternInit, Error>
-        ensures split { IfOk result (λ init. SplitsInto (IsSpecialTo R.RegExp) (chars pattern.now) (values_view init)) }
+        ensures split { IfOk result (λ init.
+            SplitsInto (IsSpecialTo R.RegExp) (chars pattern.now) (values_view init)) }
         ensures base { IfOk result (λ init. init.base_url ≡ base_url) }
         ensures complete { IfOk result HasProtocolOrBase }
         ensures refused { IfErr result (MemoryOr (RejectsString (chars pattern.now) base_url)) }
@@ -56,7 +57,8 @@ impl UrlPatternInit {
         pattern: &str,
         base_url: Option<Url>,
     ) -> Result<(UrlPatternInit, usize), Error>
-        ensures split { IfOk result (λ found. SplitsInto (IsSpecialTo R.RegExp) (chars pattern.now) (values_view found.0)) }
+        ensures split { IfOk result (λ found.
+            SplitsInto (IsSpecialTo R.RegExp) (chars pattern.now) (values_view found.0)) }
         ensures turns { IfOk result (λ found. AreFewTurns (chars pattern.now) found.1) }
         ensures base { IfOk result (λ found. found.0.base_url ≡ base_url) }
         ensures complete { IfOk result (λ found. HasProtocolOrBase found.0) }
@@ -83,7 +85,8 @@ impl UrlPatternInit {
         ),
         Error,
     >
-        ensures split { IfOk result (λ found. SplitsInto (IsSpecialTo R.RegExp) (chars pattern.now) (values_view found.0)) }
+        ensures split { IfOk result (λ found.
+            SplitsInto (IsSpecialTo R.RegExp) (chars pattern.now) (values_view found.0)) }
         ensures turns { IfOk result (λ found. AreFewTurns (chars pattern.now) found.1) }
         ensures base { IfOk result (λ found. found.0.base_url ≡ base_url) }
         ensures complete { IfOk result (λ found. HasProtocolOrBase found.0) }
@@ -106,7 +109,8 @@ impl UrlPatternInit {
 
 /// The pattern of the protocol in a constructor string, if it has one.
 pub fn protocol_of(alloc: Global, pattern: &str) -> Result<Option<&str>, Error>
-    ensures protocol { IfOk result (λ found. IfSome found (λ protocol. HasProtocol (chars pattern.now) (λ text. text ≡ chars protocol.now))) }
+    ensures protocol { IfOk result (λ found. IfSome found (λ protocol.
+        HasProtocol (chars pattern.now) (λ text. text ≡ chars protocol.now))) }
     ensures memory { OnlyOutOfMemory result }
 {
     let tokens = tokenize(alloc, pattern, TokenizePolicy::Lenient)?;
@@ -141,7 +145,8 @@ fn split<'a, R: RegExp>(
     ensures split { IfOk result (λ found. IsSplitOf (IsSpecialTo R.RegExp) source.now found.0) }
     ensures turns { IfOk result (λ found. found.0.turns ≤ 2 * length source.now.tokens.now) }
     ensures known { IfOk result (λ found. IfSome found.1 (IsKnownProtocol R.RegExp)) }
-    ensures refused { IfErr result (MemoryOr (λ error. HasProtocol (text_of_source source.now) (λ protocol. RejectsProtocol protocol error))) }
+    ensures refused { IfErr result (MemoryOr (λ error.
+        HasProtocol (text_of_source source.now) (λ protocol. RejectsProtocol protocol error))) }
 {
     let start = Position {
         index: 0,

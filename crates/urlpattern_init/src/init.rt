@@ -48,7 +48,8 @@ pub struct UrlPatternInit {
 
 /// A copy has the same texts and the same base URL.
 impl Clone for UrlPatternInit {
-    ghost is_clone = { λ init copy. (values_view copy ≡ values_view init) × (copy.base_url ≡ init.base_url) };
+    ghost is_clone = { λ init copy.
+        (values_view copy ≡ values_view init) × (copy.base_url ≡ init.base_url) };
 
     fn clone(&self) -> Result<Self, AllocError> {
         let texts = Eight::try_from_fn(|name| self.copied(name))?;

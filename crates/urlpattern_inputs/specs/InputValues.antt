@@ -12,7 +12,16 @@ use Rattle.urlpattern_components.specs.Eight.{at, each}
 
 -- The texts of an init's components.
 abbrev pub plain_init_texts : UrlPatternInit → Eight (Option (String Global))
-plain_init_texts given = record { protocol = given.protocol; username = given.username; password = given.password; hostname = given.hostname; port = given.port; pathname = given.pathname; search = given.search; hash = given.hash }
+plain_init_texts given = record {
+  protocol = given.protocol;
+  username = given.username;
+  password = given.password;
+  hostname = given.hostname;
+  port = given.port;
+  pathname = given.pathname;
+  search = given.search;
+  hash = given.hash;
+}
 
 -- An init: the text of each component, where it is given, and the base URL.
 pub record InitView : Type 0 where
@@ -38,7 +47,16 @@ input_view (StringOrInit.Init values) = of_init (init_view values)
 
 -- The texts of the components.
 abbrev pub matched_texts : MatchInput → Eight (String Global)
-matched_texts input = record { protocol = input.protocol; username = input.username; password = input.password; hostname = input.hostname; port = input.port; pathname = input.pathname; search = input.search; hash = input.hash }
+matched_texts input = record {
+  protocol = input.protocol;
+  username = input.username;
+  password = input.password;
+  hostname = input.hostname;
+  port = input.port;
+  pathname = input.pathname;
+  search = input.search;
+  hash = input.hash;
+}
 
 abbrev pub match_input_view : MatchInput → Eight (List ℕ)
 match_input_view input = each (λ name. string_bytes (at (matched_texts input) name))

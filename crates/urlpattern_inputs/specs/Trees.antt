@@ -23,11 +23,13 @@ all_with members [] = members
 all_with members (named ∷ rest) = all_with (with members named) rest
 
 -- The entries of an object gain the trees at the names that have one.
-abbrev pub GainAll : (before after : List (String Global × Value)) → List (List ℕ × Option Data) → Type 0
+abbrev pub GainAll : (before after : List (String Global × Value)) → List (List ℕ × Option Data)
+    → Type 0
 GainAll before after named = members_view after ≡ all_with (members_view before) named
 
 -- The entries of an object gain the tree at the name, if there is one.
-abbrev pub Gain : (before after : List (String Global × Value)) → (name : List ℕ) → Option Data → Type 0
+abbrev pub Gain : (before after : List (String Global × Value)) → (name : List ℕ) → Option Data
+    → Type 0
 Gain before after name tree = GainAll before after ((name, tree) ∷ [])
 
 -- The object with a member for each name that has a tree.
@@ -65,7 +67,8 @@ flag_read name tree = member_read as_bool name tree
 -- The value of an optional tree; `None` for a missing tree, or null.
 abbrev pub found_read : {A : Type 0} → (Data → Option A) → Option Data → Option (Option A)
 found_read read None = Some None
-found_read read (Some tree) = if is_some (as_null tree) then Some None else option_map Some (read tree)
+found_read read (Some tree) =
+    if is_some (as_null tree) then Some None else option_map Some (read tree)
 
 -- The value of an optional member.
 abbrev pub optional_read : {A : Type 0} → (Data → Option A) → List ℕ → Data → Option (Option A)
@@ -82,4 +85,13 @@ read_each read = do
   pathname ← read Pathname
   search ← read Search
   hash ← read Hash
-  Some (record { protocol = protocol; username = username; password = password; hostname = hostname; port = port; pathname = pathname; search = search; hash = hash })
+  Some (record {
+    protocol = protocol;
+    username = username;
+    password = password;
+    hostname = hostname;
+    port = port;
+    pathname = pathname;
+    search = search;
+    hash = hash;
+  })

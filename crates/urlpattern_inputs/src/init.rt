@@ -79,7 +79,8 @@ impl UrlPatternInit {
     }
 
     fn members(&self, alloc: Global) -> Result<Map<String, Value>, AllocError>
-        ensures { IfOk result (λ members. object (members_view members.entries) ≡ init_tree (init_view self.now)) }
+        ensures { IfOk result (λ members.
+            object (members_view members.entries) ≡ init_tree (init_view self.now)) }
     {
         let mut members = Map::new(alloc);
         for name in ComponentName::all() {
@@ -92,7 +93,8 @@ impl UrlPatternInit {
     /// Reads an init from JSON: an object, in which each key may be missing or null. Other keys are
     /// ignored. `None`: the JSON has another shape.
     pub fn from_json_value(alloc: Global, value: &Value) -> Result<Option<Self>, Error>
-        ensures read { IfOk result (λ found. option_map init_view found ≡ init_read (view value.now)) }
+        ensures read { IfOk result (λ found.
+            option_map init_view found ≡ init_read (view value.now)) }
         ensures memory { OnlyOutOfMemory result }
     {
         read_or_none(Self::read(alloc, value))
@@ -127,7 +129,8 @@ impl UrlPatternInit {
 
     /// The text of a component, if it is given.
     pub fn get(&self, name: ComponentName) -> Option<&str>
-        ensures { option_copied result ≡ option_map string_bytes (at (plain_init_texts self.now) name) }
+        ensures { option_copied result
+            ≡ option_map string_bytes (at (plain_init_texts self.now) name) }
     {
         field_of!(self, name).as_deref()
     }

@@ -43,7 +43,8 @@ impl<'a> StringOrInit<'a> {
     /// Reads an input, which owns its text, from JSON: a string, or the object of an init. `None`:
     /// the JSON has another shape.
     pub fn from_json_value(alloc: Global, value: &Value) -> Result<Option<Self>, Error>
-        ensures read { IfOk result (λ found. option_map input_view found ≡ input_read (view value.now)) }
+        ensures read { IfOk result (λ found.
+            option_map input_view found ≡ input_read (view value.now)) }
         ensures memory { OnlyOutOfMemory result }
     {
         read_or_none(Self::read(alloc, value))

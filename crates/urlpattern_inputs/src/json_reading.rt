@@ -81,7 +81,8 @@ pub fn optional_text_field(
     tree: &Value,
     name: &str,
 ) -> Result<Option<String>, Unread>
-    ensures { ReturnsRead (option_map string_bytes) result (optional_read as_str name.now (view tree.now)) }
+    ensures { ReturnsRead (option_map string_bytes) result
+        (optional_read as_str name.now (view tree.now)) }
 {
     let Some(member) = tree.get(name) else {
         return Ok(None);

@@ -14,7 +14,8 @@ pub fn put_text(
     name: &str,
     text: &str,
 ) -> Result<(), AllocError>
-    ensures { OnOk result (Gain members.old.entries members.new.entries name.now (Some (string text.now))) }
+    ensures { OnOk result
+        (Gain members.old.entries members.new.entries name.now (Some (string text.now))) }
 {
     serde_json::put(members, alloc, name, Value::try_from_str(alloc, text)?)
 }
@@ -26,7 +27,8 @@ pub fn put_optional(
     name: &str,
     text: Option<&str>,
 ) -> Result<(), AllocError>
-    ensures { OnOk result (Gain members.old.entries members.new.entries name.now (option_map string (option_copied text.entry))) }
+    ensures { OnOk result (Gain members.old.entries members.new.entries name.now
+        (option_map string (option_copied text.entry))) }
 {
     match text {
         Some(text) => put_text(members, alloc, name, text),

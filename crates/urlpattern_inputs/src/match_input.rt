@@ -63,7 +63,8 @@ impl MatchInput {
 
     /// Returns the JSON of the input: an object with a key for each text.
     pub fn to_json_value(&self, alloc: Global) -> Result<Value, Error>
-        ensures tree { IfOk result (λ tree. view tree ≡ match_input_tree (match_input_view self.now)) }
+        ensures tree { IfOk result (λ tree.
+            view tree ≡ match_input_tree (match_input_view self.now)) }
         ensures memory { OnlyOutOfMemory result }
     {
         Ok(self.tree(alloc)?)
@@ -82,7 +83,8 @@ impl MatchInput {
     /// Reads an input from JSON: an object with a text for each key. Other keys are ignored.
     /// `None`: the JSON has another shape.
     pub fn from_json_value(alloc: Global, value: &Value) -> Result<Option<Self>, Error>
-        ensures read { IfOk result (λ found. option_map match_input_view found ≡ match_input_read (view value.now)) }
+        ensures read { IfOk result (λ found.
+            option_map match_input_view found ≡ match_input_read (view value.now)) }
         ensures memory { OnlyOutOfMemory result }
     {
         read_or_none(Self::read(alloc, value))

@@ -17,7 +17,8 @@ MatchesWhole pattern text = Matches (encode_utf8_all text) pattern 0 (length (en
 
 -- The grammar reads the expression as a pattern that matches the whole text.
 abbrev pub ExpressionMatches : (expression text : List ℕ) → Type 0
-ExpressionMatches expression text = IsSomeAnd (read default_config expression) (λ (pattern, names). MatchesWhole pattern.value text)
+ExpressionMatches expression text =
+    IsSomeAnd (read default_config expression) (λ (pattern, names). MatchesWhole pattern.value text)
 
 -- ---- expressions that mean the same by themselves and in a longer expression
 
@@ -50,7 +51,9 @@ comment_sign = 0x23
 -- text after it in a comment.
 unfoldable pub is_self_contained : (expression : List ℕ) → Bool
 is_self_contained expression =
-    lacks comment_sign expression && is_some_and (read default_config expression) (λ (pattern, names). matches_characters pattern.value)
+    lacks comment_sign expression
+    && is_some_and (read default_config expression) (λ (pattern, names). matches_characters
+    pattern.value)
 
 -- ---- expressions that capture nothing
 
@@ -66,5 +69,7 @@ is_groupless pattern = true
 -- zero times is not in the pattern, but has a number too.
 unfoldable pub captures_nothing : (expression : List ℕ) → Bool
 captures_nothing expression =
-    is_some_and (branches (2 * length expression + 2) (record { config = default_config; names = None ∷ []; text = expression })) (λ (patterns, end).
+    is_some_and (branches (2 * length expression + 2)
+    (record { config = default_config; names = None ∷ []; text = expression })) (λ
+    (patterns, end).
     (length end.names == 1) && is_groupless (join alt_all patterns).value)

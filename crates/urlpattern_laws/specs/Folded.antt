@@ -14,7 +14,11 @@ use Rattle.urlpattern_compile.specs.{Compiled.IsComponentCompiled, Compiled.Pars
 
 -- A part with its texts folded. The name is not folded.
 abbrev pub folded_part : PartView → PartView
-folded_part part = record part { value = folded true part.value; prefix = folded true part.prefix; suffix = folded true part.suffix }
+folded_part part = record part {
+  value = folded true part.value;
+  prefix = folded true part.prefix;
+  suffix = folded true part.suffix;
+}
 
 -- The parts with their texts folded.
 abbrev pub folded_parts : List PartView → List PartView
@@ -22,7 +26,11 @@ folded_parts parts = map folded_part parts
 
 -- The options for folded texts: the delimiter is folded, and texts are compared exactly.
 abbrev pub folded_options : OptionsView → OptionsView
-folded_options options = record options { delimiter = option_map (folded_character true) options.delimiter; ignore_case = false }
+folded_options options = record options {
+  delimiter =
+      option_map (folded_character true) options.delimiter;
+  ignore_case = false;
+}
 
 -- ---- captures
 
@@ -35,8 +43,10 @@ IsWithinCopy part substring (Some piece) =
     × (length before ≡ length part.prefix) × (length after ≡ length part.suffix)
 
 -- The part means the substring but for case, with these captures of the substring.
-pub record IsFoldedMatch (options : OptionsView) (part : PartView) (substring : List ℕ) (captures : Captures) : Type 0 where
-  pub means : PartMeans (folded_options options) (folded_part part) (folded true substring) (folded_captures captures)
+pub record IsFoldedMatch (options : OptionsView) (part : PartView) (substring : List ℕ)
+    (captures : Captures) : Type 0 where
+  pub means : PartMeans (folded_options options) (folded_part part) (folded true substring)
+      (folded_captures captures)
   pub are_pieces : All (IsWithinCopy part substring) captures
 
 -- The text is split into one substring for each part, which the part means but for case, with these
@@ -44,17 +54,22 @@ pub record IsFoldedMatch (options : OptionsView) (part : PartView) (substring : 
 abbrev pub FoldedMean : OptionsView → List PartView → List ℕ → Captures → Type 0
 FoldedMean options [] text captures = (text ≡ []) × (captures ≡ [])
 FoldedMean options (part ∷ parts) text captures =
-    (first rest : List ℕ) × (own others : Captures) × (text ≡ first ++ rest) × (captures ≡ own ++ others)
+    (first rest : List ℕ) × (own others : Captures)
+    × (text ≡ first ++ rest)
+    × (captures ≡ own ++ others)
     × IsFoldedMatch options part first own × FoldedMean options parts rest others
 
 -- Folded, the captures are those of the first way in which the folded parts match the folded text,
 -- or `None` if they do not match it. Unfolded, the captures are substrings of the text.
-pub record IsFoldedFirst (options : OptionsView) (parts : List PartView) (text : List ℕ) (captures : Option Captures) : Type 0 where
-  pub is_first : IsFirstOf (folded_options options) (folded_parts parts) (folded true text) (option_map folded_captures captures)
+pub record IsFoldedFirst (options : OptionsView) (parts : List PartView) (text : List ℕ)
+    (captures : Option Captures) : Type 0 where
+  pub is_first : IsFirstOf (folded_options options) (folded_parts parts) (folded true text)
+      (option_map folded_captures captures)
   pub are_pieces : IfSome captures (FoldedMean options parts text)
 
 -- The captures are those of the first way, case ignored, of the parts of the pattern text.
-pub record IsFoldedWay (settings : ParseSettings) (text : List ℕ) (captures : Option Captures) : Type 0 where
+pub record IsFoldedWay (settings : ParseSettings) (text : List ℕ) (captures : Option Captures) :
+    Type 0 where
   pub parts : List PartView
   pub reads : ReadsAs settings parts
   pub is_first : IsFoldedFirst settings.options parts text captures
@@ -68,21 +83,26 @@ HoldsNoEngine (SingleCapture filter allow_empty) = Unit {0}
 HoldsNoEngine (RegExp engine) = ⊥
 
 -- The component ignores case, and needs no engine: none of the parts of its pattern text is custom.
-pub record IgnoresCase {E : Type 0} (settings : ParseSettings) (compiled : ComponentView E) : Type 0 where
-  pub case_ignored : settings.options.ignore_case ≡ true
-  pub generated : ReadsNoCustom settings
-  pub no_engine : HoldsNoEngine compiled.matcher.inner
+pub record IgnoresCase {E : Type 0} (settings : ParseSettings) (compiled : ComponentView E) : Type 0
+  where
+    pub case_ignored : settings.options.ignore_case ≡ true
+    pub generated : ReadsNoCustom settings
+    pub no_engine : HoldsNoEngine compiled.matcher.inner
 
 -- For each text without line feeds, a component that ignores case without an engine returns the
 -- captures of the first way, case ignored, of the parts of its pattern text.
 abbrev pub FoldedWaysAreReturned : {E : Type 0} → Engine E → Type 0
-FoldedWaysAreReturned {E} engine = (settings : ParseSettings) (compiled : ComponentView E) (text : List ℕ) (result : Option Captures) →
+FoldedWaysAreReturned {E} engine =
+    (settings : ParseSettings) (compiled : ComponentView E) (text : List ℕ)
+    (result : Option Captures)
+    →
     IsComponentCompiled engine settings compiled → IgnoresCase settings compiled → IsLine text →
     Returns engine.answer compiled.matcher text result → IsFoldedWay settings text result
 
 -- The captures are those of the first way, case ignored, of the parts between an initial and a
 -- final plain fixed text, for the text between these two.
-pub record IsFirstBetween (options : OptionsView) (parts : List PartView) (text : List ℕ) (captures : Captures) : Type 0 where
+pub record IsFirstBetween (options : OptionsView) (parts : List PartView) (text : List ℕ)
+    (captures : Captures) : Type 0 where
   pub front : Option PartView
   pub middle : List PartView
   pub back : Option PartView
@@ -99,20 +119,30 @@ pub record IsFirstBetween (options : OptionsView) (parts : List PartView) (text 
 
 -- The captures are at the places of the first way.
 abbrev pub AreInPlace : OptionsView → List PartView → (text : List ℕ) → Captures → Type 0
-AreInPlace options parts text captures = FoldedMean options parts text captures ⊎ IsFirstBetween options parts text captures
+AreInPlace options parts text captures =
+    FoldedMean options parts text captures ⊎ IsFirstBetween options parts text captures
 
 -- Folded, the captures are those of the first way in which the folded parts of the pattern text
 -- match the folded text, or `None` if they do not match it. Unfolded, the captures are at their
 -- places.
-pub record IsFoldedResult (settings : ParseSettings) (text : List ℕ) (captures : Option Captures) : Type 0 where
+pub record IsFoldedResult (settings : ParseSettings) (text : List ℕ) (captures : Option Captures) :
+    Type 0 where
   pub parts : List PartView
   pub reads : ReadsAs settings parts
-  pub is_first : IsFirstOf (folded_options settings.options) (folded_parts parts) (folded true text) (option_map folded_captures captures)
+  pub is_first : IsFirstOf (folded_options settings.options) (folded_parts parts) (folded true text)
+      (option_map folded_captures captures)
   pub are_in_place : IfSome captures (AreInPlace settings.options parts text)
 
 -- A component that ignores case and has no custom part returns, for each text without line feeds,
 -- the first way of the folded parts, with captures at their places.
 abbrev pub FoldedFirstsAreReturned : {E : Type 0} → Engine E → Type 0
-FoldedFirstsAreReturned {E} engine = (settings : ParseSettings) (compiled : ComponentView E) (text : List ℕ) (result : Option Captures) →
-    IsComponentCompiled engine settings compiled → settings.options.ignore_case ≡ true → ReadsNoCustom settings → IsLine text →
+FoldedFirstsAreReturned {E} engine =
+    (settings : ParseSettings) (compiled : ComponentView E) (text : List ℕ)
+    (result : Option Captures)
+    →
+    IsComponentCompiled engine settings compiled
+    → settings.options.ignore_case ≡ true
+    → ReadsNoCustom settings
+    → IsLine text
+    →
     Returns engine.answer compiled.matcher text result → IsFoldedResult settings text result

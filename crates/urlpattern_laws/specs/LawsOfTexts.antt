@@ -24,9 +24,15 @@ use Rattle.urlpattern_syntax.specs.{Options.OptionsView, Parts.PartView, RegexpT
 abbrev pub ReadsInGroups : Type 0
 ReadsInGroups =
     (expression rest : List ℕ) (steps : ℕ) (names : Names) → IsTrue (is_self_contained expression) →
-    IfSome (branches steps (record { config = default_config; names = names; text = expression ++ (codes ")" ++ rest) })) (λ (patterns, end).
+    IfSome (branches steps (record {
+      config = default_config;
+      names = names;
+      text = expression ++ (codes ")" ++ rest);
+    })) (λ (patterns, end).
     (end.text ≡ codes ")" ++ rest)
-    × ((text : List ℕ) → IsTrue (all_scalars text) → MatchesWhole (join alt_all patterns).value text ↔ ExpressionMatches expression text))
+    ×
+    ((text : List ℕ) → IsTrue (all_scalars text)
+    → MatchesWhole (join alt_all patterns).value text ↔ ExpressionMatches expression text))
 
 -- Parts without a custom one match the texts that they mean.
 abbrev pub PartsMatchMeanings : Type 0
@@ -37,21 +43,27 @@ PartsMatchMeanings =
 -- Parts without a custom one capture what they mean.
 abbrev pub PartsCaptureMeanings : Type 0
 PartsCaptureMeanings =
-    (options : OptionsView) (parts : List PartView) (text : List ℕ) (captures : Captures) → AreGenerated parts →
+    (options : OptionsView) (parts : List PartView) (text : List ℕ) (captures : Captures)
+    → AreGenerated parts
+    →
     PartsCapture options parts text captures ↔ PartsMean options parts text captures
 
 -- Parts have a capture for each name.
 abbrev pub CapturesAreAsNames : Type 0
 CapturesAreAsNames =
-    (options : OptionsView) (parts : List PartView) (text : List ℕ) (captures : Captures) → PartsCapture options parts text captures →
+    (options : OptionsView) (parts : List PartView) (text : List ℕ) (captures : Captures)
+    → PartsCapture options parts text captures
+    →
     length captures ≡ length (group_names parts)
 
 -- The result has captures exactly if the parts match the text.
-abbrev pub IsSomeIfMatched : OptionsView → List PartView → (text : List ℕ) → Option Captures → Type 0
+abbrev pub IsSomeIfMatched : OptionsView → List PartView → (text : List ℕ) → Option Captures
+    → Type 0
 IsSomeIfMatched options parts text result = IsSome result ↔ PartsMatch options parts text
 
 -- The result is the captures of the parts, or `None` if they do not match the text.
-abbrev pub IsCapturedByParts : OptionsView → List PartView → (text : List ℕ) → Option Captures → Type 0
+abbrev pub IsCapturedByParts : OptionsView → List PartView → (text : List ℕ) → Option Captures
+    → Type 0
 IsCapturedByParts options parts text (Some captures) = PartsCapture options parts text captures
 IsCapturedByParts options parts text None = ¬ PartsMatch options parts text
 
@@ -70,7 +82,8 @@ ValuesReturnIfMatched {E} engine Keeps Fits =
     (options : OptionsView) (flags : List ℕ) (parts : List PartView) (value : E) → Keeps flags →
     AllStandAlone parts → Fits (regexp_text options parts) →
     engine.IsMade value (regexp_text options parts) flags →
-    (text : List ℕ) → IsTrue (all_scalars text) → IsSomeIfMatched options parts text (engine.answer value text)
+    (text : List ℕ) → IsTrue (all_scalars text)
+    → IsSomeIfMatched options parts text (engine.answer value text)
 
 -- A value that the engine made of parts returns their captures. Custom expressions stand alone and
 -- capture nothing themselves.
@@ -79,12 +92,15 @@ ValuesCapture {E} engine Keeps Fits =
     (options : OptionsView) (flags : List ℕ) (parts : List PartView) (value : E) → Keeps flags →
     AllStandAlone parts → AllCaptureNothing parts → Fits (regexp_text options parts) →
     engine.IsMade value (regexp_text options parts) flags →
-    (text : List ℕ) → IsTrue (all_scalars text) → IsCapturedByParts options parts text (engine.answer value text)
+    (text : List ℕ) → IsTrue (all_scalars text)
+    → IsCapturedByParts options parts text (engine.answer value text)
 
 -- The engine made the matcher of parts whose custom expressions stand alone, case is kept, and the
 -- engine, where one is needed, accepted its text.
-pub record IsTakenAlone {E : Type 0} (engine : Engine E) (Fits : (regexp : List ℕ) → Type 0) (Accepted : Acceptance E)
-    (options : OptionsView) (flags : List ℕ) (parts : List PartView) (matcher : MatcherView E) : Type 0 where
+pub record IsTakenAlone {E : Type 0} (engine : Engine E) (Fits : (regexp : List ℕ) → Type 0)
+    (Accepted : Acceptance E)
+    (options : OptionsView) (flags : List ℕ) (parts : List PartView) (matcher : MatcherView E) :
+    Type 0 where
   pub is_made : IsMadeOf (IsEngineOf engine false flags) options parts matcher
   pub alone : AllStandAlone parts
   pub fits : Fits (regexp_text options parts)
@@ -115,6 +131,10 @@ AcceptedAlone options flags inner = FlagsAgree options flags × AcceptedText (λ
 -- is needed, accepted its text.
 abbrev pub ComponentsCapture : {E : Type 0} → Engine E → Room → Type 0
 ComponentsCapture {E} engine Fits =
-    (options : OptionsView) (parts : List PartView) (component : ComponentView E) → IsComponentOf engine options parts component →
+    (options : OptionsView) (parts : List PartView) (component : ComponentView E)
+    → IsComponentOf engine options parts component
+    →
     AllStandAlone parts → AllCaptureNothing parts → Fits (regexp_text options parts) →
-    options.ignore_case ≡ false → AcceptedText (λ value. ⊤) component.matcher.inner → EachResultIs engine.answer component.matcher (IsCapturedByParts options parts)
+    options.ignore_case ≡ false
+    → AcceptedText (λ value. ⊤) component.matcher.inner
+    → EachResultIs engine.answer component.matcher (IsCapturedByParts options parts)

@@ -18,14 +18,17 @@ use Rattle.urlpattern_syntax.specs.{Options.OptionsView, Parts.PartView, RegexpT
 -- The first way of parts without a custom one is that of the tree of their regular expression.
 abbrev pub FirstWaysAreOfTrees : Type 0
 FirstWaysAreOfTrees =
-    (options : OptionsView) (parts : List PartView) (tree : Items) (text : List ℕ) → AreGenerated parts → IsTreeOf (regexp_text options parts) tree →
+    (options : OptionsView) (parts : List PartView) (tree : Items) (text : List ℕ)
+    → AreGenerated parts
+    → IsTreeOf (regexp_text options parts) tree →
     parts_first_way options parts text ≡ first_way tree text
 
 -- The first way of parts has the captures of the parts, or is `None` if they do not match the text.
 -- Custom expressions stand alone and capture nothing themselves.
 abbrev pub FirstWaysAreCaptured : Type 0
 FirstWaysAreCaptured =
-    (options : OptionsView) (parts : List PartView) (text : List ℕ) → AllStandAlone parts → AllCaptureNothing parts →
+    (options : OptionsView) (parts : List PartView) (text : List ℕ) → AllStandAlone parts
+    → AllCaptureNothing parts →
     IsTrue (all_scalars (regexp_text options parts)) → IsTrue (all_scalars text) →
     IsCapturedByParts options parts text (parts_first_way options parts text)
 
@@ -36,7 +39,8 @@ ValuesReturnFirstOfParts {E} engine Keeps Fits =
     (options : OptionsView) (flags : List ℕ) (parts : List PartView) (value : E) → Keeps flags →
     AllStandAlone parts → AllCaptureNothing parts → Fits (regexp_text options parts) →
     engine.IsMade value (regexp_text options parts) flags →
-    (text : List ℕ) → IsTrue (all_scalars text) → engine.answer value text ≡ parts_first_way options parts text
+    (text : List ℕ) → IsTrue (all_scalars text)
+    → engine.answer value text ≡ parts_first_way options parts text
 
 -- A matcher made of parts returns their first way for each text without line feeds.
 abbrev pub MatchersReturnFirstOfParts : {E : Type 0} → Engine E → Room → Acceptance E → Type 0
@@ -49,7 +53,10 @@ MatchersReturnFirstOfParts {E} engine Fits Accepted =
 -- is needed, accepted its regular expression.
 abbrev pub ComponentsReturnFirstOfParts : {E : Type 0} → Engine E → Room → Type 0
 ComponentsReturnFirstOfParts {E} engine Fits =
-    (options : OptionsView) (parts : List PartView) (component : ComponentView E) → IsComponentOf engine options parts component →
+    (options : OptionsView) (parts : List PartView) (component : ComponentView E)
+    → IsComponentOf engine options parts component
+    →
     AllStandAlone parts → AllCaptureNothing parts → Fits (regexp_text options parts) →
     options.ignore_case ≡ false → AcceptedText (λ value. ⊤) component.matcher.inner →
-    EachResultIs engine.answer component.matcher (λ text result. result ≡ parts_first_way options parts text)
+    EachResultIs engine.answer component.matcher (λ text result.
+    result ≡ parts_first_way options parts text)

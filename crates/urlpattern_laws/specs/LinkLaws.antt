@@ -21,20 +21,30 @@ use Rattle.urlpattern_syntax.specs.{Parts.PartView, RegexpText.group_names}
 
 -- `Is` holds of the parts of a component, with the manner in which its text is written for the
 -- groups.
-abbrev pub OfItsParts : {E : Type 0} → UrlPattern E → List GivenView → ComponentName → (Is : WriteSettings → List PartView → Type 0) → Type 0
-OfItsParts pattern groups component Is = (parts : PatternParts) → pattern.parts ≡ Some parts → Is (settings_in parts groups component) (parts_in parts component)
+abbrev pub OfItsParts : {E : Type 0} → UrlPattern E → List GivenView → ComponentName
+    → (Is : WriteSettings → List PartView → Type 0) → Type 0
+OfItsParts pattern groups component Is =
+    (parts : PatternParts) → pattern.parts ≡ Some parts
+    → Is (settings_in parts groups component) (parts_in parts component)
 
 -- ---- links with different groups
 
 -- The groups of a component are to capture this.
-abbrev pub AreToCapture : {E : Type 0} → UrlPattern E → List GivenView → ComponentName → Captures → Type 0
-AreToCapture pattern groups component captures = OfItsParts pattern groups component (λ settings parts. AreRequested settings parts captures)
+abbrev pub AreToCapture : {E : Type 0} → UrlPattern E → List GivenView → ComponentName → Captures
+    → Type 0
+AreToCapture pattern groups component captures =
+    OfItsParts pattern groups component (λ settings parts. AreRequested settings parts captures)
 
 -- Links whose groups are to capture different texts of a component have different texts there.
 abbrev pub LinksDiffer : {E : Type 0} → (answer : E → List ℕ → Option Captures) → Type 0
-LinksDiffer {E} answer = (pattern : UrlPattern E) (groups others : List GivenView) (url other : Parts) (component : ComponentName) (captures different : Captures) →
+LinksDiffer {E} answer =
+    (pattern : UrlPattern E) (groups others : List GivenView) (url other : Parts)
+    (component : ComponentName) (captures different : Captures)
+    →
     IsLink answer pattern groups url → IsLink answer pattern others other →
-    AreToCapture pattern groups component captures → AreToCapture pattern others component different →
+    AreToCapture pattern groups component captures
+    → AreToCapture pattern others component different
+    →
     captures ≢ different → at (texts_of_url url) component ≢ at (texts_of_url other) component
 
 -- Any two links with the same groups are equal.
@@ -55,20 +65,32 @@ AreCanonical canonical captures = All (IsCanonicalCapture canonical) captures
 -- The premises on parts, a text, its captures and the groups of a link: no fixed text has a
 -- modifier, a text matched with the captures has them by the meaning of the parts, and the groups
 -- are the captures, which are canonical.
-pub record IsWrittenBack {E : Type 0} (answer : E → List ℕ → Option Captures) (matcher : MatcherView E) (settings : WriteSettings) (parts : List PartView) (text : List ℕ) (captures : Captures) : Type 0 where
+pub record IsWrittenBack {E : Type 0} (answer : E → List ℕ → Option Captures)
+    (matcher : MatcherView E) (settings : WriteSettings) (parts : List PartView) (text : List ℕ)
+    (captures : Captures) : Type 0 where
   pub plain : HavePlainTexts parts
-  pub means : Returns answer matcher text (Some captures) → PartsMean settings.options parts text captures
+  pub means : Returns answer matcher text (Some captures)
+      → PartsMean settings.options parts text captures
   pub are_given : map settings.given (group_names parts) ≡ captures
   pub are_canonical : AreCanonical settings.canonical captures
 
 -- The parts of a component, its text and its captures meet the premises.
-abbrev pub TextIsWrittenBack : {E : Type 0} → (answer : E → List ℕ → Option Captures) → UrlPattern E → List GivenView → ComponentName → (text : List ℕ) → Captures → Type 0
+abbrev pub TextIsWrittenBack : {E : Type 0} → (answer : E → List ℕ → Option Captures) → UrlPattern E
+    → List GivenView → ComponentName → (text : List ℕ) → Captures → Type 0
 TextIsWrittenBack answer pattern groups component text captures =
-    OfItsParts pattern groups component (λ settings parts. IsWrittenBack answer (pattern_view pattern component).matcher settings parts text captures)
+    OfItsParts pattern groups component (λ settings parts.
+    IsWrittenBack answer (pattern_view pattern component).matcher settings parts text captures)
 
 -- A link with the captures of eight texts has these texts.
-abbrev pub LinksOfCapturesAreTheTexts : {E : Type 0} → (answer : E → List ℕ → Option Captures) → Type 0
-LinksOfCapturesAreTheTexts {E} answer = (pattern : UrlPattern E) (groups : List GivenView) (url : Parts) (texts : Texts) (captures : ComponentName → Captures) →
+abbrev pub LinksOfCapturesAreTheTexts : {E : Type 0} → (answer : E → List ℕ → Option Captures)
+    → Type 0
+LinksOfCapturesAreTheTexts {E} answer =
+    (pattern : UrlPattern E) (groups : List GivenView) (url : Parts) (texts : Texts)
+    (captures : ComponentName → Captures)
+    →
     IsLink answer pattern groups url → AreResults answer (pattern_view pattern) texts captures →
-    ((component : ComponentName) → TextIsWrittenBack answer pattern groups component (at texts component) (captures component)) →
+    ((component : ComponentName)
+    → TextIsWrittenBack answer pattern groups component (at texts component)
+    (captures component))
+    →
     texts_of_url url ≡ texts

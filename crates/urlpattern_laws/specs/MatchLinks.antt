@@ -34,7 +34,8 @@ BorrowedGroup = ComponentName × Bor (List ℕ) × Bor (List ℕ)
 -- capture.
 abbrev pub AreGroupsOfResult : (result : ComponentName → ResultView) → List GivenView → Type 0
 AreGroupsOfResult result groups =
-    (component : ComponentName) (name : List ℕ) → text_given groups component name ≡ captured_text (result component) name
+    (component : ComponentName) (name : List ℕ)
+    → text_given groups component name ≡ captured_text (result component) name
 
 -- No two names are equal.
 abbrev pub NamesDiffer : List (List ℕ) → Type 0
@@ -58,8 +59,12 @@ GroupsOfResultsAreGiven = (result : UrlPatternResult) (groups : List BorrowedGro
 -- In a match by a compiled pattern, no two groups of a component have the same name.
 abbrev pub GroupsOfMatchesDiffer : {E : Type 0} → Engine E → Type 0
 GroupsOfMatchesDiffer {E} engine =
-    (asked : UrlPatternOptions) (values : Values) (pattern : PatternView E) (texts : Texts) (found : UrlPatternCaptures) →
-    AreCompiled engine asked values pattern → AreGroupsInOrder engine.answer pattern texts (groups_view found) →
+    (asked : UrlPatternOptions) (values : Values) (pattern : PatternView E) (texts : Texts)
+    (found : UrlPatternCaptures)
+    →
+    AreCompiled engine asked values pattern
+    → AreGroupsInOrder engine.answer pattern texts (groups_view found)
+    →
     (component : ComponentName) → NamesDiffer (keys_of (groups_view found component))
 
 -- ---- links
@@ -67,22 +72,36 @@ GroupsOfMatchesDiffer {E} engine =
 -- The premises on a component, its parts, a text and its captures: no fixed text has a modifier, a
 -- text matched with the captures has them by the meaning of the parts, the names are those of the
 -- parts and differ, and the captures are canonical.
-pub record IsReadBackFrom {E : Type 0} (answer : E → List ℕ → Option Captures) (compiled : ComponentView E) (settings : WriteSettings) (parts : List PartView) (text : List ℕ) (captures : Captures) : Type 0 where
+pub record IsReadBackFrom {E : Type 0} (answer : E → List ℕ → Option Captures)
+    (compiled : ComponentView E) (settings : WriteSettings) (parts : List PartView) (text : List ℕ)
+    (captures : Captures) : Type 0 where
   pub plain : HavePlainTexts parts
-  pub means : Returns answer compiled.matcher text (Some captures) → PartsMean settings.options parts text captures
+  pub means : Returns answer compiled.matcher text (Some captures)
+      → PartsMean settings.options parts text captures
   pub has_names : compiled.group_name_list ≡ group_names parts
   pub names_differ : NamesDiffer (group_names parts)
   pub are_canonical : AreCanonical settings.canonical captures
 
 -- A component, its parts, its text and its captures meet the premises.
-abbrev pub TextIsReadBack : {E : Type 0} → (answer : E → List ℕ → Option Captures) → UrlPattern E → List GivenView → ComponentName → (text : List ℕ) → Captures → Type 0
+abbrev pub TextIsReadBack : {E : Type 0} → (answer : E → List ℕ → Option Captures) → UrlPattern E
+    → List GivenView → ComponentName → (text : List ℕ) → Captures → Type 0
 TextIsReadBack answer pattern groups component text captures =
-    OfItsParts pattern groups component (λ settings parts. IsReadBackFrom answer (pattern_view pattern component) settings parts text captures)
+    OfItsParts pattern groups component (λ settings parts.
+    IsReadBackFrom answer (pattern_view pattern component) settings parts text captures)
 
 -- A link with the groups of a match of eight texts has these texts.
-abbrev pub LinksOfMatchesAreTheTexts : {E : Type 0} → (answer : E → List ℕ → Option Captures) → Type 0
+abbrev pub LinksOfMatchesAreTheTexts : {E : Type 0} → (answer : E → List ℕ → Option Captures)
+    → Type 0
 LinksOfMatchesAreTheTexts {E} answer =
-    (pattern : UrlPattern E) (groups : List GivenView) (url : Parts) (texts : Texts) (result : ComponentName → ResultView) →
-    IsLink answer pattern groups url → (found : IsMatchOf answer (pattern_view pattern) texts result) → AreGroupsOfResult result groups →
-    ((component : ComponentName) → TextIsReadBack answer pattern groups component (at texts component) (found.captures component)) →
+    (pattern : UrlPattern E) (groups : List GivenView) (url : Parts) (texts : Texts)
+    (result : ComponentName → ResultView)
+    →
+    IsLink answer pattern groups url
+    → (found : IsMatchOf answer (pattern_view pattern) texts result)
+    → AreGroupsOfResult result groups
+    →
+    ((component : ComponentName)
+    → TextIsReadBack answer pattern groups component (at texts component)
+    (found.captures component))
+    →
     texts_of_url url ≡ texts

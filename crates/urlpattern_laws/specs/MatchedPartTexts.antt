@@ -14,16 +14,23 @@ IsMatchedPiece options kind value text = IsWildcardText options kind text
 -- A copy of a part of this kind: a fixed text, or a match of its group between prefix and suffix.
 abbrev pub IsMatchedCopy : OptionsView → PartType → PartView → List ℕ → Type 0
 IsMatchedCopy options PartType.FixedText part text = text ≡ part.value
-IsMatchedCopy options kind part text = (piece : List ℕ) × (text ≡ part.prefix ++ piece ++ part.suffix) × IsMatchedPiece options kind part.value piece
+IsMatchedCopy options kind part text =
+    (piece : List ℕ) × (text ≡ part.prefix ++ piece ++ part.suffix)
+    × IsMatchedPiece options kind part.value piece
 
 -- The text is as many copies of the part as its modifier allows.
 abbrev pub PartMatches : OptionsView → PartView → List ℕ → Type 0
-PartMatches options part text = (count : ℕ) × Allows part.modifier count × IsRepeated (IsMatchedCopy options part.kind part) count text
+PartMatches options part text =
+    (count : ℕ) × Allows part.modifier count
+    × IsRepeated (IsMatchedCopy options part.kind part) count text
 
 -- The text is split into one substring for each part, which the part matches.
 abbrev pub PartsMatch : OptionsView → List PartView → List ℕ → Type 0
 PartsMatch options [] text = text ≡ []
-PartsMatch options (part ∷ parts) text = (first rest : List ℕ) × (text ≡ first ++ rest) × PartMatches options part first × PartsMatch options parts rest
+PartsMatch options (part ∷ parts) text =
+    (first rest : List ℕ) × (text ≡ first ++ rest)
+    × PartMatches options part first
+    × PartsMatch options parts rest
 
 -- The expression of a custom part means the same inside the regular expression of the parts as by
 -- itself.

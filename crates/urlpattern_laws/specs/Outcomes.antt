@@ -25,74 +25,98 @@ IsOfTexts error = (error ≢ views.OutOfMemory) × (error ≢ views.Url Overflow
 
 -- The encoding without two errors: out of memory, and a text too long for `url`.
 abbrev pub of_texts : Encoding → Encoding
-of_texts encoding text answer = encoding text answer × ((error : ErrorView) → answer ≡ Err error → IsOfTexts error)
+of_texts encoding text answer =
+    encoding text answer × ((error : ErrorView) → answer ≡ Err error → IsOfTexts error)
 
 -- ---- premises on an engine
 
 -- The engine does not both accept and reject this regular expression of a whole component.
-abbrev pub NeverAcceptsAndRejects : {E : Type 0} → Engine E → (has_regexp_group : Bool) → (flags regexp : List ℕ) → Type 0
+abbrev pub NeverAcceptsAndRejects : {E : Type 0} → Engine E
+    → (has_regexp_group : Bool) → (flags regexp : List ℕ) → Type 0
 NeverAcceptsAndRejects {E} engine has_regexp_group flags regexp =
-    (value : E) (error : ErrorView) → IsWholeEngineOf engine has_regexp_group flags regexp (Ok value) →
+    (value : E) (error : ErrorView)
+    → IsWholeEngineOf engine has_regexp_group flags regexp (Ok value)
+    →
     ¬ IsWholeEngineOf engine has_regexp_group flags regexp (Err error)
 
 -- The engine does not both accept and reject this regular expression of parts that a matcher leaves
 -- to it.
 abbrev pub NeverAcceptsAndRejectsPart : {E : Type 0} → Engine E → (flags regexp : List ℕ) → Type 0
 NeverAcceptsAndRejectsPart {E} engine flags regexp =
-    (value : E) (error : ErrorView) → IsEngineOf engine false flags regexp (Ok value) → ¬ IsEngineOf engine false flags regexp (Err error)
+    (value : E) (error : ErrorView) → IsEngineOf engine false flags regexp (Ok value)
+    → ¬ IsEngineOf engine false flags regexp (Err error)
 
 -- The engine does not both accept and reject a regular expression of the parts of the pattern text,
 -- or of some of them in a row.
-pub record NeverAcceptsAndRejectsText {E : Type 0} (engine : Engine E) (settings : ParseSettings) : Type 0 where
+pub record NeverAcceptsAndRejectsText {E : Type 0} (engine : Engine E) (settings : ParseSettings) :
+    Type 0 where
   pub whole : (parts : List PartView) → ReadsAs settings parts →
-      NeverAcceptsAndRejects engine (has_regexp parts) (engine_flags settings.options) (regexp_text settings.options parts)
-  pub of_matcher : (parts before middle after : List PartView) → ReadsAs settings parts → parts ≡ before ++ middle ++ after →
-      NeverAcceptsAndRejectsPart engine (engine_flags settings.options) (regexp_text settings.options middle)
+      NeverAcceptsAndRejects engine (has_regexp parts) (engine_flags settings.options)
+      (regexp_text settings.options parts)
+  pub of_matcher : (parts before middle after : List PartView) → ReadsAs settings parts
+      → parts ≡ before ++ middle ++ after →
+      NeverAcceptsAndRejectsPart engine (engine_flags settings.options)
+      (regexp_text settings.options middle)
 
 -- Two components compiled in the same manner accept a special scheme alike.
 abbrev pub AcceptsAlike : {E : Type 0} → Engine E → ParseSettings → Type 0
 AcceptsAlike {E} engine settings = (compiled other : ComponentView E) →
     IsComponentCompiled engine settings compiled → IsComponentCompiled engine settings other →
-    AcceptsSpecialScheme engine.answer compiled.matcher → AcceptsSpecialScheme engine.answer other.matcher
+    AcceptsSpecialScheme engine.answer compiled.matcher
+    → AcceptsSpecialScheme engine.answer other.matcher
 
 -- The engine decides the outcome of these values: whether the protocol is special, and which texts
 -- are accepted.
-pub record Decides {E : Type 0} (engine : Engine E) (asked : UrlPatternOptions) (values : Values) : Type 0 where
+pub record Decides {E : Type 0} (engine : Engine E) (asked : UrlPatternOptions) (values : Values) :
+    Type 0 where
   pub accepts_alike : AcceptsAlike engine (settings_of asked values false Protocol)
   pub takes_or_refuses : (hierarchical : Bool) (component : ComponentName)
       → NeverAcceptsAndRejectsText engine (settings_of asked values hierarchical component)
 
 -- No pattern text of these values has a custom regular expression.
 abbrev pub NoneIsCustom : UrlPatternOptions → Values → Type 0
-NoneIsCustom asked values = (hierarchical : Bool) (component : ComponentName) → ReadsNoCustom (settings_of asked values hierarchical component)
+NoneIsCustom asked values =
+    (hierarchical : Bool) (component : ComponentName)
+    → ReadsNoCustom (settings_of asked values hierarchical component)
 
 -- The engine does not both accept and reject a regular expression of parts without a custom one.
 abbrev pub NeverAcceptsAndRejectsGenerated : {E : Type 0} → Engine E → Type 0
-NeverAcceptsAndRejectsGenerated engine = (settings : ParseSettings) → ReadsNoCustom settings → NeverAcceptsAndRejectsText engine settings
+NeverAcceptsAndRejectsGenerated engine =
+    (settings : ParseSettings) → ReadsNoCustom settings → NeverAcceptsAndRejectsText engine settings
 
 -- The engine decides the outcome of values without a custom regular expression.
 abbrev pub DecidesGenerated : {E : Type 0} → Engine E → Type 0
-DecidesGenerated engine = (asked : UrlPatternOptions) (values : Values) → NoneIsCustom asked values → Decides engine asked values
+DecidesGenerated engine =
+    (asked : UrlPatternOptions) (values : Values) → NoneIsCustom asked values
+    → Decides engine asked values
 
 -- An engine that makes first ways, and does not both accept and reject an expression, decides the
 -- outcome of values without a custom regular expression.
 abbrev pub FirstWaysDecide : {E : Type 0} → Engine E → Type 0
-FirstWaysDecide engine = MakesFirstWays engine → NeverAcceptsAndRejectsGenerated engine → DecidesGenerated engine
+FirstWaysDecide engine =
+    MakesFirstWays engine → NeverAcceptsAndRejectsGenerated engine → DecidesGenerated engine
 
 -- ---- one outcome
 
 -- An init is not both compiled to a pattern and rejected.
 abbrev pub PatternsExcludeRejections : {E : Type 0} → Engine E → Type 0
 PatternsExcludeRejections {E} engine =
-    (init : UrlPatternInit) (asked : UrlPatternOptions) (values : Values) (pattern : PatternView E) (error : ErrorView) →
+    (init : UrlPatternInit) (asked : UrlPatternOptions) (values : Values) (pattern : PatternView E)
+    (error : ErrorView)
+    →
     pattern_values init ≡ Ok values → Decides engine asked values → IsOfTexts error →
     IsPatternOfInit engine init asked pattern → ¬ RejectsInit engine init asked error
 
 -- An init is rejected with one error only.
 abbrev pub InitRejectionsAreOne : {E : Type 0} → Engine E → Type 0
 InitRejectionsAreOne engine =
-    (init : UrlPatternInit) (asked : UrlPatternOptions) (values : Values) (error other : ErrorView) →
-    pattern_values init ≡ Ok values → Decides engine asked values → IsOfTexts error → IsOfTexts other →
+    (init : UrlPatternInit) (asked : UrlPatternOptions) (values : Values) (error other : ErrorView)
+    →
+    pattern_values init ≡ Ok values
+    → Decides engine asked values
+    → IsOfTexts error
+    → IsOfTexts other
+    →
     RejectsInit engine init asked error → RejectsInit engine init asked other → error ≡ other
 
 -- ---- an outcome exists
@@ -105,7 +129,8 @@ InitsHaveValues = (init : UrlPatternInit) → (values : Values) × (pattern_valu
 abbrev pub UrlHasResults : UrlPatternOptions → Values → Type 0
 UrlHasResults asked values = (hierarchical : Bool) (component : ComponentName) →
     let settings = settings_of asked values hierarchical component in
-    HasRequestedResults settings.text settings.options (of_texts (canonical_encoding settings.canonical))
+    HasRequestedResults settings.text settings.options
+    (of_texts (canonical_encoding settings.canonical))
 
 -- For any consecutive parts of a component's pattern text, the engine makes a value of their
 -- regular expression, or may reject it.
@@ -114,12 +139,17 @@ EngineHasResults {E} engine asked values =
     (hierarchical : Bool) (component : ComponentName) (parts before middle after : List PartView) →
     let settings = settings_of asked values hierarchical component in
     ReadsAs settings parts → parts ≡ before ++ middle ++ after →
-    (made : Result E ErrorView) × IsEngineOf engine false (engine_flags settings.options) (regexp_text settings.options middle) made
+    (made : Result E ErrorView)
+    × IsEngineOf engine false (engine_flags settings.options)
+    (regexp_text settings.options middle) made
 
 -- An init is compiled to a pattern, or it is rejected.
 abbrev pub InitsHaveOutcomes : {E : Type 0} → Engine E → Type 0
 InitsHaveOutcomes {E} engine =
     (init : UrlPatternInit) (asked : UrlPatternOptions) (values : Values) →
-    pattern_values init ≡ Ok values → EngineHasResults engine asked values → UrlHasResults asked values →
+    pattern_values init ≡ Ok values
+    → EngineHasResults engine asked values
+    → UrlHasResults asked values
+    →
     ((pattern : PatternView E) × IsPatternOfInit engine init asked pattern)
     ⊎ ((error : ErrorView) × IsOfTexts error × RejectsInit engine init asked error)

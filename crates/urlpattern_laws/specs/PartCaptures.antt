@@ -9,10 +9,12 @@ use Rattle.urlpattern_syntax.specs.Text.{IsRepeated}
 -- The captures of n copies of a part of this kind: none for a fixed text, a single one for a group.
 abbrev pub AreCapturesOf : PartType → PartView → ℕ → List ℕ → Captures → Type 0
 AreCapturesOf PartType.FixedText part n text captures = captures ≡ []
-AreCapturesOf kind part n text captures = (capture : Option (List ℕ)) × IsCapture part n text capture × (captures ≡ capture ∷ [])
+AreCapturesOf kind part n text captures =
+    (capture : Option (List ℕ)) × IsCapture part n text capture × (captures ≡ capture ∷ [])
 
 -- The text is as many copies of the part as its modifier allows, with these captures.
-pub record PartCaptures (options : OptionsView) (part : PartView) (text : List ℕ) (captures : Captures) : Type 0 where
+pub record PartCaptures (options : OptionsView) (part : PartView) (text : List ℕ)
+    (captures : Captures) : Type 0 where
   pub count : ℕ
   pub allowed : Allows part.modifier count
   pub are_copies : IsRepeated (IsMatchedCopy options part.kind part) count text
@@ -22,5 +24,7 @@ pub record PartCaptures (options : OptionsView) (part : PartView) (text : List �
 abbrev pub PartsCapture : OptionsView → List PartView → List ℕ → Captures → Type 0
 PartsCapture options [] text captures = (text ≡ []) × (captures ≡ [])
 PartsCapture options (part ∷ parts) text captures =
-    (first rest : List ℕ) × (own others : Captures) × (text ≡ first ++ rest) × (captures ≡ own ++ others)
+    (first rest : List ℕ) × (own others : Captures)
+    × (text ≡ first ++ rest)
+    × (captures ≡ own ++ others)
     × PartCaptures options part first own × PartsCapture options parts rest others

@@ -36,7 +36,8 @@ exactly (c ∷ given) text = continued (exactly given) (one_that (λ other. othe
 -- further round of a loop if the loop is greedy. Groups capture nothing here.
 abbrev pub pattern_ways : Re → Choice
 pattern_ways empty text = empty_way 0 text ∷ []
-pattern_ways (literal bytes) text = one_that (λ c. is_some_and (char_at bytes 0) (λ written. c == written)) text
+pattern_ways (literal bytes) text =
+    one_that (λ c. is_some_and (char_at bytes 0) (λ written. c == written)) text
 pattern_ways (byte_in ranges) text = []
 pattern_ways (char_in ranges) text = one_that (in_ranges ranges) text
 pattern_ways (look assertion) text = []
@@ -60,8 +61,10 @@ expression_ways expression text = ways_of_reading (read default_config expressio
 abbrev pub piece_ways : OptionsView → PartType → (value : List ℕ) → Choice
 piece_ways options PartType.FixedText value text = []
 piece_ways options PartType.Regexp value text = expression_ways value text
-piece_ways options PartType.SegmentWildcard value text = looped false (one_that (λ c. not (c == unwrap_or options.delimiter line_feed))) text
-piece_ways options PartType.FullWildcard value text = quantified_ways ZeroOrMore 0 (one_that (λ c. not (c == line_feed))) text
+piece_ways options PartType.SegmentWildcard value text =
+    looped false (one_that (λ c. not (c == unwrap_or options.delimiter line_feed))) text
+piece_ways options PartType.FullWildcard value text =
+    quantified_ways ZeroOrMore 0 (one_that (λ c. not (c == line_feed))) text
 
 -- The ways of a fixed text, by its modifier.
 abbrev pub fixed_ways : PartModifier → (value : List ℕ) → Choice
@@ -74,28 +77,35 @@ fixed_ways PartModifier.OneOrMore value text = quantified_ways OneOrMore 0 (exac
 abbrev pub bare_ways : PartModifier → (piece : Choice) → Choice
 bare_ways PartModifier.None piece text = captured_whole piece text
 bare_ways PartModifier.Optional piece text = quantified_ways Optional 1 (captured_whole piece) text
-bare_ways PartModifier.ZeroOrMore piece text = captured_whole (quantified_ways ZeroOrMore 0 piece) text
-bare_ways PartModifier.OneOrMore piece text = captured_whole (quantified_ways OneOrMore 0 piece) text
+bare_ways PartModifier.ZeroOrMore piece text =
+    captured_whole (quantified_ways ZeroOrMore 0 piece) text
+bare_ways PartModifier.OneOrMore piece text =
+    captured_whole (quantified_ways OneOrMore 0 piece) text
 
 -- The ways of a capture between prefix and suffix.
 abbrev pub between_ways : (prefix suffix : List ℕ) → (core : Choice) → Choice
-between_ways prefix suffix core text = followed_by (followed_by (exactly prefix) (captured_whole core)) (exactly suffix) text
+between_ways prefix suffix core text =
+    followed_by (followed_by (exactly prefix) (captured_whole core)) (exactly suffix) text
 
 -- The ways of a piece, and of any number of further ones with suffix and prefix between them.
 abbrev pub several_ways : (prefix suffix : List ℕ) → (piece : Choice) → Choice
 several_ways prefix suffix piece text =
-    followed_by piece (quantified_ways ZeroOrMore 0 (followed_by (followed_by (exactly suffix) (exactly prefix)) piece)) text
+    followed_by piece (quantified_ways ZeroOrMore 0
+    (followed_by (followed_by (exactly suffix) (exactly prefix)) piece)) text
 
 -- The ways of a group with a prefix or a suffix, by its modifier.
 abbrev pub affixed_ways : PartModifier → (prefix suffix : List ℕ) → (piece : Choice) → Choice
 affixed_ways PartModifier.None prefix suffix piece text = between_ways prefix suffix piece text
-affixed_ways PartModifier.Optional prefix suffix piece text = quantified_ways Optional 1 (between_ways prefix suffix piece) text
-affixed_ways PartModifier.OneOrMore prefix suffix piece text = between_ways prefix suffix (several_ways prefix suffix piece) text
+affixed_ways PartModifier.Optional prefix suffix piece text =
+    quantified_ways Optional 1 (between_ways prefix suffix piece) text
+affixed_ways PartModifier.OneOrMore prefix suffix piece text =
+    between_ways prefix suffix (several_ways prefix suffix piece) text
 affixed_ways PartModifier.ZeroOrMore prefix suffix piece text =
     quantified_ways Optional 1 (between_ways prefix suffix (several_ways prefix suffix piece)) text
 
 -- The ways of the copies of a piece, by whether prefix and suffix are empty.
-abbrev pub copies_ways : (is_bare : Bool) → PartModifier → (prefix suffix : List ℕ) → (piece : Choice) → Choice
+abbrev pub copies_ways : (is_bare : Bool) → PartModifier
+    → (prefix suffix : List ℕ) → (piece : Choice) → Choice
 copies_ways true modifier prefix suffix piece text = bare_ways modifier piece text
 copies_ways false modifier prefix suffix piece text = affixed_ways modifier prefix suffix piece text
 
@@ -103,15 +113,19 @@ copies_ways false modifier prefix suffix piece text = affixed_ways modifier pref
 abbrev pub part_ways_by : PartType → OptionsView → PartView → Choice
 part_ways_by PartType.FixedText options part text = fixed_ways part.modifier part.value text
 part_ways_by kind options part text =
-    copies_ways (is_empty part.prefix && is_empty part.suffix) part.modifier part.prefix part.suffix (piece_ways options kind part.value) text
+    copies_ways (is_empty part.prefix && is_empty part.suffix) part.modifier part.prefix part.suffix
+    (piece_ways options kind part.value) text
 
 -- ---- a list of parts
 
 -- The ways of parts, one after the other.
 abbrev pub parts_ways : OptionsView → List PartView → Choice
 parts_ways options [] text = empty_way 0 text ∷ []
-parts_ways options (part ∷ parts) text = continued (parts_ways options parts) (part_ways_by part.kind options part text)
+parts_ways options (part ∷ parts) text =
+    continued (parts_ways options parts) (part_ways_by part.kind options part text)
 
 -- The captures of the first way that matches the whole text, or `None` if no way does.
 unfoldable pub parts_first_way : OptionsView → List PartView → List ℕ → Option Captures
-parts_first_way options parts text = option_map (λ way. way.captures) (find (λ way. length way.rest == 0) (parts_ways options parts text))
+parts_first_way options parts text =
+    option_map (λ way. way.captures)
+    (find (λ way. length way.rest == 0) (parts_ways options parts text))

@@ -18,19 +18,31 @@ use Rattle.urlpattern_pattern.specs.MatchMeaning.{IsExecuted, IsFoundByMeaning, 
 
 -- The result of a compiled pattern for an input is what its pattern texts mean.
 abbrev pub ResultsMeanTheParts : {E : Type 0} → Engine E → Type 0
-ResultsMeanTheParts {E} engine = (asked : UrlPatternOptions) (values : Values) (pattern : PatternView E) (input : UrlPatternMatchInput) (texts : Texts)
-    (found : Option (ComponentName → ResultView)) → (compiled : AreCompiled engine asked values pattern) →
-    input_texts input ≡ Ok texts → ¬ IsLongInput input → IsExecuted engine.answer pattern input found →
-    IsFoundByMeaning engine.answer (settings_of asked values compiled.hierarchical) pattern texts found
+ResultsMeanTheParts {E} engine =
+    (asked : UrlPatternOptions) (values : Values) (pattern : PatternView E)
+    (input : UrlPatternMatchInput) (texts : Texts)
+    (found : Option (ComponentName → ResultView))
+    → (compiled : AreCompiled engine asked values pattern)
+    →
+    input_texts input ≡ Ok texts
+    → ¬ IsLongInput input
+    → IsExecuted engine.answer pattern input found
+    →
+    IsFoundByMeaning engine.answer (settings_of asked values compiled.hierarchical) pattern texts
+    found
 
 -- A test is true exactly if there is a match.
 abbrev pub TestsAgree : {E : Type 0} → (answer : E → List ℕ → Option Captures) → Type 0
 TestsAgree {E} answer = (pattern : PatternView E) (input : UrlPatternMatchInput) →
-    HasMatch answer pattern input ↔ ((result : ComponentName → ResultView) × IsMatch answer pattern input result)
+    HasMatch answer pattern input
+    ↔ ((result : ComponentName → ResultView) × IsMatch answer pattern input result)
 
 -- Any two matches of an input have the same results.
 abbrev pub MatchesAreOne : {E : Type 0} → (answer : E → List ℕ → Option Captures) → Type 0
-MatchesAreOne {E} answer = (pattern : PatternView E) (input : UrlPatternMatchInput) (result other : ComponentName → ResultView) →
+MatchesAreOne {E} answer =
+    (pattern : PatternView E) (input : UrlPatternMatchInput)
+    (result other : ComponentName → ResultView)
+    →
     IsMatch answer pattern input result → IsMatch answer pattern input other →
     (component : ComponentName) → IsSameResult (result component) (other component)
 
@@ -41,19 +53,30 @@ TestsAreOne {E} answer = (pattern : PatternView E) (input : UrlPatternMatchInput
 
 -- `regex::Regex` meets the premises on a component's engine, if it accepted the regular expression.
 abbrev pub RegexMeetsPremises : Type 0
-RegexMeetsPremises = (asked : UrlPatternOptions) (values : Values) (pattern : PatternView Regex) (component : ComponentName) (text : List ℕ) →
-    (compiled : AreCompiled regex_engine asked values pattern) → let settings = settings_of asked values compiled.hierarchical component in
-    RegexPremises settings (pattern component) text → MeaningPremises regex_engine.answer settings (pattern component) text
+RegexMeetsPremises =
+    (asked : UrlPatternOptions) (values : Values) (pattern : PatternView Regex)
+    (component : ComponentName) (text : List ℕ)
+    →
+    (compiled : AreCompiled regex_engine asked values pattern)
+    → let settings = settings_of asked values compiled.hierarchical component in
+    RegexPremises settings (pattern component) text
+    → MeaningPremises regex_engine.answer settings (pattern component) text
 
 -- In a match by `regex::Regex`, the result of a component is that of the first way.
 abbrev pub RegexResultsAreFirst : Type 0
-RegexResultsAreFirst = (asked : UrlPatternOptions) (values : Values) (pattern : PatternView Regex) (input : UrlPatternMatchInput) (texts : Texts)
+RegexResultsAreFirst =
+    (asked : UrlPatternOptions) (values : Values) (pattern : PatternView Regex)
+    (input : UrlPatternMatchInput) (texts : Texts)
     (result : ComponentName → ResultView) (component : ComponentName) →
-    (compiled : AreCompiled regex_engine asked values pattern) → let settings = settings_of asked values compiled.hierarchical component in
+    (compiled : AreCompiled regex_engine asked values pattern)
+    → let settings = settings_of asked values compiled.hierarchical component in
     input_texts input ≡ Ok texts → IsMatch regex_engine.answer pattern input result →
-    RegexPremises settings (pattern component) (at texts component) → IsFirstResult settings (at texts component) (result component)
+    RegexPremises settings (pattern component) (at texts component)
+    → IsFirstResult settings (at texts component) (result component)
 
 -- Any two results of the first way are equal.
 abbrev pub FirstResultsAreOne : Type 0
 FirstResultsAreOne = (settings : ParseSettings) (text : List ℕ) (result other : ResultView) →
-    IsFirstResult settings text result → IsFirstResult settings text other → IsSameResult result other
+    IsFirstResult settings text result
+    → IsFirstResult settings text other
+    → IsSameResult result other

@@ -50,7 +50,8 @@ pub fn values_answer_the_texts_that_parts_take()
 /// 2³² characters.
 pub fn matchers_answer_the_texts_that_parts_take()
     ensures own { MatchersReturnIfMatched pattern_engine HasNumbers AcceptedAlone }
-    ensures regex { MatchersReturnIfMatched regex_engine (λ regexp. ⊤) (λ options flags. AcceptedText (λ value. ⊤)) }
+    ensures regex { MatchersReturnIfMatched regex_engine (λ regexp. ⊤) (λ options flags.
+        AcceptedText (λ value. ⊤)) }
 {}
 
 /// A value of an engine returns what the parts capture, or `None` if they do not match the text. A
@@ -72,7 +73,8 @@ pub fn values_answer_what_parts_capture()
 /// expression has at most 2³² characters.
 pub fn matchers_answer_what_parts_capture()
     ensures own { MatchersCapture pattern_engine HasNumbers AcceptedAlone }
-    ensures regex { MatchersCapture regex_engine (λ regexp. ⊤) (λ options flags. AcceptedText (λ value. ⊤)) }
+    ensures regex { MatchersCapture regex_engine (λ regexp. ⊤) (λ options flags.
+        AcceptedText (λ value. ⊤)) }
 {}
 
 /// The matcher of a compiled component returns what the component's parts capture of a text without
@@ -110,7 +112,8 @@ pub fn values_answer_the_first_way_of_parts()
 /// expression has at most 2³² characters.
 pub fn matchers_answer_the_first_way_of_parts()
     ensures own { MatchersReturnFirstOfParts pattern_engine HasNumbers AcceptedAlone }
-    ensures regex { MatchersReturnFirstOfParts regex_engine (λ regexp. ⊤) (λ options flags. AcceptedText (λ value. ⊤)) }
+    ensures regex { MatchersReturnFirstOfParts regex_engine (λ regexp. ⊤) (λ options flags.
+        AcceptedText (λ value. ⊤)) }
 {}
 
 /// The matcher of a compiled component returns the first way of the component's parts for a text

@@ -64,33 +64,43 @@ is_called_again RegexSyntax.Rust has_regexp_group = false
 
 -- What an engine returns for a regular expression with this `force_eval`: a value, or an error if
 -- it may reject the expression.
-abbrev pub IsEngineOf : {E : Type 0} → Engine E → (force_eval : Bool) → (flags regexp : List ℕ) → Result E ErrorView → Type 0
+abbrev pub IsEngineOf : {E : Type 0} → Engine E → (force_eval : Bool) → (flags regexp : List ℕ)
+    → Result E ErrorView → Type 0
 IsEngineOf engine force_eval flags regexp (Ok value) = engine.IsMade value regexp flags
-IsEngineOf engine force_eval flags regexp (Err error) = (error ≡ ErrorView.RegExp) × engine.MayReject regexp flags force_eval
+IsEngineOf engine force_eval flags regexp (Err error) =
+    (error ≡ ErrorView.RegExp) × engine.MayReject regexp flags force_eval
 
 -- What an engine returns for the regular expression of a whole component, when it is called first
 -- or again.
-abbrev pub IsWholeEngineOf : {E : Type 0} → Engine E → (has_regexp_group : Bool) → (flags regexp : List ℕ) → Result E ErrorView → Type 0
+abbrev pub IsWholeEngineOf : {E : Type 0} → Engine E
+    → (has_regexp_group : Bool) → (flags regexp : List ℕ) → Result E ErrorView → Type 0
 IsWholeEngineOf engine has_regexp_group flags regexp made =
     IsEngineOf engine false flags regexp made
-    ⊎ (IsTrue (is_called_again engine.syntax_of has_regexp_group) × IsEngineOf engine true flags regexp made)
+    ⊎ (IsTrue (is_called_again engine.syntax_of has_regexp_group)
+    × IsEngineOf engine true flags regexp made)
 
 -- The five fields are made of one list of parts, by this engine.
-pub record IsComponentOf {E : Type 0} (engine : Engine E) (options : OptionsView) (parts : List PartView) (component : ComponentView E) : Type 0 where
+pub record IsComponentOf {E : Type 0} (engine : Engine E) (options : OptionsView)
+    (parts : List PartView) (component : ComponentView E) : Type 0 where
   pub is_printed : component.pattern_string ≡ printed options parts
-  pub has_engine : IsWholeEngineOf engine (has_regexp parts) (engine_flags options) (regexp_text options parts) component.regexp
+  pub has_engine : IsWholeEngineOf engine (has_regexp parts) (engine_flags options)
+      (regexp_text options parts) component.regexp
   pub has_names : component.group_name_list ≡ group_names parts
-  pub has_matcher : IsMadeOf (IsEngineOf engine false (engine_flags options)) options parts component.matcher
+  pub has_matcher : IsMadeOf (IsEngineOf engine false (engine_flags options)) options parts
+      component.matcher
   pub regexp_flag : component.has_regexp_group ≡ has_regexp parts
 
 -- The component is compiled from the text: its fields are made of parts that the text reads as.
-abbrev pub IsCompiledFrom : {E : Type 0} → Engine E → (text : List ℕ) → OptionsView → Encoding → ComponentView E → Type 0
+abbrev pub IsCompiledFrom : {E : Type 0} → Engine E → (text : List ℕ) → OptionsView → Encoding
+    → ComponentView E → Type 0
 IsCompiledFrom engine text options encoding component =
-    (parts : List PartView) × Reads text options encoding parts × IsComponentOf engine options parts component
+    (parts : List PartView) × Reads text options encoding parts
+    × IsComponentOf engine options parts component
 
 -- The component is compiled from the text, and the parts that are kept with it are those that the
 -- text reads as: its five fields are made of them.
-pub record IsCompiledKeeping {E : Type 0} (engine : Engine E) (text : List ℕ) (options : OptionsView) (encoding : Encoding) (made : ComponentWithParts E) : Type 0 where
+pub record IsCompiledKeeping {E : Type 0} (engine : Engine E) (text : List ℕ)
+    (options : OptionsView) (encoding : Encoding) (made : ComponentWithParts E) : Type 0 where
   pub options_are : kept_options made.kept ≡ options
   pub reads : Reads text options encoding (kept_parts made.kept)
   pub is_made : IsComponentOf engine options (kept_parts made.kept) (component_view made.component)
@@ -102,4 +112,5 @@ FailsToRead text options encoding error = MemoryOr (Rejects text options encodin
 -- If the component is made of some parts, its matcher returns what they mean.
 abbrev pub ReturnsByItsParts : {E : Type 0} → Engine E → OptionsView → ComponentView E → Type 0
 ReturnsByItsParts engine options component =
-    (parts : List PartView) → IsComponentOf engine options parts component → ReturnsByMeaning engine.answer options parts component.matcher
+    (parts : List PartView) → IsComponentOf engine options parts component
+    → ReturnsByMeaning engine.answer options parts component.matcher

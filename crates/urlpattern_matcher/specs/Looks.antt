@@ -6,7 +6,8 @@ use Rattle.urlpattern_meaning.specs.PartMeaning.{Captures}
 
 -- The result of a look, where `answer` is what the values of engines return: captures, or None if
 -- the text does not match.
-abbrev pub look_result : {E : Type 0} → (answer : E → List ℕ → Option Captures) → Option (Look E) → Option Captures
+abbrev pub look_result : {E : Type 0} → (answer : E → List ℕ → Option Captures) → Option (Look E)
+    → Option Captures
 look_result answer None = None
 look_result answer (Some Look.Matched) = Some []
 look_result answer (Some (Look.Captured text)) = Some (Some (chars text.now) ∷ [])

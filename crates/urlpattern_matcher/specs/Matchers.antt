@@ -26,29 +26,42 @@ matcher_view matcher = record {
 }
 
 -- If the result is a matcher, this holds of it.
-abbrev pub IfMatcher : {E Fault : Type 0} → Result (Matcher E) Fault → (MatcherView E → Type 0) → Type 0
+abbrev pub IfMatcher : {E Fault : Type 0} → Result (Matcher E) Fault → (MatcherView E → Type 0)
+    → Type 0
 IfMatcher result Holds = IfOk result (λ matcher. Holds (matcher_view matcher))
 
 -- ---- ends of parts and of texts
 
 -- The matcher of one literal.
 abbrev pub literal_view : {E : Type 0} → (ignore_case : Bool) → (literal : List ℕ) → MatcherView E
-literal_view ignore_case literal = record { prefix = []; suffix = []; inner = Literal literal; ignore_case = ignore_case }
+literal_view ignore_case literal = record {
+  prefix = [];
+  suffix = [];
+  inner = Literal literal;
+  ignore_case = ignore_case;
+}
 
 -- The plain fixed texts that are removed from the ends of the parts, and the parts between them.
-abbrev pub StripsFixedTexts : List PartView → (prefix : List ℕ) → List PartView → (suffix : List ℕ) → Type 0
+abbrev pub StripsFixedTexts : List PartView → (prefix : List ℕ) → List PartView
+    → (suffix : List ℕ) → Type 0
 StripsFixedTexts parts prefix middle suffix =
-    (front back : Option PartView) × AreStripped parts front middle back × (prefix ≡ end_text front) × (suffix ≡ end_text back)
+    (front back : Option PartView) × AreStripped parts front middle back
+    × (prefix ≡ end_text front)
+    × (suffix ≡ end_text back)
 
 -- The plain fixed text that is removed from the start of the parts, and the parts after it.
 abbrev pub StripsFixedPrefix : List PartView → (prefix : List ℕ) → List PartView → Type 0
 StripsFixedPrefix parts prefix rest =
-    (front : Option PartView) × (parts ≡ option_to_list front ++ rest) × IsRemoved front (BeginsPlain parts) × (prefix ≡ end_text front)
+    (front : Option PartView) × (parts ≡ option_to_list front ++ rest)
+    × IsRemoved front (BeginsPlain parts)
+    × (prefix ≡ end_text front)
 
 -- The plain fixed text that is removed from the end of the parts, and the parts before it.
 abbrev pub StripsFixedSuffix : List PartView → List PartView → (suffix : List ℕ) → Type 0
 StripsFixedSuffix parts middle suffix =
-    (back : Option PartView) × (parts ≡ middle ++ option_to_list back) × IsRemoved back (EndsPlain parts) × (suffix ≡ end_text back)
+    (back : Option PartView) × (parts ≡ middle ++ option_to_list back)
+    × IsRemoved back (EndsPlain parts)
+    × (suffix ≡ end_text back)
 
 -- What a wildcard without modifier captures: the character that the text may not contain, and
 -- whether it may be empty.
@@ -59,7 +72,8 @@ capture_of options kind modifier = None
 
 -- The text is this prefix, with the case of ASCII letters ignored, and the rest.
 abbrev pub BeginsWithFolded : (prefix text rest : List ℕ) → Type 0
-BeginsWithFolded prefix text rest = (front : List ℕ) × (text ≡ front ++ rest) × IsSame true front prefix
+BeginsWithFolded prefix text rest =
+    (front : List ℕ) × (text ≡ front ++ rest) × IsSame true front prefix
 
 -- The text is the rest and this suffix, with the case of ASCII letters ignored.
 abbrev pub EndsWithFolded : (suffix text rest : List ℕ) → Type 0

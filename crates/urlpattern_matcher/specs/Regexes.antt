@@ -32,11 +32,13 @@ text_between bytes span = chars (slice_range bytes span.0 span.1)
 
 -- The texts that this number of groups span, from group 1 on.
 abbrev pub group_texts : (bytes : List ℕ) → (count : ℕ) → (span_of : ℕ → Option (ℕ × ℕ)) → Captures
-group_texts bytes count span_of = map (λ n. option_map (text_between bytes) (span_of n)) (range_with_len 1 count)
+group_texts bytes count span_of =
+    map (λ n. option_map (text_between bytes) (span_of n)) (range_with_len 1 count)
 
 -- What the groups of a match span.
 abbrev pub found_texts : RegexCaptures → Captures
-found_texts found = group_texts (captures_haystack found) (length (captures_names found) - 1) (captures_span found)
+found_texts found =
+    group_texts (captures_haystack found) (length (captures_names found) - 1) (captures_span found)
 
 -- What the groups of the first match in the text span, without group 0, the whole match, or None if
 -- there is no match.
@@ -44,21 +46,28 @@ unfoldable pub regex_result : Regex → List ℕ → Option Captures
 regex_result regex text =
     let bytes = encode_utf8_all text in
     let count = length (regex_names regex) - 1 in
-    option_map (λ found. group_texts bytes count (group_of found)) (find_str (regex_pattern regex) bytes 0)
+    option_map (λ found. group_texts bytes count (group_of found))
+    (find_str (regex_pattern regex) bytes 0)
 
 -- A text of characters whose tree has fewer groups than the grammar counts.
 abbrev pub HasFewGroups : (regexp : List ℕ) → Type 0
-HasFewGroups regexp = IsTrue (all_scalars regexp) × ((tree : Items) × IsTreeOf regexp tree × (group_count tree < 2 ^ 32 - 1))
+HasFewGroups regexp =
+    IsTrue (all_scalars regexp)
+    × ((tree : Items) × IsTreeOf regexp tree × (group_count tree < 2 ^ 32 - 1))
 
 -- The grammar rejects the text only because memory ran out.
 abbrev pub IsRejectedForMemory : (regexp : List ℕ) → Type 0
-IsRejectedForMemory regexp = (kind : ErrorKind) → Refuses default_syntax (encode_utf8_all regexp) kind → kind ≡ ErrorKind.OutOfMemory
+IsRejectedForMemory regexp =
+    (kind : ErrorKind) → Refuses default_syntax (encode_utf8_all regexp) kind
+    → kind ≡ ErrorKind.OutOfMemory
 
 -- The regular expression of parts, none of them custom and with few groups, is rejected only
 -- because memory ran out.
 abbrev pub AcceptsGeneratedSyntax : Type 0
 AcceptsGeneratedSyntax = (options : OptionsView) (parts : List PartView) →
-    AreGenerated parts → HasFewGroups (regexp_text options parts) → IsRejectedForMemory (regexp_text options parts)
+    AreGenerated parts
+    → HasFewGroups (regexp_text options parts)
+    → IsRejectedForMemory (regexp_text options parts)
 
 -- The engine `regex`: it ignores flags, and may reject any text.
 abbrev pub regex_engine : Engine Regex

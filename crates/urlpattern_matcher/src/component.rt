@@ -44,7 +44,14 @@ impl<R: Drop> Component<R> {
     /// Returns the fields by value: pattern string, engine's value, group names, matcher, and
     /// whether the pattern has a custom regular expression.
     pub fn into_fields(self) -> (String, Result<R, Error>, Vec<String>, Matcher<R>, bool)
-        ensures { result ≡ (self.pattern_string, self.regexp, self.group_name_list, self.matcher, self.has_regexp_group) }
+        ensures { result
+            ≡ (
+              self.pattern_string,
+              self.regexp,
+              self.group_name_list,
+              self.matcher,
+              self.has_regexp_group,
+            ) }
     {
         let Self {
             pattern_string,

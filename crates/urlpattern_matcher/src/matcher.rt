@@ -78,9 +78,11 @@ impl<R: RegExp> Matcher<R> {
         alloc: Global,
         input: &'a str,
     ) -> Result<Option<Vec<Option<&'a str>>>, Error>
-        ensures answer { IfOk result (λ found. Returns R.answer (matcher_view self.now) (chars input.now) (captures_view found)) }
+        ensures answer { IfOk result (λ found.
+            Returns R.answer (matcher_view self.now) (chars input.now) (captures_view found)) }
         ensures memory { OnlyOutOfMemory result }
-        ensures asked { IfErr result (λ _. MayRunOutOfMemory R.answer (matcher_view self.now) (chars input.now)) }
+        ensures asked { IfErr result (λ _.
+            MayRunOutOfMemory R.answer (matcher_view self.now) (chars input.now)) }
     {
         match self.look(input) {
             None => Ok(None),
@@ -94,7 +96,8 @@ impl<R: RegExp> Matcher<R> {
     ///
     /// Only an engine allocates.
     pub fn accepts(&self, alloc: Global, input: &str) -> Result<bool, Error>
-        ensures answer { IfOk result (λ accepted. IsTrue accepted ↔ IsMatched R.answer (matcher_view self.now) (chars input.now)) }
+        ensures answer { IfOk result (λ accepted.
+            IsTrue accepted ↔ IsMatched R.answer (matcher_view self.now) (chars input.now)) }
         ensures memory { OnlyOutOfMemory result }
         ensures asked { IfErr result (λ _. CallsEngine (matcher_view self.now) (chars input.now)) }
     {
@@ -110,8 +113,10 @@ impl<R> Matcher<R> {
     /// Returns the text between prefix and suffix. `None`: the text does not begin and end with
     /// them, or they overlap.
     fn middle<'a>(&self, input: &'a str) -> Option<&'a str>
-        ensures some { IfSome result (λ middle. HasMiddle (matcher_view self.now) (chars input.now) (chars middle.now)) }
-        ensures none { IfNone result ((middle : List ℕ) → ¬ HasMiddle (matcher_view self.now) (chars input.now) middle) }
+        ensures some { IfSome result (λ middle.
+            HasMiddle (matcher_view self.now) (chars input.now) (chars middle.now)) }
+        ensures none { IfNone result
+            ((middle : List ℕ) → ¬ HasMiddle (matcher_view self.now) (chars input.now) middle) }
     {
         if self.has_no_ends() {
             return Some(input);
@@ -146,7 +151,9 @@ impl<R> Matcher<R> {
 
     /// Whether a text may be captured.
     fn is_captured(&self, text: &str, filter: Option<char>, allow_empty: bool) -> bool
-        ensures { IsTrue result ↔ (MayBeEmpty allow_empty (chars text.now) × PassesFilter self.now.ignore_case filter (chars text.now)) }
+        ensures { IsTrue result
+            ↔ (MayBeEmpty allow_empty (chars text.now)
+            × PassesFilter self.now.ignore_case filter (chars text.now)) }
     {
         (allow_empty || !text.is_empty()) && self.passes(text, filter)
     }
@@ -165,8 +172,10 @@ impl<R> Matcher<R> {
 
 /// Returns the text after a prefix, where the case of ASCII letters is ignored.
 fn strip_prefix_ignoring_case<'a>(text: &'a str, prefix: &str) -> Option<&'a str>
-    ensures some { IfSome result (λ rest. BeginsWithFolded (chars prefix.now) (chars text.now) (chars rest.now)) }
-    ensures none { IfNone result ((rest : List ℕ) → ¬ BeginsWithFolded (chars prefix.now) (chars text.now) rest) }
+    ensures some { IfSome result (λ rest.
+        BeginsWithFolded (chars prefix.now) (chars text.now) (chars rest.now)) }
+    ensures none { IfNone result
+        ((rest : List ℕ) → ¬ BeginsWithFolded (chars prefix.now) (chars text.now) rest) }
 {
     let (front, rest) = text.split_at_checked(prefix.len())?;
     front.eq_ignore_ascii_case(prefix).then_some(rest)
@@ -174,8 +183,10 @@ fn strip_prefix_ignoring_case<'a>(text: &'a str, prefix: &str) -> Option<&'a str
 
 /// Returns the text before a suffix, where the case of ASCII letters is ignored.
 fn strip_suffix_ignoring_case<'a>(text: &'a str, suffix: &str) -> Option<&'a str>
-    ensures some { IfSome result (λ rest. EndsWithFolded (chars suffix.now) (chars text.now) (chars rest.now)) }
-    ensures none { IfNone result ((rest : List ℕ) → ¬ EndsWithFolded (chars suffix.now) (chars text.now) rest) }
+    ensures some { IfSome result (λ rest.
+        EndsWithFolded (chars suffix.now) (chars text.now) (chars rest.now)) }
+    ensures none { IfNone result
+        ((rest : List ℕ) → ¬ EndsWithFolded (chars suffix.now) (chars text.now) rest) }
 {
     let at = text.len().checked_sub(suffix.len())?;
     let (rest, back) = text.split_at_checked(at)?;

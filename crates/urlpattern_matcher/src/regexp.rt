@@ -51,7 +51,8 @@ pub trait RegExp: Sized + Drop {
         force_eval: bool,
     ) -> Result<Self, RegExpError>
         ensures made { IfOk result (λ engine. IsMade engine (chars pattern.now) (chars flags.now)) }
-        ensures refused { result ≡ Err Pattern → MayReject (chars pattern.now) (chars flags.now) force_eval };
+        ensures refused { result ≡ Err Pattern
+            → MayReject (chars pattern.now) (chars flags.now) force_eval };
 
     /// Compiles a text to a value that is kept and hardly ever matched, so that an engine may put
     /// off work until a match. `is_generated` says that the text was generated from parts, none of
@@ -65,7 +66,8 @@ pub trait RegExp: Sized + Drop {
     ) -> Result<Self, RegExpError>
         requires { is_generated ≡ true → IsGenerated (text_of pattern) }
         ensures made { IfOk result (λ engine. IsMade engine (text_of pattern) (chars flags.now)) }
-        ensures refused { result ≡ Err Pattern → MayReject (text_of pattern) (chars flags.now) force_eval }
+        ensures refused { result ≡ Err Pattern
+            → MayReject (text_of pattern) (chars flags.now) force_eval }
     {
         Self::parse(alloc, &pattern, flags, force_eval)
     }

@@ -18,7 +18,8 @@ names_view found component = map (λ name. text_of name) (at found.names compone
 
 -- The groups of a component, in order: names with captures.
 abbrev pub groups_view : UrlPatternCaptures → ComponentName → List (List ℕ × Option (List ℕ))
-groups_view found component = zip (names_view found component) (captures_of (at found.captures component))
+groups_view found component =
+    zip (names_view found component) (captures_of (at found.captures component))
 
 -- ---- iteration over groups
 
@@ -28,7 +29,8 @@ group_text group = (chars group.0.now, option_text group.1)
 
 -- The remaining groups of a component.
 abbrev pub groups_left : UrlPatternGroups → List (List ℕ × Option (List ℕ))
-groups_left groups = zip (texts_of (iter_rest groups.names)) (map option_text (iter_rest groups.captures))
+groups_left groups =
+    zip (texts_of (iter_rest groups.names)) (map option_text (iter_rest groups.captures))
 
 -- A group with its component.
 abbrev pub NamedGroup : Type 0
@@ -44,12 +46,14 @@ named_groups component groups = map (λ group. (component, group.0, group.1)) gr
 
 -- The groups of these components, in order.
 abbrev pub all_groups_view : UrlPatternCaptures → List ComponentName → List NamedGroup
-all_groups_view found components = flat_map (λ component. named_groups component (groups_view found component)) components
+all_groups_view found components =
+    flat_map (λ component. named_groups component (groups_view found component)) components
 
 -- The remaining groups of all components.
 abbrev pub all_groups_left : UrlPatternCapturesIter → List NamedGroup
 all_groups_left groups =
-    named_groups groups.component (groups_left groups.groups) ++ all_groups_view groups.captures.now (iter_rest groups.components)
+    named_groups groups.component (groups_left groups.groups)
+    ++ all_groups_view groups.captures.now (iter_rest groups.components)
 
 -- ---- the groups that took part
 
@@ -70,23 +74,30 @@ abbrev pub borrowed_group : ComponentName × Bor (List ℕ) × Bor (List ℕ) �
 borrowed_group group = (group.0, chars group.1.now, chars group.2.now)
 
 -- The new list is the old one, followed by the groups of the component that took part.
-abbrev pub AddsParticipating : (old new : List (ComponentName × Bor (List ℕ) × Bor (List ℕ))) → ComponentName → List (List ℕ × Option (List ℕ)) → Type 0
-AddsParticipating old new component groups = map borrowed_group new ≡ map borrowed_group old ++ texts_captured (named_groups component groups)
+abbrev pub AddsParticipating : (old new : List (ComponentName × Bor (List ℕ) × Bor (List ℕ)))
+    → ComponentName
+    → List (List ℕ × Option (List ℕ)) → Type 0
+AddsParticipating old new component groups =
+    map borrowed_group new
+    ≡ map borrowed_group old ++ texts_captured (named_groups component groups)
 
 -- ---- the groups of a result
 
 -- The groups of a map, in any order: each name with its capture.
-abbrev pub listed_entries : List (String Global × Option (String Global)) → List (List ℕ × Option (List ℕ))
+abbrev pub listed_entries : List (String Global × Option (String Global))
+    → List (List ℕ × Option (List ℕ))
 listed_entries entries = map (λ group. (text_of group.0, option_map text_of group.1)) entries
 
 -- The groups of a map, in any order.
-abbrev pub listed_groups : {S : Type 0} → HashMap (String Global) (Option (String Global)) S → List (List ℕ × Option (List ℕ))
+abbrev pub listed_groups : {S : Type 0} → HashMap (String Global) (Option (String Global)) S
+    → List (List ℕ × Option (List ℕ))
 listed_groups groups = listed_entries groups.entries
 
 -- The groups of these components, in order.
 abbrev pub all_listed_groups : UrlPatternResult → List ComponentName → List NamedGroup
 all_listed_groups result components =
-    flat_map (λ component. named_groups component (listed_groups (at (results_of result) component).groups)) components
+    flat_map (λ component.
+    named_groups component (listed_groups (at (results_of result) component).groups)) components
 
 -- No two groups of the component have the same name.
 abbrev pub HasDistinctGroups : UrlPatternResult → ComponentName → Type 0
@@ -103,8 +114,11 @@ pattern_captures_view found component = record {
 
 -- The result is a copy of the match: its texts, names and captures.
 abbrev pub IsCopyOfMatch : UrlPatternCaptures → UrlPatternResult → Type 0
-IsCopyOfMatch found copy = (component : ComponentName) → IsSameResult (result_view copy component) (pattern_captures_view found component)
+IsCopyOfMatch found copy =
+    (component : ComponentName)
+    → IsSameResult (result_view copy component) (pattern_captures_view found component)
 
 -- If there is a match, this holds of it.
-abbrev pub IfMatch : {Fault : Type 0} → Result (Option UrlPatternCaptures) Fault → (UrlPatternCaptures → Type 0) → Type 0
+abbrev pub IfMatch : {Fault : Type 0} → Result (Option UrlPatternCaptures) Fault
+    → (UrlPatternCaptures → Type 0) → Type 0
 IfMatch result Holds = IfOk result (λ found. IfSome found Holds)

@@ -26,8 +26,10 @@ captures_of (captured.One capture) = option_text capture ∷ []
 captures_of (captured.Groups captures) = map option_text captures.items
 
 -- The captures of a look: a match, no match, or an engine that was called and ran out of memory.
-abbrev pub IsCapturedOf : {E : Type 0} → (answer : E → List ℕ → Option Captures) → Look E → Result GroupCaptures Missed → Type 0
-IsCapturedOf answer look (Ok captured) = look_result answer (Some look) ≡ Some (captures_of captured)
+abbrev pub IsCapturedOf : {E : Type 0} → (answer : E → List ℕ → Option Captures) → Look E
+    → Result GroupCaptures Missed → Type 0
+IsCapturedOf answer look (Ok captured) =
+    look_result answer (Some look) ≡ Some (captures_of captured)
 IsCapturedOf answer look (Err missed.Unmatched) = look_result answer (Some look) ≡ None
 IsCapturedOf answer look (Err missed.OutOfMemory) = NeedsEngine look
 
@@ -36,8 +38,10 @@ abbrev pub IsTextCopied : List ℕ → Result (String Global) AllocError → Typ
 IsTextCopied text copied = IfOk copied (λ copy. text_of copy ≡ text)
 
 -- The map has these names with these captures, and no other groups.
-abbrev pub AreGroups : {S : Type 0} → (names : List (List ℕ)) → Captures → HashMap (String Global) (Option (String Global)) S → Type 0
-AreGroups names captures groups = (name : List ℕ) → group_in groups name ≡ group_of names captures name
+abbrev pub AreGroups : {S : Type 0} → (names : List (List ℕ)) → Captures
+    → HashMap (String Global) (Option (String Global)) S → Type 0
+AreGroups names captures groups =
+    (name : List ℕ) → group_in groups name ≡ group_of names captures name
 
 -- The map has no groups.
 abbrev pub HasNoGroups : {S : Type 0} → HashMap (String Global) (Option (String Global)) S → Type 0
@@ -45,7 +49,8 @@ HasNoGroups groups = (name : List ℕ) → group_in groups name ≡ None
 
 -- No component of the result has groups.
 abbrev pub IsWithoutGroups : UrlPatternResult → Type 0
-IsWithoutGroups result = (component : ComponentName) (name : List ℕ) → (result_view result component).group name ≡ None
+IsWithoutGroups result =
+    (component : ComponentName) (name : List ℕ) → (result_view result component).group name ≡ None
 
 -- The bytes that a group captured, if there is such a group and it took part.
 abbrev pub captured_bytes : Option (Option (String Global)) → Option (List ℕ)

@@ -28,11 +28,15 @@ pub record PlainResultView : Type 0 where
   pub group : GroupsByName
 
 -- The groups of a map, by name.
-abbrev pub groups_by_name : {S : Type 0} → HashMap (String Global) (Option (String Global)) S → GroupsByName
+abbrev pub groups_by_name : {S : Type 0} → HashMap (String Global) (Option (String Global)) S
+    → GroupsByName
 groups_by_name groups = λ name. option_map (option_map string_bytes) (get_by_text groups name)
 
 abbrev pub plain_result_view : UrlPatternComponentResult → PlainResultView
-plain_result_view result = record { input = string_bytes result.input; group = groups_by_name result.groups }
+plain_result_view result = record {
+  input = string_bytes result.input;
+  group = groups_by_name result.groups;
+}
 
 abbrev pub plain_results_view : UrlPatternResult → Eight PlainResultView
 plain_results_view result = each (λ name. plain_result_view (at (results_of result) name))
@@ -78,20 +82,27 @@ result_read tree = read_each (λ name. member_read component_result_read (name_t
 abbrev pub IsComponentTree : PlainResultView → Data → Type 0
 IsComponentTree result tree =
     (groups : Data) × (groups_read groups ≡ Some result.group)
-    × (tree ≡ object_of ((codes "input", Some (string result.input)) ∷ (codes "groups", Some groups) ∷ []))
+    × (tree
+    ≡ object_of
+    ((codes "input", Some (string result.input)) ∷ (codes "groups", Some groups) ∷ []))
 
 -- The tree of a result: an object with the tree of each component's result.
 abbrev pub IsResultTree : Eight PlainResultView → Data → Type 0
 IsResultTree result tree =
-    (components : Eight Data) × ((name : ComponentName) → IsComponentTree (at result name) (at components name))
+    (components : Eight Data)
+    × ((name : ComponentName) → IsComponentTree (at result name) (at components name))
     × (tree ≡ object_of (each_member (λ name. Some (at components name))))
 
 -- The tree of a borrowed match: that of a result with its texts and groups.
 abbrev pub IsTreeOfCaptures : UrlPatternCaptures → Data → Type 0
 IsTreeOfCaptures found tree =
-    (result : UrlPatternResult) × ((name : ComponentName) → IsSameResult (result_view result name) (pattern_captures_view found name))
+    (result : UrlPatternResult)
+    × ((name : ComponentName)
+    → IsSameResult (result_view result name) (pattern_captures_view found name))
     × IsResultTree (plain_results_view result) tree
 
 -- The entries gain the tree of a component's result, at a name.
-abbrev pub GainsComponent : (before after : List (String Global × Value)) → (name : List ℕ) → PlainResultView → Type 0
-GainsComponent before after name result = (tree : Data) × IsComponentTree result tree × Gain before after name (Some tree)
+abbrev pub GainsComponent : (before after : List (String Global × Value)) → (name : List ℕ)
+    → PlainResultView → Type 0
+GainsComponent before after name result =
+    (tree : Data) × IsComponentTree result tree × Gain before after name (Some tree)

@@ -16,12 +16,15 @@ use Rattle.urlpattern_components.specs.Eight.{at}
 
 -- The capture of the group of a name, if there is one: names go with captures in the same order,
 -- names or captures without a counterpart are ignored, and the last of equal names counts.
-abbrev pub group_of : (names : List (List ℕ)) → Captures → (name : List ℕ) → Option (Option (List ℕ))
+abbrev pub group_of : (names : List (List ℕ)) → Captures
+    → (name : List ℕ) → Option (Option (List ℕ))
 group_of names captures name = lookup (bytes_eq name) (reverse (zip names captures))
 
 -- The entry of a map of groups at a name.
-abbrev pub group_in : {S : Type 0} → HashMap (String Global) (Option (String Global)) S → (name : List ℕ) → Option (Option (List ℕ))
-group_in groups name = option_map (option_map text_of) (get_by (λ key. bytes_eq name (text_of key)) groups)
+abbrev pub group_in : {S : Type 0} → HashMap (String Global) (Option (String Global)) S
+    → (name : List ℕ) → Option (Option (List ℕ))
+group_in groups name =
+    option_map (option_map text_of) (get_by (λ key. bytes_eq name (text_of key)) groups)
 
 -- ---- results
 
@@ -32,11 +35,23 @@ pub record ResultView : Type 0 where
   pub group : (name : List ℕ) → Option (Option (List ℕ))
 
 abbrev pub component_result_view : UrlPatternComponentResult → ResultView
-component_result_view result = record { input = text_of result.input; group = group_in result.groups }
+component_result_view result = record {
+  input = text_of result.input;
+  group = group_in result.groups;
+}
 
 -- The result of each component.
 abbrev pub results_of : UrlPatternResult → Eight UrlPatternComponentResult
-results_of result = record { protocol = result.protocol; username = result.username; password = result.password; hostname = result.hostname; port = result.port; pathname = result.pathname; search = result.search; hash = result.hash }
+results_of result = record {
+  protocol = result.protocol;
+  username = result.username;
+  password = result.password;
+  hostname = result.hostname;
+  port = result.port;
+  pathname = result.pathname;
+  search = result.search;
+  hash = result.hash;
+}
 
 -- The view of each result.
 abbrev pub result_view : UrlPatternResult → ComponentName → ResultView
@@ -51,13 +66,16 @@ abbrev pub took_part : ResultView → (name : List ℕ) → Option Bool
 took_part result name = option_map is_some (result.group name)
 
 -- The result of a component with this text, these names of groups and these captures.
-pub record IsResultOf (names : List (List ℕ)) (captures : Captures) (text : List ℕ) (result : ResultView) : Type 0 where
+pub record IsResultOf (names : List (List ℕ)) (captures : Captures) (text : List ℕ)
+    (result : ResultView) : Type 0 where
   pub has_input : result.input ≡ text
   pub has_groups : (name : List ℕ) → result.group name ≡ group_of names captures name
 
 -- The copy of an entry has the same name and the same capture.
 abbrev pub IsSameEntry : (entry copy : String Global × Option (String Global)) → Type 0
-IsSameEntry entry copy = (string_bytes copy.0 ≡ string_bytes entry.0) × (option_map string_bytes copy.1 ≡ option_map string_bytes entry.1)
+IsSameEntry entry copy =
+    (string_bytes copy.0 ≡ string_bytes entry.0)
+    × (option_map string_bytes copy.1 ≡ option_map string_bytes entry.1)
 
 -- The copy of a result has the same text, and its groups have the same entries in the same order.
 pub record IsCopy (given copy : UrlPatternComponentResult) : Type 0 where
@@ -66,4 +84,5 @@ pub record IsCopy (given copy : UrlPatternComponentResult) : Type 0 where
 
 -- The two results have the same text, and the same capture at each name.
 abbrev pub IsSameResult : (result other : ResultView) → Type 0
-IsSameResult result other = (result.input ≡ other.input) × ((name : List ℕ) → result.group name ≡ other.group name)
+IsSameResult result other =
+    (result.input ≡ other.input) × ((name : List ℕ) → result.group name ≡ other.group name)

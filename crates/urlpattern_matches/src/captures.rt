@@ -91,7 +91,8 @@ impl<'p, 'u> UrlPatternCaptures<'p, 'u> {
     /// Ok(found.get(ComponentName::Pathname, ID))
     /// ```
     pub fn get(&self, component: ComponentName, name: &str) -> Option<&'u str>
-        ensures { option_text result ≡ captured_text (pattern_captures_view self.now component) (chars name.now) }
+        ensures { option_text result
+            ≡ captured_text (pattern_captures_view self.now component) (chars name.now) }
     {
         self.group(component, name).flatten()
     }
@@ -107,7 +108,8 @@ impl<'p, 'u> UrlPatternCaptures<'p, 'u> {
     /// Returns the capture of the group with this name. `Some(None)`: the group took no part.
     /// `None`: there is no such group. The last of equal names counts.
     fn group(&self, component: ComponentName, name: &str) -> Option<Option<&'u str>>
-        ensures { option_map option_text result ≡ (pattern_captures_view self.now component).group (chars name.now) }
+        ensures { option_map option_text result
+            ≡ (pattern_captures_view self.now component).group (chars name.now) }
     {
         group_named(
             self.names.get(component),
@@ -136,7 +138,9 @@ impl<'p, 'u> UrlPatternCaptures<'p, 'u> {
     /// Returns the groups that took part, in the order of `iter`: component, name and capture, as
     /// `UrlPattern::link` and `generate` expect them.
     pub fn to_groups(&self, alloc: Global) -> Result<Vec<(ComponentName, &'p str, &'u str)>, Error>
-        ensures all { IfOk result (λ groups. map borrowed_group groups.items ≡ texts_captured (all_groups_view self.now components)) }
+        ensures all { IfOk result (λ groups.
+            map borrowed_group groups.items
+            ≡ texts_captured (all_groups_view self.now components)) }
         ensures memory { OnlyOutOfMemory result }
     {
         let mut groups = Vec::new(alloc);
@@ -206,7 +210,8 @@ impl<'p, 'u> UrlPatternCaptures<'p, 'u> {
         copy: &mut UrlPatternComponentResult,
     ) -> Result<(), OutOfMemory>
         requires { HasNoGroups copy.old.groups }
-        ensures same { IfOk result (λ _. IsSameResult (component_result_view copy.new) (pattern_captures_view self.now name)) }
+        ensures same { IfOk result (λ _.
+            IsSameResult (component_result_view copy.new) (pattern_captures_view self.now name)) }
     {
         copy.fill(
             alloc,
@@ -224,7 +229,8 @@ fn group_named<'u>(
     captures: &[Option<&'u str>],
     group: &str,
 ) -> Option<Option<&'u str>>
-    ensures { option_map option_text result ≡ group_of (texts_of names.now) (map option_text captures.now) (chars group.now) }
+    ensures { option_map option_text result
+        ≡ group_of (texts_of names.now) (map option_text captures.now) (chars group.now) }
 {
     let mut found = None;
     for (name, capture) in names.iter().zip(captures) {

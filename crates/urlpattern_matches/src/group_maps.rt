@@ -19,7 +19,9 @@ pub(crate) fn add_groups(
     captures: &[Option<&str>],
 ) -> Result<(), OutOfMemory>
     requires { HasNoGroups groups.old }
-    ensures groups { IfOk result (λ _. AreGroups (map (λ name. text_of name) names.now) (map option_text captures.now) groups.new) }
+    ensures groups { IfOk result (λ _.
+        AreGroups (map (λ name. text_of name) names.now) (map option_text captures.now)
+        groups.new) }
 {
     for (name, capture) in names.iter().zip(captures) {
         drop(groups.insert(name.clone()?, copied(alloc, *capture)?)?);

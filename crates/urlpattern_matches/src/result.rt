@@ -84,7 +84,8 @@ pub(crate) fn empty_result(alloc: Global) -> UrlPatternResult
 
 /// A copy has the same texts and the same groups.
 impl Clone for UrlPatternResult {
-    ghost is_clone = { λ result copy. (name : Name) → IsCopy (at (results_of result) name) (at (results_of copy) name) };
+    ghost is_clone = { λ result copy.
+        (name : Name) → IsCopy (at (results_of result) name) (at (results_of copy) name) };
 
     fn clone(&self) -> Result<Self, AllocError> {
         let components = Eight::try_from_fn(|name| self.component(name).clone())?;
@@ -117,7 +118,8 @@ impl UrlPatternResult {
     /// Returns what the group of a name captured. `None`: there is no such group, or it took no
     /// part.
     pub fn get(&self, component: ComponentName, name: &str) -> Option<&str>
-        ensures { option_text result ≡ captured_text (result_view self.now component) (chars name.now) }
+        ensures { option_text result
+            ≡ captured_text (result_view self.now component) (chars name.now) }
     {
         self.component(component).get(name)
     }
@@ -127,8 +129,11 @@ impl UrlPatternResult {
     ///
     /// Components are in the order of the standard, and the groups of each component in any order.
     pub fn to_groups(&self, alloc: Global) -> Result<Vec<(ComponentName, &str, &str)>, Error>
-        ensures all { IfOk result (λ groups. map borrowed_group groups.items ≡ texts_captured (all_listed_groups self.now components)) }
-        ensures differ { IfOk result (λ groups. (component : Name) → HasDistinctGroups self.now component) }
+        ensures all { IfOk result (λ groups.
+            map borrowed_group groups.items
+            ≡ texts_captured (all_listed_groups self.now components)) }
+        ensures differ { IfOk result (λ groups.
+            (component : Name) → HasDistinctGroups self.now component) }
         ensures memory { OnlyOutOfMemory result }
     {
         let mut taken = Vec::new(alloc);
@@ -154,7 +159,8 @@ impl UrlPatternComponentResult {
     /// Returns what the group of a name captured. `None`: there is no such group, or it took no
     /// part.
     pub fn get(&self, name: &str) -> Option<&str>
-        ensures { option_text result ≡ captured_text (component_result_view self.now) (chars name.now) }
+        ensures { option_text result
+            ≡ captured_text (component_result_view self.now) (chars name.now) }
     {
         capture_of(&self.groups, name)
     }
@@ -162,8 +168,11 @@ impl UrlPatternComponentResult {
     /// Returns the names of the groups, in the order of their bytes.
     pub fn sorted_names(&self, alloc: Global) -> Result<Vec<&str>, Error>
         ensures differ { IfOk result (λ names. IsUnique string_eq self.now.groups) }
-        ensures all { IfOk result (λ names. IsPermutation (map (λ name. string_bytes name) (keys self.now.groups)) (borrowed_bytes names.items)) }
-        ensures in_order { IfOk result (λ names. IsSorted (slice_cmp nat_cmp) (borrowed_bytes names.items)) }
+        ensures all { IfOk result (λ names.
+            IsPermutation (map (λ name. string_bytes name) (keys self.now.groups))
+            (borrowed_bytes names.items)) }
+        ensures in_order { IfOk result (λ names.
+            IsSorted (slice_cmp nat_cmp) (borrowed_bytes names.items)) }
         ensures memory { OnlyOutOfMemory result }
     {
         let mut names = names_of(alloc, &self.groups)?;
@@ -191,7 +200,8 @@ impl UrlPatternComponentResult {
     ) -> Result<(), OutOfMemory>
         requires { HasNoGroups self.old.groups }
         ensures input { IfOk result (λ _. text_of self.new.input ≡ chars text.now) }
-        ensures groups { IfOk result (λ _. AreGroups (texts_of names.now) (map option_text captures.now) self.new.groups) }
+        ensures groups { IfOk result (λ _.
+            AreGroups (texts_of names.now) (map option_text captures.now) self.new.groups) }
     {
         self.input = String::from_str(alloc, text)?;
         add_groups(alloc, &mut self.groups, names, captures)
@@ -204,7 +214,8 @@ fn add_participating<'r>(
     component: ComponentName,
     groups: &'r Groups,
 ) -> Result<(), AllocError>
-    ensures added { OnOk result (AddsParticipating taken.old.items taken.new.items component (listed_groups groups.now)) }
+    ensures added { OnOk result
+        (AddsParticipating taken.old.items taken.new.items component (listed_groups groups.now)) }
     ensures differ { OnOk result (IsUnique string_eq groups.now) }
 {
     for (name, capture) in groups {
@@ -217,7 +228,8 @@ fn add_participating<'r>(
 
 /// Returns the names of groups.
 fn names_of(alloc: Global, groups: &Groups) -> Result<Vec<&str>, AllocError>
-    ensures all { IfOk result (λ names. borrowed_bytes names.items ≡ map (λ name. string_bytes name) (keys groups.now)) }
+    ensures all { IfOk result (λ names.
+        borrowed_bytes names.items ≡ map (λ name. string_bytes name) (keys groups.now)) }
     ensures differ { IfOk result (λ names. IsUnique string_eq groups.now) }
 {
     let mut names = Vec::with_capacity(alloc, groups.len())?;

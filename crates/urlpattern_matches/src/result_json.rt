@@ -20,7 +20,8 @@ use urlpattern_syntax::Error;
 impl UrlPatternResult {
     /// Returns the JSON of the result: an object with the result of each component, as an object.
     pub fn to_json_value(&self, alloc: Global) -> Result<Value, Error>
-        ensures tree { IfOk result (λ tree. IsResultTree (plain_results_view self.now) (view tree)) }
+        ensures tree { IfOk result (λ tree.
+            IsResultTree (plain_results_view self.now) (view tree)) }
         ensures memory { OnlyOutOfMemory result }
     {
         let mut members = Map::new(alloc);
@@ -38,7 +39,8 @@ impl UrlPatternResult {
     /// Reads a result from JSON: an object with the result of each component. Other keys are
     /// ignored. `None`: the JSON has another shape.
     pub fn from_json_value(alloc: Global, value: &Value) -> Result<Option<Self>, Error>
-        ensures read { IfOk result (λ found. option_map plain_results_view found ≡ result_read (view value.now)) }
+        ensures read { IfOk result (λ found.
+            option_map plain_results_view found ≡ result_read (view value.now)) }
         ensures memory { OnlyOutOfMemory result }
     {
         match Eight::try_from_fn(|name| component_field(alloc, value, name.as_str())) {
@@ -69,7 +71,8 @@ impl UrlPatternComponentResult {
     /// Returns the JSON of the result: an object with the text `input` and the object `groups`,
     /// which has the capture of each group, or null if the group took no part.
     pub fn to_json_value(&self, alloc: Global) -> Result<Value, Error>
-        ensures tree { IfOk result (λ tree. IsComponentTree (plain_result_view self.now) (view tree)) }
+        ensures tree { IfOk result (λ tree.
+            IsComponentTree (plain_result_view self.now) (view tree)) }
         ensures memory { OnlyOutOfMemory result }
     {
         let groups = groups_tree(alloc, &self.groups)?;
@@ -82,7 +85,8 @@ impl UrlPatternComponentResult {
     /// Reads a result from JSON: an object with the text `input` and the object `groups`, whose
     /// members are texts and nulls. Other keys are ignored. `None`: the JSON has another shape.
     pub fn from_json_value(alloc: Global, value: &Value) -> Result<Option<Self>, Error>
-        ensures read { IfOk result (λ found. option_map plain_result_view found ≡ component_result_read (view value.now)) }
+        ensures read { IfOk result (λ found.
+            option_map plain_result_view found ≡ component_result_read (view value.now)) }
         ensures memory { OnlyOutOfMemory result }
     {
         read_or_none(Self::read(alloc, value))
@@ -105,7 +109,8 @@ fn put_component(
     name: &str,
     component: &UrlPatternComponentResult,
 ) -> Result<(), Error>
-    ensures put { OnOk result (GainsComponent members.old.entries members.new.entries name.now (plain_result_view component.now)) }
+    ensures put { OnOk result (GainsComponent members.old.entries members.new.entries name.now
+        (plain_result_view component.now)) }
     ensures memory { OnlyOutOfMemory result }
 {
     let tree = component.to_json_value(alloc)?;
@@ -118,7 +123,8 @@ fn component_field(
     tree: &Value,
     name: &str,
 ) -> Result<UrlPatternComponentResult, Unread>
-    ensures { ReturnsRead plain_result_view result (member_read component_result_read name.now (view tree.now)) }
+    ensures { ReturnsRead plain_result_view result
+        (member_read component_result_read name.now (view tree.now)) }
 {
     UrlPatternComponentResult::read(alloc, member(tree, name)?)
 }
@@ -136,7 +142,8 @@ fn groups_tree(alloc: Global, groups: &Groups) -> Result<Value, AllocError>
 
 /// Returns a capture as a text, or as null if the group took no part.
 fn captured_tree(alloc: Global, capture: &Option<String>) -> Result<Value, AllocError>
-    ensures { IfOk result (λ tree. captured_read (view tree) ≡ Some (option_map string_bytes capture.now)) }
+    ensures { IfOk result (λ tree.
+        captured_read (view tree) ≡ Some (option_map string_bytes capture.now)) }
 {
     match capture {
         Some(text) => Value::try_from_str(alloc, text),
@@ -164,7 +171,8 @@ fn read_groups(alloc: Global, tree: &Value) -> Result<Groups, Unread>
 
 /// Reads groups from members, which have to be texts and nulls.
 fn groups_of_members(alloc: Global, members: &Map<String, Value>) -> Result<Groups, Unread>
-    ensures { ReturnsRead groups_by_name result (groups_of_members (members_view members.now.entries)) }
+    ensures { ReturnsRead groups_by_name result
+        (groups_of_members (members_view members.now.entries)) }
 {
     let mut groups = HashMap::new(alloc);
     for (name, tree) in members {

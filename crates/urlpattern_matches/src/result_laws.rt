@@ -8,6 +8,8 @@ ghost use Rattle.urlpattern_components.specs.declared.eight.Eight.{Eight};
 
 /// The tree of a result is read as this result, and so is that of a component's result.
 pub fn results_are_read_back()
-    ensures component { (result : PlainResultView) (tree : Data) → IsComponentTree result tree → component_result_read tree ≡ Some result }
-    ensures result { (result : Eight PlainResultView) (tree : Data) → IsResultTree result tree → result_read tree ≡ Some result }
+    ensures component { (result : PlainResultView) (tree : Data) → IsComponentTree result tree
+        → component_result_read tree ≡ Some result }
+    ensures result { (result : Eight PlainResultView) (tree : Data) → IsResultTree result tree
+        → result_read tree ≡ Some result }
 {}

@@ -8,4 +8,6 @@ use Rattle.urlpattern_syntax.specs.Text.{option_text}
 
 -- The texts of captures, or None.
 abbrev pub captures_view : Option (Vec (Option (Bor (List ℕ))) Global) → Option Captures
-captures_view found = option_map (λ (captures : Vec (Option (Bor (List ℕ))) Global). map option_text captures.items) found
+captures_view found =
+    option_map (λ (captures : Vec (Option (Bor (List ℕ))) Global). map option_text captures.items)
+    found

@@ -55,7 +55,8 @@ abbrev mutual
   -- The items as they are spelled.
   pub items_text : Items → List ℕ
   items_text Nothing = []
-  items_text (Item atom quantifier items) = atom_text atom ++ quantifier_text quantifier ++ items_text items
+  items_text (Item atom quantifier items) =
+      atom_text atom ++ quantifier_text quantifier ++ items_text items
 
   -- An atom as it is spelled.
   pub atom_text : Atom → List ℕ
@@ -106,7 +107,8 @@ abbrev mutual
   -- The characters and quantifiers of the items are allowed.
   pub AreItems : Items → Type 0
   AreItems Nothing = Unit {0}
-  AreItems (Item atom quantifier items) = IsAtom atom × AllowsGroups quantifier (atom_group_count atom) × AreItems items
+  AreItems (Item atom quantifier items) =
+      IsAtom atom × AllowsGroups quantifier (atom_group_count atom) × AreItems items
 
   -- The characters and the items of the atom are allowed.
   pub IsAtom : Atom → Type 0
@@ -132,27 +134,38 @@ IsOneBut c text = (other : ℕ) × (text ≡ other ∷ []) × IsTrue (not (other
 
 -- The text matches an atom of meaning `Atom`, with this number of groups, under the quantifier. An
 -- atom that is skipped leaves its groups None.
-abbrev pub IsQuantified : Quantifier → (groups : ℕ) → (List ℕ → Captures → Type 0) → List ℕ → Captures → Type 0
+abbrev pub IsQuantified : Quantifier → (groups : ℕ) → (List ℕ → Captures → Type 0) → List ℕ
+    → Captures → Type 0
 IsQuantified Once groups Atom text captures = Atom text captures
-IsQuantified Optional groups Atom text captures = Atom text captures ⊎ ((text ≡ []) × (captures ≡ replicate groups None))
-IsQuantified ZeroOrMore groups Atom text captures = (n : ℕ) × IsRepeated (λ substring. Atom substring []) n text × (captures ≡ [])
-IsQuantified OneOrMore groups Atom text captures = (n : ℕ) × IsRepeated (λ substring. Atom substring []) (suc n) text × (captures ≡ [])
-IsQuantified LazyOneOrMore groups Atom text captures = (n : ℕ) × IsRepeated (λ substring. Atom substring []) (suc n) text × (captures ≡ [])
+IsQuantified Optional groups Atom text captures =
+    Atom text captures ⊎ ((text ≡ []) × (captures ≡ replicate groups None))
+IsQuantified ZeroOrMore groups Atom text captures =
+    (n : ℕ) × IsRepeated (λ substring. Atom substring []) n text × (captures ≡ [])
+IsQuantified OneOrMore groups Atom text captures =
+    (n : ℕ) × IsRepeated (λ substring. Atom substring []) (suc n) text × (captures ≡ [])
+IsQuantified LazyOneOrMore groups Atom text captures =
+    (n : ℕ) × IsRepeated (λ substring. Atom substring []) (suc n) text × (captures ≡ [])
 
 abbrev mutual
   -- The items match the whole text, with these captures in the order of the opening brackets.
   pub Means : Items → List ℕ → Captures → Type 0
   Means Nothing text captures = (text ≡ []) × (captures ≡ [])
   Means (Item atom quantifier items) text captures =
-      (first rest : List ℕ) × (own others : Captures) × (text ≡ first ++ rest) × (captures ≡ own ++ others)
-      × IsQuantified quantifier (atom_group_count atom) (AtomMeans atom) first own × Means items rest others
+      (first rest : List ℕ) × (own others : Captures)
+      × (text ≡ first ++ rest)
+      × (captures ≡ own ++ others)
+      × IsQuantified quantifier (atom_group_count atom) (AtomMeans atom) first own
+      × Means items rest others
 
   -- The atom matches the whole text, with these captures.
   pub AtomMeans : Atom → List ℕ → Captures → Type 0
-  AtomMeans (Literal character) text captures = (text ≡ character_of character ∷ []) × (captures ≡ [])
+  AtomMeans (Literal character) text captures =
+      (text ≡ character_of character ∷ []) × (captures ≡ [])
   AtomMeans Dot text captures = IsOneBut line_feed text × (captures ≡ [])
-  AtomMeans (AnyBut character) text captures = IsOneBut (character_of character) text × (captures ≡ [])
-  AtomMeans (Captured items) text captures = (inner : Captures) × (captures ≡ Some text ∷ inner) × Means items text inner
+  AtomMeans (AnyBut character) text captures =
+      IsOneBut (character_of character) text × (captures ≡ [])
+  AtomMeans (Captured items) text captures =
+      (inner : Captures) × (captures ≡ Some text ∷ inner) × Means items text inner
   AtomMeans (Grouped items) text captures = Means items text captures
 
 -- ---- engines
@@ -166,7 +179,9 @@ pub record IsOnlyTreeOf (text : List ℕ) (tree : Items) : Type 0 where
 -- have there.
 abbrev pub HasMeaningOf : (regexp : List ℕ) → OptionsView → List PartView → Type 0
 HasMeaningOf regexp options parts =
-    (tree : Items) × IsOnlyTreeOf regexp tree × ((text : List ℕ) (captures : Captures) → Means tree text captures ↔ PartsMean options parts text captures)
+    (tree : Items) × IsOnlyTreeOf regexp tree
+    × ((text : List ℕ) (captures : Captures) → Means tree text captures
+    ↔ PartsMean options parts text captures)
 
 -- The results of an engine for texts of characters are what the one tree of its own text means:
 -- captures that the tree has there, or None where it has none.
@@ -174,4 +189,5 @@ pub record Follows (regexp : List ℕ) (answer : List ℕ → Option Captures) :
   pub tree : Items
   pub is_tree : IsOnlyTreeOf regexp tree
   pub answers : (text : List ℕ) → IsTrue (all_scalars text) →
-      MatchOption (answer text) ((captures : Captures) → ¬ Means tree text captures) (λ captures. Means tree text captures)
+      MatchOption (answer text) ((captures : Captures) → ¬ Means tree text captures) (λ captures.
+      Means tree text captures)

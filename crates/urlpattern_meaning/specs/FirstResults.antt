@@ -9,24 +9,35 @@ use Rattle.urlpattern_syntax.specs.{Options.OptionsView, Parts.PartView, RegexpT
 
 -- The result is the captures of the first way in which the tree of the parts' regular expression
 -- matches the whole text, or None where no way does.
-pub record IsFirstOf (options : OptionsView) (parts : List PartView) (text : List ℕ) (result : Option Captures) : Type 0 where
+pub record IsFirstOf (options : OptionsView) (parts : List PartView) (text : List ℕ)
+    (result : Option Captures) : Type 0 where
   pub tree : Items
   pub is_tree : IsTreeOf (regexp_text options parts) tree
   pub is_first : result ≡ first_way tree text
 
 -- For a text of characters, an engine returns the first way of the tree of its own text.
 abbrev pub ReturnsFirst : (regexp : List ℕ) → (answer : List ℕ → Option Captures) → Type 0
-ReturnsFirst regexp answer = (tree : Items) (text : List ℕ) → IsTreeOf regexp tree → IsTrue (all_scalars text) → answer text ≡ first_way tree text
+ReturnsFirst regexp answer =
+    (tree : Items) (text : List ℕ) → IsTreeOf regexp tree
+    → IsTrue (all_scalars text)
+    → answer text ≡ first_way tree text
 
 -- An engine that is called returns the first way for the parts that are left to it.
-abbrev pub ReturnsFirstInMiddle : {E : Type 0} → (answer : E → List ℕ → Option Captures) → OptionsView → List PartView → InnerView E → Type 0
-ReturnsFirstInMiddle answer options parts inner = IsOfMiddle (λ engine middle. ReturnsFirst (regexp_text options middle) (answer engine)) parts inner
+abbrev pub ReturnsFirstInMiddle : {E : Type 0} → (answer : E → List ℕ → Option Captures)
+    → OptionsView → List PartView → InnerView E → Type 0
+ReturnsFirstInMiddle answer options parts inner =
+    IsOfMiddle (λ engine middle. ReturnsFirst (regexp_text options middle) (answer engine)) parts
+    inner
 
 -- The matcher returns the first way of the tree of the parts, where none of them is custom and case
 -- is kept, if an engine that is called returns the first way for the parts that are left to it.
-abbrev pub ReturnsByFirstWay : {E : Type 0} → (answer : E → List ℕ → Option Captures) → OptionsView → List PartView → MatcherView E → Type 0
+abbrev pub ReturnsByFirstWay : {E : Type 0} → (answer : E → List ℕ → Option Captures) → OptionsView
+    → List PartView → MatcherView E → Type 0
 ReturnsByFirstWay answer options parts matcher =
-    AreGenerated parts → options.ignore_case ≡ false → ReturnsFirstInMiddle answer options parts matcher.inner →
+    AreGenerated parts
+    → options.ignore_case ≡ false
+    → ReturnsFirstInMiddle answer options parts matcher.inner
+    →
     EachResultIs answer matcher (IsFirstOf options parts)
 
 -- An engine that is needed accepted its text: no error is kept, and `Holds` is true of the value.

@@ -5,4 +5,7 @@ use Rattle.urlpattern_syntax.specs.{Options.OptionsView, Parts.PartView, RegexpT
 
 -- The text is, under some options, the regular expression of parts of which none is custom.
 abbrev pub IsGenerated : List ℕ → Type 0
-IsGenerated regexp = (options : OptionsView) × (parts : List PartView) × AreGenerated parts × (regexp ≡ regexp_text options parts)
+IsGenerated regexp =
+    (options : OptionsView) × (parts : List PartView)
+    × AreGenerated parts
+    × (regexp ≡ regexp_text options parts)

@@ -26,14 +26,16 @@ spelling kind value = value
 -- The token's spelling is in the text where its index says.
 abbrev pub IsSpelledAt : (text : List ℕ) → TokenView → Type 0
 IsSpelledAt text token =
-    (before after : List ℕ) × (text ≡ before ++ spelling token.kind token.value ++ after) × (token.index ≡ byte_len before)
+    (before after : List ℕ) × (text ≡ before ++ spelling token.kind token.value ++ after)
+    × (token.index ≡ byte_len before)
 
 -- The text, which begins at this byte, is the spellings of these tokens in order, each at its
 -- token's index, with nothing but skipped characters before each.
 abbrev pub Lays : (place : ℕ) → List TokenView → (text : List ℕ) → Type 0
 Lays place [] text = text ≡ []
 Lays place (token ∷ tokens) text =
-    (skipped rest : List ℕ) × (text ≡ skipped ++ spelling token.kind token.value ++ rest) × IsTrue (list_all is_ignored skipped)
+    (skipped rest : List ℕ) × (text ≡ skipped ++ spelling token.kind token.value ++ rest)
+    × IsTrue (list_all is_ignored skipped)
     × (token.index ≡ place + byte_len skipped)
     × Lays (token.index + byte_len (spelling token.kind token.value)) tokens rest
 
@@ -42,7 +44,8 @@ Lays place (token ∷ tokens) text =
 -- The text has strict tokens, or a first fault with its place.
 abbrev pub HasTokensOrFault : (text : List ℕ) → Type 0
 HasTokensOrFault text =
-    ((tokens : List TokenView) × AreTokens text tokens) ⊎ ((fault : FaultView) × (place : ℕ) × IsFault text fault place)
+    ((tokens : List TokenView) × AreTokens text tokens)
+    ⊎ ((fault : FaultView) × (place : ℕ) × IsFault text fault place)
 
 -- The text has lenient tokens.
 abbrev pub HasLenientTokens : (text : List ℕ) → Type 0
@@ -65,7 +68,8 @@ ReturnsOnce encoding = (text : List ℕ) → AtMostOne (encoding text)
 -- The encoding has at most one result for each text other than that memory ran out.
 abbrev pub ReturnsOnceGivenMemory : Encoding → Type 0
 ReturnsOnceGivenMemory encoding =
-    (text : List ℕ) (answer other : Result (List ℕ) ErrorView) → encoding text answer → encoding text other →
+    (text : List ℕ) (answer other : Result (List ℕ) ErrorView) → encoding text answer
+    → encoding text other →
     answer ≢ Err ErrorView.OutOfMemory → other ≢ Err ErrorView.OutOfMemory → answer ≡ other
 
 -- The encoding has a result for the text.
@@ -74,7 +78,8 @@ HasResult encoding text = (answer : Result (List ℕ) ErrorView) × encoding tex
 
 -- The encoding is called with the text `asked`, which is among the demands of the pieces of the
 -- text; each demand before it is met.
-pub record CallsEncoding (text : List ℕ) (options : OptionsView) (encoding : Encoding) (asked : List ℕ) : Type 0 where
+pub record CallsEncoding (text : List ℕ) (options : OptionsView) (encoding : Encoding)
+    (asked : List ℕ) : Type 0 where
   pub tokens : List TokenView
   pub pieces : List Piece
   pub ending : Ending
@@ -87,11 +92,13 @@ pub record CallsEncoding (text : List ℕ) (options : OptionsView) (encoding : E
 
 -- The encoding has a result for each text that it is called with.
 abbrev pub HasRequestedResults : (text : List ℕ) → OptionsView → Encoding → Type 0
-HasRequestedResults text options encoding = (asked : List ℕ) → CallsEncoding text options encoding asked → HasResult encoding asked
+HasRequestedResults text options encoding =
+    (asked : List ℕ) → CallsEncoding text options encoding asked → HasResult encoding asked
 
 -- The encoding is called with a text for which it has no result.
 abbrev pub LacksResult : (text : List ℕ) → OptionsView → Encoding → Type 0
-LacksResult text options encoding = (asked : List ℕ) × CallsEncoding text options encoding asked × ¬ HasResult encoding asked
+LacksResult text options encoding =
+    (asked : List ℕ) × CallsEncoding text options encoding asked × ¬ HasResult encoding asked
 
 -- ---- outcomes
 
@@ -106,7 +113,8 @@ HasOutcome text options encoding (Err error) = Rejects text options encoding err
 
 -- The text reads as some parts, or is rejected with some error.
 abbrev pub HasSomeOutcome : (text : List ℕ) → OptionsView → Encoding → Type 0
-HasSomeOutcome text options encoding = (outcome : Outcome) × HasOutcome text options encoding outcome
+HasSomeOutcome text options encoding =
+    (outcome : Outcome) × HasOutcome text options encoding outcome
 
 -- ---- names
 

@@ -22,8 +22,12 @@ TokensExcludeFaults = (text : List ℕ) (tokens : List TokenView) (fault : Fault
     AreTokens text tokens → ¬ IsFault text fault place
 
 -- `Says` holds of each strict token of each text, and the tokens after it.
-abbrev pub OfEachToken : (Says : (text : List ℕ) → TokenView → (later : List TokenView) → Type 0) → Type 0
-OfEachToken Says = (text : List ℕ) (front later : List TokenView) (token : TokenView) → AreTokens text (front ++ token ∷ later) → Says text token later
+abbrev pub OfEachToken : (Says : (text : List ℕ) → TokenView → (later : List TokenView) → Type 0)
+    → Type 0
+OfEachToken Says =
+    (text : List ℕ) (front later : List TokenView) (token : TokenView)
+    → AreTokens text (front ++ token ∷ later)
+    → Says text token later
 
 -- Each token begins after the one before it.
 abbrev pub IndicesRise : Type 0
@@ -34,13 +38,18 @@ IndicesRise = (text : List ℕ) (front between back : List TokenView) (token lat
 
 -- Tokens have at most one list of pieces, with one ending.
 abbrev pub PiecesAreOne : Type 0
-PiecesAreOne = (point : List ℕ) (tokens : List TokenView) (pieces others : List Piece) (ending other : Ending) →
-    ArePieces point tokens pieces ending → ArePieces point tokens others other → (pieces ≡ others) × (ending ≡ other)
+PiecesAreOne =
+    (point : List ℕ) (tokens : List TokenView) (pieces others : List Piece) (ending other : Ending)
+    →
+    ArePieces point tokens pieces ending
+    → ArePieces point tokens others other
+    → (pieces ≡ others) × (ending ≡ other)
 
 -- The tokens of a text have a list of pieces.
 abbrev pub TokensHavePieces : Type 0
 TokensHavePieces = (point text : List ℕ) (tokens : List TokenView) →
-    AreTokens text tokens → (pieces : List Piece) × (ending : Ending) × ArePieces point tokens pieces ending
+    AreTokens text tokens
+    → (pieces : List Piece) × (ending : Ending) × ArePieces point tokens pieces ending
 
 -- ---- encodings
 
@@ -56,8 +65,11 @@ UnderEachCallback {F} calls Sentence = (callback : F) → Sentence (encoding_by 
 
 -- At most one value has the property for a text, where the encoding has at most one result for each
 -- text.
-abbrev pub HaveOneAtMost : {A : Type 0} → (Has : (text : List ℕ) → OptionsView → Encoding → A → Type 0) → Encoding → Type 0
-HaveOneAtMost {A} Has encoding = (text : List ℕ) (options : OptionsView) (value other : A) → ReturnsOnce encoding →
+abbrev pub HaveOneAtMost : {A : Type 0}
+    → (Has : (text : List ℕ) → OptionsView → Encoding → A → Type 0)
+    → Encoding → Type 0
+HaveOneAtMost {A} Has encoding =
+    (text : List ℕ) (options : OptionsView) (value other : A) → ReturnsOnce encoding →
     Has text options encoding value → Has text options encoding other → value ≡ other
 
 -- A text has at most one outcome, where the encoding has at most one result for each text.
@@ -67,15 +79,21 @@ OutcomesAreOne encoding = HaveOneAtMost HasOutcome encoding
 -- No text has both a reading and a rejection, where the encoding has at most one result for each
 -- text.
 abbrev pub ReadingsExcludeRejections : Encoding → Type 0
-ReadingsExcludeRejections encoding = (text : List ℕ) (options : OptionsView) (parts : List PartView) (error : ErrorView) →
+ReadingsExcludeRejections encoding =
+    (text : List ℕ) (options : OptionsView) (parts : List PartView) (error : ErrorView) →
     ReturnsOnce encoding → Reads text options encoding parts → ¬ Rejects text options encoding error
 
 -- Other than that memory ran out, a text has at most one outcome where the encoding has at most one
 -- result for each text.
 abbrev pub OutcomesAreOneGivenMemory : Encoding → Type 0
-OutcomesAreOneGivenMemory encoding = (text : List ℕ) (options : OptionsView) (outcome other : Outcome) → ReturnsOnceGivenMemory encoding →
+OutcomesAreOneGivenMemory encoding =
+    (text : List ℕ) (options : OptionsView) (outcome other : Outcome)
+    → ReturnsOnceGivenMemory encoding
+    →
     outcome ≢ Err ErrorView.OutOfMemory → other ≢ Err ErrorView.OutOfMemory →
-    HasOutcome text options encoding outcome → HasOutcome text options encoding other → outcome ≡ other
+    HasOutcome text options encoding outcome
+    → HasOutcome text options encoding other
+    → outcome ≡ other
 
 -- Every text has an outcome, or else the encoding is called with a text for which it has no result.
 abbrev pub OutcomesLackOnlyResults : Encoding → Type 0
@@ -89,7 +107,10 @@ TextsWithResultsHaveOutcomes encoding = (text : List ℕ) (options : OptionsView
 
 -- `Says` holds of the parts of each reading.
 abbrev pub OfEachReading : (Says : OptionsView → List PartView → Type 0) → Encoding → Type 0
-OfEachReading Says encoding = (text : List ℕ) (options : OptionsView) (parts : List PartView) → Reads text options encoding parts → Says options parts
+OfEachReading Says encoding =
+    (text : List ℕ) (options : OptionsView) (parts : List PartView)
+    → Reads text options encoding parts
+    → Says options parts
 
 -- ---- printed patterns
 
@@ -105,29 +126,44 @@ Saying = (text : List ℕ) → OptionsView → Encoding → List PartView → Ty
 -- `Says` holds of the printed pattern of all printable parts, under each list of results that keeps
 -- their texts.
 abbrev pub OfPrintableParts : Saying → Type 0
-OfPrintableParts Says = (options : OptionsView) (answers : EncodingResults) (parts : List PartView) →
-    IsPrintable options parts → Keeps (listed answers) parts → Says (printed options parts) options (listed answers) parts
+OfPrintableParts Says =
+    (options : OptionsView) (answers : EncodingResults) (parts : List PartView) →
+    IsPrintable options parts
+    → Keeps (listed answers) parts
+    → Says (printed options parts) options (listed answers) parts
 
 -- `Says` holds of the printed pattern of parts that were read under one list of results, under each
 -- list that keeps their texts.
 abbrev pub OfPartsThatWereRead : Saying → Type 0
-OfPartsThatWereRead Says = (text : List ℕ) (options : OptionsView) (first answers : EncodingResults) (parts : List PartView) →
-    WereRead text options (listed first) parts → Keeps (listed answers) parts → Says (printed options parts) options (listed answers) parts
+OfPartsThatWereRead Says =
+    (text : List ℕ) (options : OptionsView) (first answers : EncodingResults)
+    (parts : List PartView)
+    →
+    WereRead text options (listed first) parts
+    → Keeps (listed answers) parts
+    → Says (printed options parts) options (listed answers) parts
 
 -- The printed pattern may be read as the joined parts, where the encoding may return each of their
 -- texts unchanged.
 abbrev pub PrintedMayReadAsJoined : Encoding → Type 0
 PrintedMayReadAsJoined encoding = (options : OptionsView) (parts : List PartView) →
-    IsPrintable options parts → MayKeep encoding parts → ReadsAsJoined (printed options parts) options encoding parts
+    IsPrintable options parts
+    → MayKeep encoding parts
+    → ReadsAsJoined (printed options parts) options encoding parts
 
 -- The printed pattern is read as nothing else, where the encoding changes none of the texts of the
 -- joined parts.
 abbrev pub PrintedReadsOnlyAsJoined : Encoding → Type 0
 PrintedReadsOnlyAsJoined encoding = (options : OptionsView) (parts : List PartView) →
-    IsPrintable options parts → KeepsOrFails encoding parts → ReadsOnlyAsJoined (printed options parts) options encoding parts
+    IsPrintable options parts
+    → KeepsOrFails encoding parts
+    → ReadsOnlyAsJoined (printed options parts) options encoding parts
 
 -- The printed pattern is rejected only by an error that the encoding may return for one of the
 -- texts of the joined parts.
 abbrev pub PrintedFailsByTheEncoding : Encoding → Type 0
-PrintedFailsByTheEncoding encoding = (options : OptionsView) (parts : List PartView) (error : ErrorView) →
-    IsPrintable options parts → Rejects (printed options parts) options encoding error → FailsText encoding (encoded_texts (joined parts)) error
+PrintedFailsByTheEncoding encoding =
+    (options : OptionsView) (parts : List PartView) (error : ErrorView) →
+    IsPrintable options parts
+    → Rejects (printed options parts) options encoding error
+    → FailsText encoding (encoded_texts (joined parts)) error

@@ -47,19 +47,29 @@ end_text (Some part) = part.value
 end_text None = []
 
 -- A plain fixed text is removed from the start of the parts, and one from the end of what remains.
-pub record AreStripped (parts : List PartView) (front : Option PartView) (middle : List PartView) (back : Option PartView) : Type 0 where
+pub record AreStripped (parts : List PartView) (front : Option PartView) (middle : List PartView)
+    (back : Option PartView) : Type 0 where
   pub cut : parts ≡ option_to_list front ++ middle ++ option_to_list back
   pub front_removed : IsRemoved front (BeginsPlain parts)
   pub back_removed : IsRemoved back (EndsPlain middle)
 
 -- The parts between prefix and suffix are matched by an engine, by their regular expression.
-abbrev pub IsMadeByEngine : {E : Type 0} → (IsEngine : (regexp : List ℕ) → Result E ErrorView → Type 0) → OptionsView → (prefix : List ℕ) → List PartView → (suffix : List ℕ) → MatcherView E → Type 0
+abbrev pub IsMadeByEngine : {E : Type 0}
+    → (IsEngine : (regexp : List ℕ) → Result E ErrorView → Type 0)
+    → OptionsView → (prefix : List ℕ) → List PartView → (suffix : List ℕ) → MatcherView E → Type 0
 IsMadeByEngine {E} IsEngine options prefix middle suffix matcher =
     (engine : Result E ErrorView) × IsEngine (regexp_text options middle) engine
-    × (matcher ≡ record { prefix = prefix; suffix = suffix; inner = RegExp engine; ignore_case = options.ignore_case })
+    × (matcher
+    ≡ record {
+      prefix = prefix;
+      suffix = suffix;
+      inner = RegExp engine;
+      ignore_case = options.ignore_case;
+    })
 
 -- A single capture, between both prefixes and both suffixes.
-abbrev pub single_capture_matcher : {E : Type 0} → OptionsView → (prefix : List ℕ) → PartView → (suffix : List ℕ) → (filter : Option ℕ) → (allow_empty : Bool) → MatcherView E
+abbrev pub single_capture_matcher : {E : Type 0} → OptionsView → (prefix : List ℕ) → PartView
+    → (suffix : List ℕ) → (filter : Option ℕ) → (allow_empty : Bool) → MatcherView E
 single_capture_matcher options prefix part suffix filter allow_empty = record {
   prefix = prefix ++ part.prefix;
   suffix = part.suffix ++ suffix;
@@ -68,7 +78,9 @@ single_capture_matcher options prefix part suffix filter allow_empty = record {
 }
 
 -- For a single part that is left: a wildcard without modifier is a single capture.
-abbrev pub IsMadeOfOne : {E : Type 0} → (IsEngine : (regexp : List ℕ) → Result E ErrorView → Type 0) → PartType → PartModifier → OptionsView → (prefix : List ℕ) → PartView → (suffix : List ℕ) → MatcherView E → Type 0
+abbrev pub IsMadeOfOne : {E : Type 0} → (IsEngine : (regexp : List ℕ) → Result E ErrorView → Type 0)
+    → PartType → PartModifier → OptionsView → (prefix : List ℕ) → PartView
+    → (suffix : List ℕ) → MatcherView E → Type 0
 IsMadeOfOne IsEngine PartType.FullWildcard PartModifier.None options prefix part suffix matcher =
     matcher ≡ single_capture_matcher options prefix part suffix None true
 IsMadeOfOne IsEngine PartType.SegmentWildcard PartModifier.None options prefix part suffix matcher =
@@ -77,9 +89,17 @@ IsMadeOfOne IsEngine kind modifier options prefix part suffix matcher =
     IsMadeByEngine IsEngine options prefix (part ∷ []) suffix matcher
 
 -- The parts that are left between the removed texts make this matcher.
-abbrev pub IsMadeBetween : {E : Type 0} → (IsEngine : (regexp : List ℕ) → Result E ErrorView → Type 0) → OptionsView → (prefix : List ℕ) → List PartView → (suffix : List ℕ) → MatcherView E → Type 0
+abbrev pub IsMadeBetween : {E : Type 0}
+    → (IsEngine : (regexp : List ℕ) → Result E ErrorView → Type 0)
+    → OptionsView → (prefix : List ℕ) → List PartView → (suffix : List ℕ) → MatcherView E → Type 0
 IsMadeBetween IsEngine options prefix [] suffix matcher =
-    matcher ≡ record { prefix = []; suffix = []; inner = Literal (prefix ++ suffix); ignore_case = options.ignore_case }
+    matcher
+    ≡ record {
+      prefix = [];
+      suffix = [];
+      inner = Literal (prefix ++ suffix);
+      ignore_case = options.ignore_case;
+    }
 IsMadeBetween IsEngine options prefix (part ∷ []) suffix matcher =
     IsMadeOfOne IsEngine part.kind part.modifier options prefix part suffix matcher
 IsMadeBetween IsEngine options prefix (part ∷ next ∷ parts) suffix matcher =
@@ -87,7 +107,8 @@ IsMadeBetween IsEngine options prefix (part ∷ next ∷ parts) suffix matcher =
 
 -- The matcher is made from the parts, where `IsEngine` relates a regular expression to the value or
 -- error of its engine.
-pub record IsMadeOf {E : Type 0} (IsEngine : (regexp : List ℕ) → Result E ErrorView → Type 0) (options : OptionsView) (parts : List PartView) (matcher : MatcherView E) : Type 0 where
+pub record IsMadeOf {E : Type 0} (IsEngine : (regexp : List ℕ) → Result E ErrorView → Type 0)
+    (options : OptionsView) (parts : List PartView) (matcher : MatcherView E) : Type 0 where
   pub front : Option PartView
   pub middle : List PartView
   pub back : Option PartView
@@ -110,7 +131,8 @@ folded_captures captures = map (λ capture. option_map (folded true) capture) ca
 
 -- The two characters are equal, except for the case of ASCII letters where case is ignored.
 abbrev pub is_same_character : (ignore_case : Bool) → (c other : ℕ) → Bool
-is_same_character ignore_case c other = folded_character ignore_case c == folded_character ignore_case other
+is_same_character ignore_case c other =
+    folded_character ignore_case c == folded_character ignore_case other
 
 -- The two texts are equal, except for the case of ASCII letters where case is ignored.
 abbrev pub IsSame : (ignore_case : Bool) → (text other : List ℕ) → Type 0
@@ -119,7 +141,8 @@ IsSame ignore_case text other = folded ignore_case text ≡ folded ignore_case o
 -- The text does not contain the filter's character.
 abbrev pub PassesFilter : (ignore_case : Bool) → Option ℕ → List ℕ → Type 0
 PassesFilter ignore_case None text = Unit {0}
-PassesFilter ignore_case (Some c) text = IsTrue (lacks (folded_character ignore_case c) (folded ignore_case text))
+PassesFilter ignore_case (Some c) text =
+    IsTrue (lacks (folded_character ignore_case c) (folded ignore_case text))
 
 -- A text may be empty only where `allow_empty` is set.
 abbrev pub MayBeEmpty : (allow_empty : Bool) → List ℕ → Type 0
@@ -127,8 +150,10 @@ MayBeEmpty true text = Unit {0}
 MayBeEmpty false text = text ≢ []
 
 -- The text between prefix and suffix is accepted by the inner matcher, with these captures.
-abbrev pub Accepts : {E : Type 0} → (answer : E → List ℕ → Option Captures) → (ignore_case : Bool) → InnerView E → List ℕ → Captures → Type 0
-Accepts answer ignore_case (Literal literal) text captures = IsSame ignore_case text literal × (captures ≡ [])
+abbrev pub Accepts : {E : Type 0} → (answer : E → List ℕ → Option Captures)
+    → (ignore_case : Bool) → InnerView E → List ℕ → Captures → Type 0
+Accepts answer ignore_case (Literal literal) text captures =
+    IsSame ignore_case text literal × (captures ≡ [])
 Accepts answer ignore_case (SingleCapture filter allow_empty) text captures =
     MayBeEmpty allow_empty text × PassesFilter ignore_case filter text × (captures ≡ Some text ∷ [])
 Accepts answer ignore_case (RegExp (Ok engine)) text captures = answer engine text ≡ Some captures
@@ -139,21 +164,26 @@ Accepts answer ignore_case (RegExp (Err error)) text captures = ⊥
 abbrev pub HasMiddle : {E : Type 0} → MatcherView E → List ℕ → (middle : List ℕ) → Type 0
 HasMiddle matcher text middle =
     (front back : List ℕ) × (text ≡ front ++ middle ++ back)
-    × IsSame matcher.ignore_case front matcher.prefix × IsSame matcher.ignore_case back matcher.suffix
+    × IsSame matcher.ignore_case front matcher.prefix
+    × IsSame matcher.ignore_case back matcher.suffix
 
 -- The text has prefix and suffix, and the text between them is accepted, with these captures.
-abbrev pub Matches : {E : Type 0} → (answer : E → List ℕ → Option Captures) → MatcherView E → List ℕ → Captures → Type 0
+abbrev pub Matches : {E : Type 0} → (answer : E → List ℕ → Option Captures) → MatcherView E → List ℕ
+    → Captures → Type 0
 Matches answer matcher text captures =
-    (middle : List ℕ) × HasMiddle matcher text middle × Accepts answer matcher.ignore_case matcher.inner middle captures
+    (middle : List ℕ) × HasMiddle matcher text middle
+    × Accepts answer matcher.ignore_case matcher.inner middle captures
 
 -- The result of a matcher for a text, where `answer` is the result of an engine: captures, or None
 -- where there are none.
-abbrev pub Returns : {E : Type 0} → (answer : E → List ℕ → Option Captures) → MatcherView E → List ℕ → Option Captures → Type 0
+abbrev pub Returns : {E : Type 0} → (answer : E → List ℕ → Option Captures) → MatcherView E → List ℕ
+    → Option Captures → Type 0
 Returns answer matcher text (Some captures) = Matches answer matcher text captures
 Returns answer matcher text None = (captures : Captures) → ¬ Matches answer matcher text captures
 
 -- The text matches, with some captures.
-abbrev pub IsMatched : {E : Type 0} → (answer : E → List ℕ → Option Captures) → MatcherView E → List ℕ → Type 0
+abbrev pub IsMatched : {E : Type 0} → (answer : E → List ℕ → Option Captures) → MatcherView E
+    → List ℕ → Type 0
 IsMatched answer matcher text = (captures : Captures) × Matches answer matcher text captures
 
 -- ---- when memory is allocated
@@ -170,11 +200,14 @@ CapturesOne other = ⊥
 
 -- An engine is called, as the text begins with the prefix and ends with the suffix.
 abbrev pub CallsEngine : {E : Type 0} → MatcherView E → List ℕ → Type 0
-CallsEngine matcher text = (middle : List ℕ) × HasMiddle matcher text middle × HoldsEngine matcher.inner
+CallsEngine matcher text =
+    (middle : List ℕ) × HasMiddle matcher text middle × HoldsEngine matcher.inner
 
 -- Memory is allocated, by an engine or for the list of one capture.
-abbrev pub MayRunOutOfMemory : {E : Type 0} → (answer : E → List ℕ → Option Captures) → MatcherView E → List ℕ → Type 0
-MayRunOutOfMemory answer matcher text = CallsEngine matcher text ⊎ (CapturesOne matcher.inner × IsMatched answer matcher text)
+abbrev pub MayRunOutOfMemory : {E : Type 0} → (answer : E → List ℕ → Option Captures)
+    → MatcherView E → List ℕ → Type 0
+MayRunOutOfMemory answer matcher text =
+    CallsEngine matcher text ⊎ (CapturesOne matcher.inner × IsMatched answer matcher text)
 
 -- ---- agreeing with the parts
 
@@ -195,30 +228,44 @@ ValuesAgreeWithParts {E} IsMade answer =
 
 -- Where an engine is called, `Is` holds of its value and the parts left between the ends; a kept
 -- error fails this.
-abbrev pub IsOfMiddle : {E : Type 0} → (Is : E → (middle : List PartView) → Type 0) → List PartView → InnerView E → Type 0
+abbrev pub IsOfMiddle : {E : Type 0} → (Is : E → (middle : List PartView) → Type 0) → List PartView
+    → InnerView E → Type 0
 IsOfMiddle Is parts (RegExp (Ok engine)) =
-    (front : Option PartView) × (middle : List PartView) × (back : Option PartView) × AreStripped parts front middle back × Is engine middle
+    (front : Option PartView) × (middle : List PartView)
+    × (back : Option PartView) × AreStripped parts front middle back
+    × Is engine middle
 IsOfMiddle Is parts (RegExp (Err error)) = ⊥
 IsOfMiddle Is parts inner = Unit {0}
 
 -- The engine's value follows the regular expression of the parts that are left to it.
-abbrev pub FollowsMiddle : {E : Type 0} → (answer : E → List ℕ → Option Captures) → OptionsView → List PartView → InnerView E → Type 0
-FollowsMiddle answer options parts inner = IsOfMiddle (λ engine middle. Follows (regexp_text options middle) (answer engine)) parts inner
+abbrev pub FollowsMiddle : {E : Type 0} → (answer : E → List ℕ → Option Captures) → OptionsView
+    → List PartView → InnerView E → Type 0
+FollowsMiddle answer options parts inner =
+    IsOfMiddle (λ engine middle. Follows (regexp_text options middle) (answer engine)) parts inner
 
 -- For texts of characters, the engine's value returns what the parts that are left to it mean.
-abbrev pub AgreesInMiddle : {E : Type 0} → (answer : E → List ℕ → Option Captures) → OptionsView → List PartView → InnerView E → Type 0
+abbrev pub AgreesInMiddle : {E : Type 0} → (answer : E → List ℕ → Option Captures) → OptionsView
+    → List PartView → InnerView E → Type 0
 AgreesInMiddle answer options parts inner =
-    IsOfMiddle (λ engine middle. (text : List ℕ) → IsTrue (all_scalars text) → Agrees options middle text (answer engine text)) parts inner
+    IsOfMiddle (λ engine middle.
+    (text : List ℕ) → IsTrue (all_scalars text)
+    → Agrees options middle text (answer engine text)) parts inner
 
 -- `Is` holds of each result of the matcher for a text of characters without line feed.
-abbrev pub EachResultIs : {E : Type 0} → (answer : E → List ℕ → Option Captures) → MatcherView E → (Is : (text : List ℕ) → Option Captures → Type 0) → Type 0
+abbrev pub EachResultIs : {E : Type 0} → (answer : E → List ℕ → Option Captures) → MatcherView E
+    → (Is : (text : List ℕ) → Option Captures → Type 0) → Type 0
 EachResultIs answer matcher Is =
-    (text : List ℕ) (result : Option Captures) → IsTrue (lacks line_feed text) → IsTrue (all_scalars text) →
+    (text : List ℕ) (result : Option Captures) → IsTrue (lacks line_feed text)
+    → IsTrue (all_scalars text) →
     Returns answer matcher text result → Is text result
 
 -- The matcher returns what the parts mean, where none of them is custom and case is kept, if an
 -- engine that is called follows the regular expression of the parts that are left to it.
-abbrev pub ReturnsByMeaning : {E : Type 0} → (answer : E → List ℕ → Option Captures) → OptionsView → List PartView → MatcherView E → Type 0
+abbrev pub ReturnsByMeaning : {E : Type 0} → (answer : E → List ℕ → Option Captures) → OptionsView
+    → List PartView → MatcherView E → Type 0
 ReturnsByMeaning answer options parts matcher =
-    AreGenerated parts → options.ignore_case ≡ false → FollowsMiddle answer options parts matcher.inner →
+    AreGenerated parts
+    → options.ignore_case ≡ false
+    → FollowsMiddle answer options parts matcher.inner
+    →
     EachResultIs answer matcher (Agrees options parts)

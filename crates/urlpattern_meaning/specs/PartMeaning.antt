@@ -14,7 +14,8 @@ Captures = List (Option (List ℕ))
 -- A wildcard of this kind matches the text: a segment is not empty and has no delimiter (without
 -- one, no line feed); a full wildcard is any text without line feed.
 abbrev pub IsWildcardText : OptionsView → PartType → List ℕ → Type 0
-IsWildcardText options PartType.SegmentWildcard text = (text ≢ []) × IsTrue (lacks (unwrap_or options.delimiter line_feed) text)
+IsWildcardText options PartType.SegmentWildcard text =
+    (text ≢ []) × IsTrue (lacks (unwrap_or options.delimiter line_feed) text)
 IsWildcardText options PartType.FullWildcard text = IsTrue (lacks line_feed text)
 -- Only the two wildcards match.
 IsWildcardText options kind text = ⊥
@@ -22,7 +23,9 @@ IsWildcardText options kind text = ⊥
 -- A copy of a part of this kind: a fixed text, or a wildcard's text between prefix and suffix.
 abbrev pub IsCopyOf : OptionsView → PartType → PartView → List ℕ → Type 0
 IsCopyOf options PartType.FixedText part text = text ≡ part.value
-IsCopyOf options kind part text = (piece : List ℕ) × (text ≡ part.prefix ++ piece ++ part.suffix) × IsWildcardText options kind piece
+IsCopyOf options kind part text =
+    (piece : List ℕ) × (text ≡ part.prefix ++ piece ++ part.suffix)
+    × IsWildcardText options kind piece
 
 -- n copies of the part, end to end.
 abbrev pub AreCopies : OptionsView → PartView → ℕ → List ℕ → Type 0
@@ -44,22 +47,26 @@ capture_of_none modifier is_bare = None
 
 -- The capture of no copies of the part.
 abbrev pub capture_of_no_copies : PartView → Option (List ℕ)
-capture_of_no_copies part = capture_of_none part.modifier (is_empty part.prefix && is_empty part.suffix)
+capture_of_no_copies part =
+    capture_of_none part.modifier (is_empty part.prefix && is_empty part.suffix)
 
 -- The capture of n copies with this text: all but the first prefix and the last suffix.
 abbrev pub IsCapture : PartView → ℕ → List ℕ → Option (List ℕ) → Type 0
 IsCapture part zero text capture = capture ≡ capture_of_no_copies part
-IsCapture part (suc n) text capture = (inner : List ℕ) × (text ≡ part.prefix ++ inner ++ part.suffix) × (capture ≡ Some inner)
+IsCapture part (suc n) text capture =
+    (inner : List ℕ) × (text ≡ part.prefix ++ inner ++ part.suffix) × (capture ≡ Some inner)
 
 -- The captures of n copies of a part of this kind: none for a fixed text, and one text for a
 -- wildcard.
 abbrev pub AreCaptures : PartType → PartView → ℕ → List ℕ → Captures → Type 0
 AreCaptures PartType.FixedText part n text captures = captures ≡ []
 AreCaptures PartType.Regexp part n text captures = ⊥
-AreCaptures kind part n text captures = (capture : Option (List ℕ)) × IsCapture part n text capture × (captures ≡ capture ∷ [])
+AreCaptures kind part n text captures =
+    (capture : Option (List ℕ)) × IsCapture part n text capture × (captures ≡ capture ∷ [])
 
 -- The part matches the text, with these captures.
-pub record PartMeans (options : OptionsView) (part : PartView) (text : List ℕ) (captures : Captures) : Type 0 where
+pub record PartMeans (options : OptionsView) (part : PartView) (text : List ℕ) (captures : Captures)
+    : Type 0 where
   pub count : ℕ
   pub allowed : Allows part.modifier count
   pub are_copies : AreCopies options part count text
@@ -71,13 +78,16 @@ pub record PartMeans (options : OptionsView) (part : PartView) (text : List ℕ)
 abbrev pub PartsMean : OptionsView → List PartView → List ℕ → Captures → Type 0
 PartsMean options [] text captures = (text ≡ []) × (captures ≡ [])
 PartsMean options (part ∷ parts) text captures =
-    (first rest : List ℕ) × (own others : Captures) × (text ≡ first ++ rest) × (captures ≡ own ++ others)
+    (first rest : List ℕ) × (own others : Captures)
+    × (text ≡ first ++ rest)
+    × (captures ≡ own ++ others)
     × PartMeans options part first own × PartsMean options parts rest others
 
 -- Two lists of parts mean the same texts with the same captures.
 abbrev pub MeanTheSame : OptionsView → (parts others : List PartView) → Type 0
 MeanTheSame options parts others =
-    (text : List ℕ) (captures : Captures) → PartsMean options parts text captures ↔ PartsMean options others text captures
+    (text : List ℕ) (captures : Captures) → PartsMean options parts text captures
+    ↔ PartsMean options others text captures
 
 -- None of the parts is a custom regular expression.
 abbrev pub AreGenerated : List PartView → Type 0

@@ -41,29 +41,35 @@ has_suffix part = not (is_empty part.suffix)
 
 -- The part has a prefix other than the prefix code point.
 abbrev pub has_other_prefix : OptionsView → PartView → Bool
-has_other_prefix options part = not (is_empty part.prefix) && not (bytes_eq part.prefix options.prefix)
+has_other_prefix options part =
+    not (is_empty part.prefix) && not (bytes_eq part.prefix options.prefix)
 
 -- The text of the next part, printed without braces, begins with a name character or a bracket,
 -- which a name before it would take.
 abbrev pub continues_name : PartView → Bool
 continues_name next =
     is_empty next.prefix && is_empty next.suffix
-    && (if is_fixed_text next.kind then begins_with is_name_part next.value else not (has_custom_name next))
+    && (if is_fixed_text next.kind then begins_with is_name_part next.value
+    else not (has_custom_name next))
 
 -- The part is a name alone, and would take the beginning of the next part.
 abbrev pub absorbs_next : PartView → Option PartView → Bool
 absorbs_next part None = false
-absorbs_next part (Some next) = is_name_alone part && is_unmodified part.modifier && continues_name next
+absorbs_next part (Some next) =
+    is_name_alone part && is_unmodified part.modifier && continues_name next
 
 -- The part has no prefix, and would take the last character of the fixed text before it as one.
 abbrev pub absorbs_before : OptionsView → Option PartView → PartView → Bool
 absorbs_before options None part = false
 absorbs_before options (Some before) part =
-    is_empty part.prefix && is_fixed_text before.kind && not (is_empty before.value) && bytes_eq (last_of before.value) options.prefix
+    is_empty part.prefix && is_fixed_text before.kind && not (is_empty before.value)
+    && bytes_eq (last_of before.value) options.prefix
 
-abbrev pub needs_braces : OptionsView → (before : Option PartView) → PartView → (next : Option PartView) → Bool
+abbrev pub needs_braces : OptionsView → (before : Option PartView) → PartView
+    → (next : Option PartView) → Bool
 needs_braces options before part next =
-    has_suffix part || has_other_prefix options part || absorbs_next part next || absorbs_before options before part
+    has_suffix part || has_other_prefix options part || absorbs_next part next
+    || absorbs_before options before part
 
 -- ---- the text of a part
 
@@ -74,14 +80,17 @@ admits_asterisk (Some before) = is_fixed_text before.kind || not (is_unmodified 
 
 -- A full wildcard may be printed as an asterisk.
 abbrev pub is_asterisk : (before : Option PartView) → PartView → (braces : Bool) → Bool
-is_asterisk before part braces = not (has_custom_name part) && (admits_asterisk before || braces || not (is_empty part.prefix))
+is_asterisk before part braces =
+    not (has_custom_name part) && (admits_asterisk before || braces || not (is_empty part.prefix))
 
 -- The regular expression or asterisk of a part of this kind, which follows its name.
 abbrev pub printed_match : OptionsView → PartType → PartView → (asterisk : Bool) → List ℕ
 printed_match options PartType.FixedText part asterisk = []
 printed_match options PartType.Regexp part asterisk = captured part.value
-printed_match options PartType.SegmentWildcard part asterisk = if has_custom_name part then [] else captured (segment_wildcard options)
-printed_match options PartType.FullWildcard part asterisk = if asterisk then codes "*" else captured full_wildcard
+printed_match options PartType.SegmentWildcard part asterisk =
+    if has_custom_name part then [] else captured (segment_wildcard options)
+printed_match options PartType.FullWildcard part asterisk =
+    if asterisk then codes "*" else captured full_wildcard
 
 -- The name after a colon, if the pattern gives the name.
 abbrev pub printed_name : PartView → List ℕ
@@ -90,14 +99,16 @@ printed_name part = if has_custom_name part then codes ":" ++ part.name else []
 -- The suffix, which a backslash separates from a name before it.
 abbrev pub printed_suffix : PartView → List ℕ
 printed_suffix part =
-    (if is_name_alone part && begins_with is_name_part part.suffix then codes "\\" else []) ++ escaped_pattern part.suffix
+    (if is_name_alone part && begins_with is_name_part part.suffix then codes "\\" else [])
+    ++ escaped_pattern part.suffix
 
 -- The text, between braces or not.
 abbrev pub in_braces : Bool → List ℕ → List ℕ
 in_braces braces text = if braces then codes "{" ++ text ++ codes "}" else text
 
 -- A group with its modifier, between braces or not.
-abbrev pub printed_group : OptionsView → (before : Option PartView) → PartView → (braces : Bool) → List ℕ
+abbrev pub printed_group : OptionsView → (before : Option PartView) → PartView
+    → (braces : Bool) → List ℕ
 printed_group options before part braces =
     in_braces braces (
     escaped_pattern part.prefix ++ printed_name part
@@ -106,10 +117,13 @@ printed_group options before part braces =
 
 -- A fixed text, in braces where it has a modifier.
 abbrev pub printed_fixed : PartView → List ℕ
-printed_fixed part = in_braces (not (is_unmodified part.modifier)) (escaped_pattern part.value) ++ modifier_text part.modifier
+printed_fixed part =
+    in_braces (not (is_unmodified part.modifier)) (escaped_pattern part.value)
+    ++ modifier_text part.modifier
 
 -- A part between its neighbours.
-unfoldable pub printed_part : OptionsView → (before : Option PartView) → PartView → (next : Option PartView) → List ℕ
+unfoldable pub printed_part : OptionsView → (before : Option PartView) → PartView
+    → (next : Option PartView) → List ℕ
 printed_part options before part next =
     if is_fixed_text part.kind then printed_fixed part
     else printed_group options before part (needs_braces options before part next)
@@ -117,7 +131,8 @@ printed_part options before part next =
 -- The parts after the part `before`.
 abbrev pub printed_after : OptionsView → (before : Option PartView) → List PartView → List ℕ
 printed_after options before [] = []
-printed_after options before (part ∷ parts) = printed_part options before part (first_part parts) ++ printed_after options (Some part) parts
+printed_after options before (part ∷ parts) =
+    printed_part options before part (first_part parts) ++ printed_after options (Some part) parts
 
 -- The pattern text of a list of parts.
 abbrev pub printed : OptionsView → List PartView → List ℕ
@@ -129,7 +144,8 @@ printed options parts = printed_after options None parts
 abbrev pub joined_with : PartView → List PartView → List PartView
 joined_with part [] = part ∷ []
 joined_with part (next ∷ parts) =
-    if is_plain part && is_plain next then record part { value = part.value ++ next.value } ∷ parts else part ∷ next ∷ parts
+    if is_plain part && is_plain next then record part { value = part.value ++ next.value } ∷ parts
+    else part ∷ next ∷ parts
 
 -- The parts, with neighbouring plain fixed texts made one.
 abbrev pub joined : List PartView → List PartView
@@ -143,13 +159,17 @@ HaveTexts (part ∷ parts) = (IsTrue (is_fixed_text part.kind) → part.value �
 
 -- The texts of parts that are encoded.
 abbrev pub encoded_texts : List PartView → List (List ℕ)
-encoded_texts parts = flat_map (λ part. if is_fixed_text part.kind then part.value ∷ [] else part.prefix ∷ part.suffix ∷ []) parts
+encoded_texts parts =
+    flat_map
+    (λ part. if is_fixed_text part.kind then part.value ∷ [] else part.prefix ∷ part.suffix ∷ [])
+    parts
 
 -- The only result of the encoding for each text is the text itself.
 abbrev pub KeepsTexts : Encoding → List (List ℕ) → Type 0
 KeepsTexts encoding [] = Unit {0}
 KeepsTexts encoding (text ∷ texts) =
-    ((answer : Result (List ℕ) ErrorView) → encoding text answer ↔ (answer ≡ Ok text)) × KeepsTexts encoding texts
+    ((answer : Result (List ℕ) ErrorView) → encoding text answer ↔ (answer ≡ Ok text))
+    × KeepsTexts encoding texts
 
 -- The encoding keeps the texts of the joined parts, and the empty text.
 abbrev pub Keeps : Encoding → List PartView → Type 0

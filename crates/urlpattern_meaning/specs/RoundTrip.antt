@@ -26,7 +26,9 @@ HasPointsOf other options = (options.delimiter ≡ other.delimiter) × (options.
 
 -- The default, hostname or pathname options, in either syntax.
 abbrev pub IsStandard : OptionsView → Type 0
-IsStandard options = HasPointsOf default_options options ⊎ (HasPointsOf hostname_options options ⊎ HasPointsOf pathname_options options)
+IsStandard options =
+    HasPointsOf default_options options
+    ⊎ (HasPointsOf hostname_options options ⊎ HasPointsOf pathname_options options)
 
 -- ---- properties of parts that were read
 
@@ -35,14 +37,17 @@ IsStandard options = HasPointsOf default_options options ⊎ (HasPointsOf hostna
 -- may be written in brackets.
 abbrev pub HasFields : OptionsView → PartType → PartView → Type 0
 HasFields options PartType.FixedText part = (part.prefix ≡ []) × (part.suffix ≡ [])
-HasFields options PartType.Regexp part = IsRegexpBody part.value × (part.value ≢ segment_wildcard options) × (part.value ≢ full_wildcard)
-HasFields options PartType.SegmentWildcard part = (part.value ≡ []) × (¬ IsTrue (has_custom_name part) → IsRegexpBody (segment_wildcard options))
+HasFields options PartType.Regexp part =
+    IsRegexpBody part.value × (part.value ≢ segment_wildcard options) × (part.value ≢ full_wildcard)
+HasFields options PartType.SegmentWildcard part =
+    (part.value ≡ []) × (¬ IsTrue (has_custom_name part) → IsRegexpBody (segment_wildcard options))
 HasFields options PartType.FullWildcard part = part.value ≡ []
 
 -- Each part has only the fields of its kind.
 abbrev pub AllHaveFields : OptionsView → List PartView → Type 0
 AllHaveFields options [] = Unit {0}
-AllHaveFields options (part ∷ parts) = HasFields options part.kind part × AllHaveFields options parts
+AllHaveFields options (part ∷ parts) =
+    HasFields options part.kind part × AllHaveFields options parts
 
 -- A fixed text has no name; a group has a name that a pattern gives, or else its number among the
 -- groups without one.
@@ -58,7 +63,8 @@ following_number number kind part = if has_custom_name part then number else suc
 -- The names of these parts fit, where `number` groups without a name are before them.
 abbrev pub AreNamed : ℕ → List PartView → Type 0
 AreNamed number [] = Unit {0}
-AreNamed number (part ∷ parts) = IsNamed number part.kind part.name × AreNamed (following_number number part.kind part) parts
+AreNamed number (part ∷ parts) =
+    IsNamed number part.kind part.name × AreNamed (following_number number part.kind part) parts
 
 -- Kinds, values and names of the parts are those of a pattern text.
 pub record ArePatternParts (options : OptionsView) (parts : List PartView) : Type 0 where
@@ -92,7 +98,8 @@ pub record IsPrintable (options : OptionsView) (parts : List PartView) : Type 0 
   pub unskipped : AreUnskipped parts
 
 -- The text reads as the parts under standard options, and the texts of the parts may be printed.
-pub record WereRead (text : List ℕ) (options : OptionsView) (encoding : Encoding) (parts : List PartView) : Type 0 where
+pub record WereRead (text : List ℕ) (options : OptionsView) (encoding : Encoding)
+    (parts : List PartView) : Type 0 where
   pub standard : IsStandard options
   pub reads : Reads text options encoding parts
   pub texts : HaveTexts parts
@@ -101,11 +108,15 @@ pub record WereRead (text : List ℕ) (options : OptionsView) (encoding : Encodi
 -- The encoding changes no text of the joined parts. It may have an error for one, as a callback
 -- that runs out of memory does.
 abbrev pub KeepsOrFails : Encoding → List PartView → Type 0
-KeepsOrFails encoding parts = (text other : List ℕ) → Contains (encoded_texts (joined parts)) text → encoding text (Ok other) → other ≡ text
+KeepsOrFails encoding parts =
+    (text other : List ℕ) → Contains (encoded_texts (joined parts)) text
+    → encoding text (Ok other)
+    → other ≡ text
 
 -- The encoding may return each text of the joined parts unchanged.
 abbrev pub MayKeep : Encoding → List PartView → Type 0
-MayKeep encoding parts = (text : List ℕ) → Contains (encoded_texts (joined parts)) text → encoding text (Ok text)
+MayKeep encoding parts =
+    (text : List ℕ) → Contains (encoded_texts (joined parts)) text → encoding text (Ok text)
 
 -- The encoding may reject one of these texts with this error.
 abbrev pub FailsText : Encoding → (texts : List (List ℕ)) → ErrorView → Type 0
@@ -119,18 +130,22 @@ ReadsAsJoined text options encoding parts = Reads text options encoding (joined 
 
 -- The text reads as no other parts.
 abbrev pub ReadsOnlyAsJoined : (text : List ℕ) → OptionsView → Encoding → List PartView → Type 0
-ReadsOnlyAsJoined text options encoding parts = (others : List PartView) → Reads text options encoding others → others ≡ joined parts
+ReadsOnlyAsJoined text options encoding parts =
+    (others : List PartView) → Reads text options encoding others → others ≡ joined parts
 
 -- The text is not rejected.
 abbrev pub IsNotRejected : (text : List ℕ) → OptionsView → Encoding → List PartView → Type 0
-IsNotRejected text options encoding parts = (error : ErrorView) → ¬ Rejects text options encoding error
+IsNotRejected text options encoding parts =
+    (error : ErrorView) → ¬ Rejects text options encoding error
 
 -- Printing what the text reads as returns the text.
 abbrev pub PrintsTheSame : (text : List ℕ) → OptionsView → Encoding → List PartView → Type 0
-PrintsTheSame text options encoding parts = (others : List PartView) → Reads text options encoding others → printed options others ≡ text
+PrintsTheSame text options encoding parts =
+    (others : List PartView) → Reads text options encoding others → printed options others ≡ text
 
 -- The text reads as the joined parts and as nothing else, is not rejected, and prints as itself.
-pub record ReadsBack (text : List ℕ) (options : OptionsView) (encoding : Encoding) (parts : List PartView) : Type 0 where
+pub record ReadsBack (text : List ℕ) (options : OptionsView) (encoding : Encoding)
+    (parts : List PartView) : Type 0 where
   pub reads : ReadsAsJoined text options encoding parts
   pub only : ReadsOnlyAsJoined text options encoding parts
   pub not_refused : IsNotRejected text options encoding parts

@@ -23,7 +23,11 @@ empty_way groups text = record { taken = []; captures = replicate groups None; r
 
 -- A way and the next as one.
 abbrev pub joined_way : (way next : Way) → Way
-joined_way way next = record { taken = way.taken ++ next.taken; captures = way.captures ++ next.captures; rest = next.rest }
+joined_way way next = record {
+  taken = way.taken ++ next.taken;
+  captures = way.captures ++ next.captures;
+  rest = next.rest;
+}
 
 -- Each way is continued by all that can follow it, before the next way is tried.
 abbrev pub continued : (next : Choice) → List Way → List Way
@@ -34,7 +38,8 @@ continued next ways = flat_map (λ way. map (joined_way way) (next way.rest)) wa
 -- A character that passes the test.
 abbrev pub one_that : (passes : ℕ → Bool) → Choice
 one_that passes [] = []
-one_that passes (c ∷ text) = if passes c then record { taken = c ∷ []; captures = []; rest = text } ∷ [] else []
+one_that passes (c ∷ text) =
+    if passes c then record { taken = c ∷ []; captures = []; rest = text } ∷ [] else []
 
 -- ---- loops
 
@@ -50,13 +55,17 @@ is_shorter rest text = nat_lt (length rest) (length text)
 abbrev pub more_rounds : (greedy : Bool) → Choice → (n : ℕ) → Choice
 more_rounds greedy atom zero text = empty_way 0 text ∷ []
 more_rounds greedy atom (suc n) text =
-    ordered greedy (continued (λ rest. if is_shorter rest text then more_rounds greedy atom n rest else []) (atom text)) (empty_way 0 text ∷ [])
+    ordered greedy (continued
+    (λ rest. if is_shorter rest text then more_rounds greedy atom n rest else []) (atom text))
+    (empty_way 0 text ∷ [])
 
 -- A round and, where it matched something, more rounds: no more than the characters that are left,
 -- since none is empty.
 abbrev pub looped : (greedy : Bool) → Choice → Choice
 looped greedy atom text =
-    continued (λ rest. if is_shorter rest text then more_rounds greedy atom (length rest) rest else empty_way 0 rest ∷ []) (atom text)
+    continued (λ rest.
+    if is_shorter rest text then more_rounds greedy atom (length rest) rest
+    else empty_way 0 rest ∷ []) (atom text)
 
 -- ---- trees
 
@@ -77,13 +86,17 @@ abbrev mutual
   pub ways_by : (ignore_case : Bool) → Items → Choice
   ways_by ignore_case Nothing text = empty_way 0 text ∷ []
   ways_by ignore_case (Item atom quantifier items) text =
-      continued (ways_by ignore_case items) (quantified_ways quantifier (atom_group_count atom) (atom_ways_by ignore_case atom) text)
+      continued (ways_by ignore_case items)
+      (quantified_ways quantifier (atom_group_count atom) (atom_ways_by ignore_case atom) text)
 
   -- The ways of an atom.
   pub atom_ways_by : (ignore_case : Bool) → Atom → Choice
-  atom_ways_by ignore_case (Literal character) text = one_that (λ c. is_same_character ignore_case c (character_of character)) text
-  atom_ways_by ignore_case Dot text = one_that (λ c. not (is_same_character ignore_case c line_feed)) text
-  atom_ways_by ignore_case (AnyBut character) text = one_that (λ c. not (is_same_character ignore_case c (character_of character))) text
+  atom_ways_by ignore_case (Literal character) text =
+      one_that (λ c. is_same_character ignore_case c (character_of character)) text
+  atom_ways_by ignore_case Dot text =
+      one_that (λ c. not (is_same_character ignore_case c line_feed)) text
+  atom_ways_by ignore_case (AnyBut character) text =
+      one_that (λ c. not (is_same_character ignore_case c (character_of character))) text
   atom_ways_by ignore_case (Captured items) text = map capturing (ways_by ignore_case items text)
   atom_ways_by ignore_case (Grouped items) text = ways_by ignore_case items text
 
@@ -97,7 +110,9 @@ atom_ways atom = atom_ways_by false atom
 
 -- The captures of the first way that matches the whole text; None where no way does.
 unfoldable pub first_way_by : (ignore_case : Bool) → Items → List ℕ → Option Captures
-first_way_by ignore_case tree text = option_map (λ way. way.captures) (find (λ way. length way.rest == 0) (ways_by ignore_case tree text))
+first_way_by ignore_case tree text =
+    option_map (λ way. way.captures)
+    (find (λ way. length way.rest == 0) (ways_by ignore_case tree text))
 
 -- The captures of the first way where case counts.
 abbrev pub first_way : Items → List ℕ → Option Captures
@@ -114,7 +129,8 @@ abbrev mutual
   -- The tree with its characters folded.
   pub folded_items : Items → Items
   folded_items Nothing = Nothing
-  folded_items (Item atom quantifier items) = Item (folded_atom atom) quantifier (folded_items items)
+  folded_items (Item atom quantifier items) =
+      Item (folded_atom atom) quantifier (folded_items items)
 
   -- The atom with its characters folded.
   pub folded_atom : Atom → Atom
@@ -127,4 +143,7 @@ abbrev mutual
 -- Where case is ignored, a tree matches a text exactly where the folded tree matches the folded
 -- text; the captures of its first way, folded, are those of the folded tree.
 abbrev pub FirstWaysFold : Type 0
-FirstWaysFold = (tree : Items) (text : List ℕ) → option_map folded_captures (first_way_by true tree text) ≡ first_way (folded_items tree) (folded true text)
+FirstWaysFold =
+    (tree : Items) (text : List ℕ)
+    → option_map folded_captures (first_way_by true tree text)
+    ≡ first_way (folded_items tree) (folded true text)

@@ -28,12 +28,14 @@ pub fn plain_ends_are_removed()
 
 /// Neighbouring plain fixed texts mean the same as one.
 pub fn joining_keeps_meaning()
-    ensures { (options : OptionsView) (parts : List PartView) → MeanTheSame options (joined parts) parts }
+    ensures { (options : OptionsView) (parts : List PartView)
+        → MeanTheSame options (joined parts) parts }
 {}
 
 /// Neighbouring plain fixed texts print as one, where no fixed text is empty.
 pub fn joining_keeps_printed_text()
-    ensures { (options : OptionsView) (parts : List PartView) → HaveTexts parts → printed options (joined parts) ≡ printed options parts }
+    ensures { (options : OptionsView) (parts : List PartView) → HaveTexts parts
+        → printed options (joined parts) ≡ printed options parts }
 {}
 
 /// Copies of a wildcard are captured as one text: all of them but the first prefix and the last
@@ -64,10 +66,12 @@ pub fn every_text_has_tokens()
 /// a name and a regular expression. Each token begins where its index says, after the token before
 /// it, and its value is there in the text. End is the last token, and no other.
 pub fn tokens_lose_nothing()
-    ensures lay { (text : List ℕ) (tokens : List TokenView) → AreTokens text tokens → Lays 0 tokens text }
+    ensures lay { (text : List ℕ) (tokens : List TokenView) → AreTokens text tokens
+        → Lays 0 tokens text }
     ensures rise { IndicesRise }
     ensures stand { OfEachToken (λ text token later. IsSpelledAt text token) }
-    ensures slice { OfEachToken (λ text token later. (before after : List ℕ) × (text ≡ before ++ token.value ++ after)) }
+    ensures slice { OfEachToken (λ text token later.
+        (before after : List ℕ) × (text ≡ before ++ token.value ++ after)) }
     ensures ends { OfEachToken (λ text token later. later ≡ [] → token ≡ end_of text) }
     ensures only_end { OfEachToken (λ text token later. token.kind ≡ End → later ≡ []) }
 {}
@@ -108,10 +112,14 @@ pub fn every_text_has_an_outcome<F: Fn(&str) -> Result<String, Error>>()
 /// a digit are `0`, `1` and so on in order. A name that the pattern gives does not begin with a
 /// digit, so the numbers name the groups without a name.
 pub fn names_are_new()
-    ensures nonempty { UnderEachList (OfEachReading (λ options parts. All (λ name. name ≢ []) (group_names parts))) }
-    ensures distinct { UnderEachList (OfEachReading (λ options parts. AllPairs (λ name other. name ≢ other) (group_names parts))) }
-    ensures numbered { UnderEachList (OfEachReading (λ options parts. CountFrom 0 (numbers_among (group_names parts)))) }
-    ensures given { OfEachToken (λ text token later. token.kind ≡ Name → ¬ BeginsWith is_ascii_digit token.value) }
+    ensures nonempty { UnderEachList
+        (OfEachReading (λ options parts. All (λ name. name ≢ []) (group_names parts))) }
+    ensures distinct { UnderEachList (OfEachReading (λ options parts.
+        AllPairs (λ name other. name ≢ other) (group_names parts))) }
+    ensures numbered { UnderEachList
+        (OfEachReading (λ options parts. CountFrom 0 (numbers_among (group_names parts)))) }
+    ensures given { OfEachToken (λ text token later.
+        token.kind ≡ Name → ¬ BeginsWith is_ascii_digit token.value) }
 {}
 
 /// A text has at most one tree of the dialect.
@@ -125,10 +133,14 @@ pub fn dialect_trees_are_one()
 /// the first way follows the text of the tree, so each text of the dialect can be followed.
 pub fn first_ways_are_meant()
     ensures ways { WaysAreMeanings }
-    ensures some { OfEachTree (λ tree text captures. first_way tree text ≡ Some captures → Means tree text captures) }
-    ensures none { OfEachTree (λ tree text captures. first_way tree text ≡ None → ¬ Means tree text captures) }
-    ensures count { OfEachTree (λ tree text captures. first_way tree text ≡ Some captures → length captures ≡ group_count tree) }
-    ensures follows { (regexp : List ℕ) (tree : Items) → IsTreeOf regexp tree → Follows regexp (first_way tree) }
+    ensures some { OfEachTree (λ tree text captures.
+        first_way tree text ≡ Some captures → Means tree text captures) }
+    ensures none { OfEachTree (λ tree text captures.
+        first_way tree text ≡ None → ¬ Means tree text captures) }
+    ensures count { OfEachTree (λ tree text captures.
+        first_way tree text ≡ Some captures → length captures ≡ group_count tree) }
+    ensures follows { (regexp : List ℕ) (tree : Items) → IsTreeOf regexp tree
+        → Follows regexp (first_way tree) }
 {}
 
 /// Where case is ignored, the first way of a tree in a text is that of the folded tree in the
@@ -142,7 +154,8 @@ pub fn first_ways_fold()
 /// with the same captures. No part is a custom regular expression; options, names, prefixes,
 /// suffixes and values are arbitrary.
 pub fn parts_and_regexp_mean_the_same()
-    ensures tree { (options : OptionsView) (parts : List PartView) → AreGenerated parts → HasMeaningOf (regexp_text options parts) options parts }
+    ensures tree { (options : OptionsView) (parts : List PartView) → AreGenerated parts
+        → HasMeaningOf (regexp_text options parts) options parts }
     ensures means { TreesMeanTheParts }
     ensures engines { FollowingIsAgreeing }
 {}
@@ -175,7 +188,8 @@ pub fn matchers_answer_the_first_way<E>()
 
 /// Neighbouring plain fixed texts have the same regular expression, and the same names, as one.
 pub fn joining_keeps_regexp()
-    ensures text { (options : OptionsView) (parts : List PartView) → regexp_text options (joined parts) ≡ regexp_text options parts }
+    ensures text { (options : OptionsView) (parts : List PartView)
+        → regexp_text options (joined parts) ≡ regexp_text options parts }
     ensures names { (parts : List PartView) → group_names (joined parts) ≡ group_names parts }
 {}
 
@@ -194,7 +208,8 @@ pub fn printed_patterns_read_back()
     ensures only { OfPrintableParts ReadsOnlyAsJoined }
     ensures not_refused { OfPrintableParts IsNotRejected }
     ensures same { OfPrintableParts PrintsTheSame }
-    ensures kept { (parts : List PartView) → (answers : EncodingResults) × Keeps (listed answers) parts }
+    ensures kept { (parts : List PartView)
+        → (answers : EncodingResults) × Keeps (listed answers) parts }
 {}
 
 /// A printed pattern is rejected only by an error that the encoding has for one of the texts of the

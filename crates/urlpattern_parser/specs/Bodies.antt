@@ -14,17 +14,25 @@ IsAfterRegexpStart rest left = (front : List ℕ) × IsRegexpStart front × (res
 abbrev pub IsRejectedStart : (left : List ℕ) → (len : ℕ) → Type 0
 IsRejectedStart left len =
     ((c : ℕ) × (more : List ℕ) × (left ≡ c ∷ more) × (128 ≤ c) × (len ≡ byte_len (c ∷ [])))
-    ⊎ ((c : ℕ) × (more : List ℕ) × (left ≡ codes "\\" ++ c ∷ more) × (128 ≤ c) × (len ≡ 1 + byte_len (c ∷ [])))
-    ⊎ ((more : List ℕ) × (left ≡ codes "(" ++ more) × ¬ BeginsWith is_question_mark more × (len ≡ 1))
+    ⊎ ((c : ℕ) × (more : List ℕ)
+    × (left ≡ codes "\\" ++ c ∷ more)
+    × (128 ≤ c)
+    × (len ≡ 1 + byte_len (c ∷ [])))
+    ⊎ ((more : List ℕ) × (left ≡ codes "(" ++ more)
+    × ¬ BeginsWith is_question_mark more
+    × (len ≡ 1))
 
 -- What a fault points at: where the invalid bytes begin and how many they are, or the end of a text
 -- that ends before its body does.
 abbrev pub IsRefusedOf : (text : List ℕ) → FaultView → Option (Bor (List ℕ) × ℕ) → Type 0
 IsRefusedOf text fault (Some found) =
-    IsAfterRegexpStart (chars text) (chars found.0.now) × IsRejectedStart (chars found.0.now) found.1 × (length found.0.now ≤ length text)
+    IsAfterRegexpStart (chars text) (chars found.0.now)
+    × IsRejectedStart (chars found.0.now) found.1
+    × (length found.0.now ≤ length text)
 IsRefusedOf text fault None = (fault ≡ IncompleteEscapeCode) ⊎ IsRegexpStart (chars text)
 
 -- The text does not begin with a body, for this reason.
 abbrev pub IsRefusedBody : (text : List ℕ) → RefusedBody → Type 0
 IsRefusedBody text body =
-    IsFaultAt (codes "(" ++ chars text) (fault_view body.error) × IsRefusedOf text (fault_view body.error) body.refused
+    IsFaultAt (codes "(" ++ chars text) (fault_view body.error)
+    × IsRefusedOf text (fault_view body.error) body.refused

@@ -16,4 +16,5 @@ cursor_rest cursor = chars cursor.rest.now
 
 -- The cursor returns this token, and moves after it.
 abbrev pub GivesToken : (old : Cursor) → Token → (new : Cursor) → Type 0
-GivesToken old token new = IsTokenAfter (cursor_text old) (cursor_rest old) (token_view token) (cursor_rest new)
+GivesToken old token new =
+    IsTokenAfter (cursor_text old) (cursor_rest old) (token_view token) (cursor_rest new)

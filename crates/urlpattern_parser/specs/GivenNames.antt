@@ -10,4 +10,6 @@ has_bytes bytes text = bytes_eq text.now bytes
 
 -- The name of these bytes is in the set.
 abbrev pub has_name : GivenNames → List ℕ → Bool
-has_name names bytes = list_any (has_bytes bytes) names.few.items || contains_by (λ text. slice_cmp nat_cmp bytes text.now) names.others
+has_name names bytes =
+    list_any (has_bytes bytes) names.few.items
+    || contains_by (λ text. slice_cmp nat_cmp bytes text.now) names.others

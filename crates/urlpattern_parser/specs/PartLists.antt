@@ -31,11 +31,13 @@ parser_encoding calls parser = encoding_by calls parser.encoding_callback
 
 -- The parser reads the text as these parts.
 abbrev pub ParserReads : {F : Type 0} → Calls F → PatternParser F → List ℕ → List Part → Type 0
-ParserReads calls parser text parts = Reads text (parser_options parser) (parser_encoding calls parser) (parts_view parts)
+ParserReads calls parser text parts =
+    Reads text (parser_options parser) (parser_encoding calls parser) (parts_view parts)
 
 -- The parser rejects the text with this error.
 abbrev pub ParserRejects : {F : Type 0} → Calls F → PatternParser F → List ℕ → ErrorView → Type 0
-ParserRejects calls parser text error = Rejects text (parser_options parser) (parser_encoding calls parser) error
+ParserRejects calls parser text error =
+    Rejects text (parser_options parser) (parser_encoding calls parser) error
 
 -- The regular expression that decides the kind of a placeholder's part.
 abbrev pub matched_regexp : {F : Type 0} → PatternParser F → PlaceholderKind → List ℕ
@@ -62,7 +64,9 @@ next_name list name = name_or (option_text name) list.next_numeric_name
 
 -- The error reports that the name of the list's next placeholder is in the list already.
 abbrev pub IsDuplicate : PartList → Option (Bor (List ℕ)) → ErrorView → Type 0
-IsDuplicate list name error = Contains (list_names list) (next_name list name) × (error ≡ ErrorView.DuplicateName (next_name list name))
+IsDuplicate list name error =
+    Contains (list_names list) (next_name list name)
+    × (error ≡ ErrorView.DuplicateName (next_name list name))
 
 -- ---- additions to a list
 
@@ -75,9 +79,11 @@ abbrev pub then_text : PartList → (bytes : List ℕ) → PartModifier → List
 then_text list bytes modifier = pending_item list ++ Fixed (chars bytes) modifier ∷ []
 
 -- The list's pending text, then a placeholder between the texts of these bytes.
-abbrev pub then_group : PartList → (before : List ℕ) → Placeholder → (after : List ℕ) → PartModifier → List Item
+abbrev pub then_group : PartList → (before : List ℕ) → Placeholder → (after : List ℕ) → PartModifier
+    → List Item
 then_group list before placeholder after modifier =
-    pending_item list ++ group_item (chars before) placeholder (chars after) modifier list.next_numeric_name ∷ []
+    pending_item list
+    ++ group_item (chars before) placeholder (chars after) modifier list.next_numeric_name ∷ []
 
 -- The item of a piece after the list.
 abbrev pub next_item : PartList → Piece → Item
@@ -86,23 +92,31 @@ next_item list piece = item list.next_numeric_name (piece_view piece)
 -- The demands at the last token: the encoding of the list's pending text, and that the token is the
 -- end.
 abbrev pub end_demands : PartList → Token → List Demand
-end_demands list token = encode_fixed (part_list_view list).pending ++ Expect End (token_view token) ∷ []
+end_demands list token =
+    encode_fixed (part_list_view list).pending ++ Expect End (token_view token) ∷ []
 
 -- The parser puts the parts of these items after those of the list, and nothing is pending.
-abbrev pub AddsAll : {F : Type 0} → Calls F → PatternParser F → (old : PartList) → List Item → (new : PartList) → Type 0
+abbrev pub AddsAll : {F : Type 0} → Calls F → PatternParser F → (old : PartList) → List Item
+    → (new : PartList) → Type 0
 AddsAll calls parser old items new =
-    AddsParts (parser_options parser) (parser_encoding calls parser) (part_list_view old) items (part_list_view new)
+    AddsParts (parser_options parser) (parser_encoding calls parser) (part_list_view old) items
+    (part_list_view new)
 
 -- The parser adds the piece to the list.
-abbrev pub AddsPiece : {F : Type 0} → Calls F → PatternParser F → (old : PartList) → Piece → (new : PartList) → Type 0
+abbrev pub AddsPiece : {F : Type 0} → Calls F → PatternParser F → (old : PartList) → Piece
+    → (new : PartList) → Type 0
 AddsPiece calls parser old piece new =
-    AddsItem (parser_options parser) (parser_encoding calls parser) (part_list_view old) (next_item old piece) (part_list_view new)
+    AddsItem (parser_options parser) (parser_encoding calls parser) (part_list_view old)
+    (next_item old piece) (part_list_view new)
 
 -- Memory ran out, or a demand of these items after the list fails with the error.
-abbrev pub FailsToAdd : {F : Type 0} → Calls F → PatternParser F → PartList → List Item → Error → Type 0
-FailsToAdd calls parser list items error = FailsItems (parser_encoding calls parser) (part_list_view list).parts items error
+abbrev pub FailsToAdd : {F : Type 0} → Calls F → PatternParser F → PartList → List Item → Error
+    → Type 0
+FailsToAdd calls parser list items error =
+    FailsItems (parser_encoding calls parser) (part_list_view list).parts items error
 
 -- The parser does not add the piece to the list.
-abbrev pub FailsToAddPiece : {F : Type 0} → Calls F → PatternParser F → PartList → Piece → Error → Type 0
+abbrev pub FailsToAddPiece : {F : Type 0} → Calls F → PatternParser F → PartList → Piece → Error
+    → Type 0
 FailsToAddPiece calls parser list piece error =
     FailsItem (parser_encoding calls parser) (part_list_view list) (next_item list piece) error

@@ -23,7 +23,8 @@ pub struct RefusedBody<'a> {
 /// and the text after that parenthesis.
 pub fn split_body(text: &str) -> Result<(&str, &str), RefusedBody<'_>>
     requires { ¬ BeginsWith (is_among (codes "?)")) (chars text.now) }
-    ensures body { IfOk result (λ found. IsLexed (codes "(" ++ chars text.now) Regexp (chars found.0.now) (chars found.1.now)) }
+    ensures body { IfOk result (λ found.
+        IsLexed (codes "(" ++ chars text.now) Regexp (chars found.0.now) (chars found.1.now)) }
     ensures refused { IfErr result (IsRefusedBody text.now) }
 {
     let mut rest = text;

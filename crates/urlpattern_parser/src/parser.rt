@@ -51,8 +51,10 @@ pub fn parse_pattern_string<F: Fn(&str) -> Result<String, Error> + Drop>(
     encoding_callback: F,
 ) -> Result<Vec<Part>, Error>
     requires { F.IsAlwaysCallable encoding_callback }
-    ensures reads { IfOk result (IsReadAs (chars input.now) (options_view options.now) (encoding_by F.Fn encoding_callback)) }
-    ensures refuses { IfErr result (MemoryOr (Rejects (chars input.now) (options_view options.now) (encoding_by F.Fn encoding_callback))) }
+    ensures reads { IfOk result (IsReadAs (chars input.now) (options_view options.now)
+        (encoding_by F.Fn encoding_callback)) }
+    ensures refuses { IfErr result (MemoryOr (Rejects (chars input.now) (options_view options.now)
+        (encoding_by F.Fn encoding_callback))) }
 {
     let mut reader = Reader::new(alloc, input)?;
     let parser = PatternParser {
@@ -69,8 +71,10 @@ impl<F: Fn(&str) -> Result<String, Error>> PatternParser<'_, F> {
         requires callable { F.IsAlwaysCallable self.now.encoding_callback }
         requires starts { StartsText (reader_text reader.old) reader.old }
         requires room { reader_left reader.old ≤ usize.MAX }
-        ensures reads { IfOk result (λ parts. ParserReads F.Fn self.now (reader_text reader.old) parts.items) }
-        ensures refuses { IfErr result (MemoryOr (ParserRejects F.Fn self.now (reader_text reader.old))) }
+        ensures reads { IfOk result (λ parts.
+            ParserReads F.Fn self.now (reader_text reader.old) parts.items) }
+        ensures refuses { IfErr result
+            (MemoryOr (ParserRejects F.Fn self.now (reader_text reader.old))) }
     {
         let mut list = PartList::new(self.alloc);
         let mut next = Next::Stops;
@@ -103,7 +107,8 @@ impl<F: Fn(&str) -> Result<String, Error>> PatternParser<'_, F> {
         requires stands { IsAtPlace reader.now }
         ensures end { OnOk result (reader.now.token.kind ≡ TokenType.End) }
         ensures ok { OnOk result (AddsAll F.Fn self.now list.old (pending_item list.old) list.new) }
-        ensures err { IfErr result (FaultOr reader.now (FirstFails (parser_encoding F.Fn self.now) (end_demands list.old reader.now.token))) }
+        ensures err { IfErr result (FaultOr reader.now
+            (FirstFails (parser_encoding F.Fn self.now) (end_demands list.old reader.now.token))) }
     {
         if let Err(error) = list.add_pending(self) {
             return Err(first_fault(reader, error));
@@ -119,8 +124,10 @@ impl<F: Fn(&str) -> Result<String, Error>> PatternParser<'_, F> {
     #[inline(always)]
     fn encode(&self, text: &str) -> Result<String, Error>
         requires { F.IsAlwaysCallable self.now.encoding_callback }
-        ensures ok { IfOk result (λ answer. parser_encoding F.Fn self.now (chars text.now) (Result.Ok (text_of answer))) }
-        ensures err { IfErr result (λ error. parser_encoding F.Fn self.now (chars text.now) (Result.Err (error_view error))) }
+        ensures ok { IfOk result (λ answer.
+            parser_encoding F.Fn self.now (chars text.now) (Result.Ok (text_of answer))) }
+        ensures err { IfErr result (λ error.
+            parser_encoding F.Fn self.now (chars text.now) (Result.Err (error_view error))) }
     {
         (self.encoding_callback)(text)
     }
@@ -129,8 +136,10 @@ impl<F: Fn(&str) -> Result<String, Error>> PatternParser<'_, F> {
     /// expression that is not a wildcard.
     #[inline(always)]
     fn kind_and_value(&self, matched: PlaceholderKind<'_>) -> Result<(PartType, String), AllocError>
-        ensures kind { IfOk result (λ found. found.0 ≡ kind_of (parser_options self.now) (matched_regexp self.now matched.entry)) }
-        ensures value { IfOk result (λ found. text_of found.1 ≡ value_of found.0 (matched_regexp self.now matched.entry)) }
+        ensures kind { IfOk result (λ found.
+            found.0 ≡ kind_of (parser_options self.now) (matched_regexp self.now matched.entry)) }
+        ensures value { IfOk result (λ found.
+            text_of found.1 ≡ value_of found.0 (matched_regexp self.now matched.entry)) }
     {
         match matched {
             PlaceholderKind::Segment => Ok((PartType::SegmentWildcard, String::new(self.alloc))),
@@ -141,8 +150,10 @@ impl<F: Fn(&str) -> Result<String, Error>> PatternParser<'_, F> {
 
     /// Returns the kind and the value of a part with this regular expression.
     fn kind_by_regexp(&self, regexp: &str) -> Result<(PartType, String), AllocError>
-        ensures kind { IfOk result (λ found. found.0 ≡ kind_of (parser_options self.now) (chars regexp.now)) }
-        ensures value { IfOk result (λ found. text_of found.1 ≡ value_of found.0 (chars regexp.now)) }
+        ensures kind { IfOk result (λ found.
+            found.0 ≡ kind_of (parser_options self.now) (chars regexp.now)) }
+        ensures value { IfOk result (λ found.
+            text_of found.1 ≡ value_of found.0 (chars regexp.now)) }
     {
         if is_written(regexp, &SegmentWildcard(self.options)) {
             return Ok((PartType::SegmentWildcard, String::new(self.alloc)));
@@ -172,7 +183,9 @@ fn first_fault(reader: &Reader<'_>, error: Error) -> Error
 /// Returns the error that a token of this kind was expected in place of `found`, or that memory ran
 /// out.
 fn expected_token(alloc: Global, kind: TokenType, found: Token<'_>) -> Error
-    ensures { MemoryOr (λ error. error ≡ ErrorView.ExpectedToken kind found.entry.kind (chars found.entry.value.now)) result }
+    ensures { MemoryOr (λ error.
+        error ≡ ErrorView.ExpectedToken kind found.entry.kind (chars found.entry.value.now))
+        result }
 {
     match String::from_str(alloc, found.value) {
         Ok(value) => Error::Parser(ParserError::ExpectedToken(kind, found.kind, value)),

@@ -27,7 +27,8 @@ pub fn tokenize<'a>(
     input: &'a str,
     policy: TokenizePolicy,
 ) -> Result<Vec<Token<'a>>, Error>
-    ensures tokens { IfOk result (λ tokens. AreTokensUnder policy (chars input.now) (map token_view tokens.items)) }
+    ensures tokens { IfOk result (λ tokens.
+        AreTokensUnder policy (chars input.now) (map token_view tokens.items)) }
     ensures fault { IfErr result (ReportsFaultUnder policy (chars input.now)) }
 {
     let mut tokens = Vec::new(alloc);

@@ -34,7 +34,8 @@ pub record HasMeaning (settings : ParseSettings) : Type 0 where
 
 -- The pattern text reads as parts, and the captures are those of the first way in which the parts
 -- match the whole text, or None if there is none.
-pub record IsFirstWay (settings : ParseSettings) (text : List ℕ) (captures : Option Captures) : Type 0 where
+pub record IsFirstWay (settings : ParseSettings) (text : List ℕ) (captures : Option Captures) : Type
+    0 where
   pub parts : List PartView
   pub reads : ReadsAs settings parts
   pub is_first : IsFirstOf settings.options parts text captures
@@ -42,17 +43,19 @@ pub record IsFirstWay (settings : ParseSettings) (text : List ℕ) (captures : O
 
 -- The result of a component is that of the first way of its text: its groups are the names of the
 -- parts, with the captures.
-pub record IsFirstResult (settings : ParseSettings) (text : List ℕ) (result : ResultView) : Type 0 where
-  pub captures : Captures
-  pub way : IsFirstWay settings text (Some captures)
-  pub is_result : IsResultOf (group_names way.parts) captures text result
+pub record IsFirstResult (settings : ParseSettings) (text : List ℕ) (result : ResultView) : Type 0
+  where
+    pub captures : Captures
+    pub way : IsFirstWay settings text (Some captures)
+    pub is_result : IsResultOf (group_names way.parts) captures text result
 
 -- ---- matches
 
 -- What is found in eight texts follows from the pattern texts. In a match, each component whose
 -- pattern text has a meaning, and whose text is a line, has the result of the first way. Without a
 -- match, if all components are of this kind, one of them has no way for its text.
-abbrev pub IsFoundByText : (settings : ComponentName → ParseSettings) → Texts → Option (ComponentName → ResultView) → Type 0
+abbrev pub IsFoundByText : (settings : ComponentName → ParseSettings) → Texts
+    → Option (ComponentName → ResultView) → Type 0
 IsFoundByText settings texts (Some result) =
     (component : ComponentName) → HasMeaning (settings component) → IsLine (at texts component) →
     IsFirstResult (settings component) (at texts component) (result component)
@@ -65,7 +68,8 @@ IsFoundByText settings texts None =
 -- The component returns what its pattern text says: it has the names of the parts that the text
 -- reads as, and for a line, a text of characters without line feed, its matcher returns their first
 -- way.
-pub record ReturnsByText {E : Type 0} (answer : E → List ℕ → Option Captures) (settings : ParseSettings) (compiled : ComponentView E) : Type 0 where
+pub record ReturnsByText {E : Type 0} (answer : E → List ℕ → Option Captures)
+    (settings : ParseSettings) (compiled : ComponentView E) : Type 0 where
   pub parts : List PartView
   pub reads : ReadsAs settings parts
   pub has_names : compiled.group_name_list ≡ group_names parts
@@ -76,26 +80,35 @@ pub record ReturnsByText {E : Type 0} (answer : E → List ℕ → Option Captur
 abbrev pub IsHierarchicalByText : UrlPatternOptions → Values → Type 0
 IsHierarchicalByText asked values =
     (values.protocol ≡ Some [])
-    ⊎ Any (λ scheme. (captures : Captures) × IsFirstWay (settings_of asked values false Protocol) scheme.0 (Some captures)) special_schemes
+    ⊎ Any (λ scheme.
+    (captures : Captures)
+    × IsFirstWay (settings_of asked values false Protocol) scheme.0 (Some captures))
+    special_schemes
     ⊎ IsTrue (begins_with (is_mark (codes "/")) (unwrap_or values.pathname []))
 
 -- The pattern returns what the texts of this init say: each component does whose pattern text has a
 -- meaning. The protocol's matcher decides whether the pathname is hierarchical, and so does its
 -- pattern text if that has a meaning.
-pub record ReturnsByItsText {E : Type 0} (answer : E → List ℕ → Option Captures) (init : UrlPatternInit) (asked : UrlPatternOptions) (pattern : PatternView E) : Type 0 where
+pub record ReturnsByItsText {E : Type 0} (answer : E → List ℕ → Option Captures)
+    (init : UrlPatternInit) (asked : UrlPatternOptions) (pattern : PatternView E) : Type 0 where
   pub values : Values
   pub hierarchical : Bool
   pub are_values : pattern_values init ≡ Ok values
   pub by_protocol : IsPathKind answer values (pattern Protocol).matcher hierarchical
-  pub path_kind : HasMeaning (settings_of asked values false Protocol) → IsTrue hierarchical ↔ IsHierarchicalByText asked values
-  pub answers : (component : ComponentName) → HasMeaning (settings_of asked values hierarchical component) →
+  pub path_kind : HasMeaning (settings_of asked values false Protocol) → IsTrue hierarchical
+      ↔ IsHierarchicalByText asked values
+  pub answers : (component : ComponentName)
+      → HasMeaning (settings_of asked values hierarchical component)
+      →
       ReturnsByText answer (settings_of asked values hierarchical component) (pattern component)
 
 -- If a component has a meaning and calls an engine, the engine's value returns the first way of the
 -- parts between prefix and suffix.
-abbrev pub EnginesReturnFirst : {E : Type 0} → (answer : E → List ℕ → Option Captures) → (settings : ComponentName → ParseSettings) → PatternView E → Type 0
+abbrev pub EnginesReturnFirst : {E : Type 0} → (answer : E → List ℕ → Option Captures)
+    → (settings : ComponentName → ParseSettings) → PatternView E → Type 0
 EnginesReturnFirst answer settings pattern =
-    (component : ComponentName) (parts : List PartView) → HasMeaning (settings component) → ReadsAs (settings component) parts →
+    (component : ComponentName) (parts : List PartView) → HasMeaning (settings component)
+    → ReadsAs (settings component) parts →
     ReturnsFirstInMiddle answer (settings component).options parts (pattern component).matcher.inner
 
 -- Each matcher that the engine made with the flags of its options returns first ways, without a
@@ -107,19 +120,27 @@ MakesFirstWays engine = EachReturnsFirst engine (λ options flags inner. FlagsAg
 
 -- The init is compiled to a pattern with which this is found in the input. The result is what the
 -- pattern texts mean; with an engine that makes first ways it follows from the pattern texts.
-pub record IsExecutedByMeaning {E : Type 0} (engine : Engine E) (init : UrlPatternInit) (asked : UrlPatternOptions) (input : UrlPatternMatchInput) (found : Option (ComponentName → ResultView)) : Type 0 where
+pub record IsExecutedByMeaning {E : Type 0} (engine : Engine E) (init : UrlPatternInit)
+    (asked : UrlPatternOptions) (input : UrlPatternMatchInput)
+    (found : Option (ComponentName → ResultView)) : Type 0 where
   pub values : Values
   pub pattern : PatternView E
   pub are_values : pattern_values init ≡ Ok values
   pub compiled : AreCompiled engine asked values pattern
   pub executed : IsExecuted engine.answer pattern input found
   pub means : (texts : Texts) → input_texts input ≡ Ok texts → ¬ IsLongInput input
-      → IsFoundByMeaning engine.answer (settings_of asked values compiled.hierarchical) pattern texts found
+      → IsFoundByMeaning engine.answer (settings_of asked values compiled.hierarchical) pattern
+      texts found
   pub by_text : MakesFirstWays engine → ReturnsByItsText engine.answer init asked pattern
-  pub found_by_text : (firsts : MakesFirstWays engine) (texts : Texts) → input_texts input ≡ Ok texts → ¬ IsLongInput input
-      → IsFoundByText (settings_of asked (by_text firsts).values (by_text firsts).hierarchical) texts found
+  pub found_by_text : (firsts : MakesFirstWays engine) (texts : Texts)
+      → input_texts input ≡ Ok texts
+      → ¬ IsLongInput input
+      → IsFoundByText (settings_of asked (by_text firsts).values (by_text firsts).hierarchical)
+      texts found
 
 -- `ReturnsByItsText`, of the init into which this constructor string and its base URL are split.
-abbrev pub ReturnsByTextOf : {E : Type 0} → Engine E → (text : List ℕ) → (base : Option (List ℕ)) → UrlPatternOptions → PatternView E → Type 0
+abbrev pub ReturnsByTextOf : {E : Type 0} → Engine E → (text : List ℕ) → (base : Option (List ℕ))
+    → UrlPatternOptions → PatternView E → Type 0
 ReturnsByTextOf engine text base asked pattern =
-    (init : UrlPatternInit) × IsInitOfText engine text base init × ReturnsByItsText engine.answer init asked pattern
+    (init : UrlPatternInit) × IsInitOfText engine text base init
+    × ReturnsByItsText engine.answer init asked pattern

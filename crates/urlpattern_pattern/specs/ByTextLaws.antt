@@ -22,62 +22,97 @@ use Rattle.urlpattern_pattern.specs.Patterns.{PatternView}
 -- A compiled pattern returns what its texts say, if the values of the engine that it calls return
 -- first ways.
 abbrev pub PatternsReturnByText : {E : Type 0} → Engine E → Type 0
-PatternsReturnByText {E} engine = (init : UrlPatternInit) (asked : UrlPatternOptions) (values : Values) (pattern : PatternView E) →
+PatternsReturnByText {E} engine =
+    (init : UrlPatternInit) (asked : UrlPatternOptions) (values : Values) (pattern : PatternView E)
+    →
     pattern_values init ≡ Ok values → (compiled : AreCompiled engine asked values pattern) →
-    EnginesReturnFirst engine.answer (settings_of asked values compiled.hierarchical) pattern → ReturnsByItsText engine.answer init asked pattern
+    EnginesReturnFirst engine.answer (settings_of asked values compiled.hierarchical) pattern
+    → ReturnsByItsText engine.answer init asked pattern
 
 -- A compiled pattern returns what its texts say, if the engine accepted, in the sense of
 -- `Accepted`, what the components without custom regular expressions need.
-abbrev pub AcceptedPatternsReturnByText : {E : Type 0} → Engine E → (Accepted : InnerView E → Type 0) → Type 0
-AcceptedPatternsReturnByText {E} engine Accepted = (init : UrlPatternInit) (asked : UrlPatternOptions) (pattern : PatternView E) →
-    IsPatternOfInit engine init asked pattern → ((component : ComponentName) → (pattern component).has_regexp_group ≡ false → Accepted (pattern component).matcher.inner) →
+abbrev pub AcceptedPatternsReturnByText : {E : Type 0} → Engine E
+    → (Accepted : InnerView E → Type 0) → Type 0
+AcceptedPatternsReturnByText {E} engine Accepted =
+    (init : UrlPatternInit) (asked : UrlPatternOptions) (pattern : PatternView E) →
+    IsPatternOfInit engine init asked pattern
+    → ((component : ComponentName) → (pattern component).has_regexp_group ≡ false
+    → Accepted (pattern component).matcher.inner)
+    →
     ReturnsByItsText engine.answer init asked pattern
 
 -- A pattern that returns what its texts say does so for eight texts.
 abbrev pub FindingsAreByText : {E : Type 0} → (answer : E → List ℕ → Option Captures) → Type 0
-FindingsAreByText {E} answer = (init : UrlPatternInit) (asked : UrlPatternOptions) (pattern : PatternView E) (by : ReturnsByItsText answer init asked pattern)
-    (texts : Texts) (found : Option (ComponentName → ResultView)) → FindsInTexts (λ result. result) answer pattern texts found →
+FindingsAreByText {E} answer =
+    (init : UrlPatternInit) (asked : UrlPatternOptions) (pattern : PatternView E)
+    (by : ReturnsByItsText answer init asked pattern)
+    (texts : Texts) (found : Option (ComponentName → ResultView))
+    → FindsInTexts (λ result. result) answer pattern texts found
+    →
     IsFoundByText (settings_of asked by.values by.hierarchical) texts found
 
 -- A pattern that returns what its texts say does so for an input with texts, none of them too long
 -- for `url`.
 abbrev pub InputFindingsAreByText : {E : Type 0} → (answer : E → List ℕ → Option Captures) → Type 0
-InputFindingsAreByText {E} answer = (init : UrlPatternInit) (asked : UrlPatternOptions) (pattern : PatternView E) (by : ReturnsByItsText answer init asked pattern)
+InputFindingsAreByText {E} answer =
+    (init : UrlPatternInit) (asked : UrlPatternOptions) (pattern : PatternView E)
+    (by : ReturnsByItsText answer init asked pattern)
     (input : UrlPatternMatchInput) (found : Option (ComponentName → ResultView)) (texts : Texts) →
     input_texts input ≡ Ok texts → ¬ IsLongInput input → IsExecuted answer pattern input found →
     IsFoundByText (settings_of asked by.values by.hierarchical) texts found
 
 -- All pattern texts have a meaning, and all texts are lines.
 abbrev pub AllHaveMeaning : (settings : ComponentName → ParseSettings) → Texts → Type 0
-AllHaveMeaning settings texts = (component : ComponentName) → HasMeaning (settings component) × IsLine (at texts component)
+AllHaveMeaning settings texts =
+    (component : ComponentName) → HasMeaning (settings component) × IsLine (at texts component)
 
 -- The two results are equal, or both are None.
 abbrev pub IsSameFinding : (found other : Option (ComponentName → ResultView)) → Type 0
 IsSameFinding None None = Unit {0}
-IsSameFinding (Some result) (Some other) = (component : ComponentName) → IsSameResult (result component) (other component)
+IsSameFinding (Some result) (Some other) =
+    (component : ComponentName) → IsSameResult (result component) (other component)
 IsSameFinding found other = ⊥
 
 -- Two results by the same pattern texts, for the same eight texts, are equal.
 abbrev pub FindingsAreOne : Type 0
-FindingsAreOne = (settings : ComponentName → ParseSettings) (texts : Texts) (found other : Option (ComponentName → ResultView)) → AllHaveMeaning settings texts →
-    IsFoundByText settings texts found → IsFoundByText settings texts other → IsSameFinding found other
+FindingsAreOne =
+    (settings : ComponentName → ParseSettings) (texts : Texts)
+    (found other : Option (ComponentName → ResultView))
+    → AllHaveMeaning settings texts
+    →
+    IsFoundByText settings texts found
+    → IsFoundByText settings texts other
+    → IsSameFinding found other
 
 -- Two patterns that return what the texts of one init say find the same, also over different
 -- engines.
-abbrev pub PatternsReturnAlike : {E F : Type 0} → (answer : E → List ℕ → Option Captures) → (other : F → List ℕ → Option Captures) → Type 0
-PatternsReturnAlike {E} {F} answer other = (init : UrlPatternInit) (asked : UrlPatternOptions) (pattern : PatternView E) (another : PatternView F)
+abbrev pub PatternsReturnAlike : {E F : Type 0} → (answer : E → List ℕ → Option Captures)
+    → (other : F → List ℕ → Option Captures) → Type 0
+PatternsReturnAlike {E} {F} answer other =
+    (init : UrlPatternInit) (asked : UrlPatternOptions) (pattern : PatternView E)
+    (another : PatternView F)
     (by : ReturnsByItsText answer init asked pattern) → ReturnsByItsText other init asked another →
-    (texts : Texts) (found also : Option (ComponentName → ResultView)) → AllHaveMeaning (settings_of asked by.values by.hierarchical) texts →
-    FindsInTexts (λ result. result) answer pattern texts found → FindsInTexts (λ result. result) other another texts also → IsSameFinding found also
+    (texts : Texts) (found also : Option (ComponentName → ResultView))
+    → AllHaveMeaning (settings_of asked by.values by.hierarchical) texts
+    →
+    FindsInTexts (λ result. result) answer pattern texts found
+    → FindsInTexts (λ result. result) other another texts also
+    → IsSameFinding found also
 
 -- ---- parts
 
 -- A pattern text reads as one list of parts.
 abbrev pub ReadingsAsAreOne : Type 0
-ReadingsAsAreOne = (settings : ParseSettings) (parts others : List PartView) → ReadsAs settings parts → ReadsAs settings others → parts ≡ others
+ReadingsAsAreOne =
+    (settings : ParseSettings) (parts others : List PartView) → ReadsAs settings parts
+    → ReadsAs settings others
+    → parts ≡ others
 
 -- A component without a custom regular expression, and with its case kept, was compiled from a
 -- pattern text that has a meaning.
 abbrev pub CompiledHaveMeaning : {E : Type 0} → Engine E → Type 0
-CompiledHaveMeaning {E} engine = (settings : ParseSettings) (compiled : ComponentView E) → IsComponentCompiled engine settings compiled →
+CompiledHaveMeaning {E} engine =
+    (settings : ParseSettings) (compiled : ComponentView E)
+    → IsComponentCompiled engine settings compiled
+    →
     compiled.has_regexp_group ≡ false → settings.options.ignore_case ≡ false → HasMeaning settings

@@ -19,7 +19,9 @@ parts_in parts component = kept_parts (at parts.components component)
 
 -- How a component of these parts is written with these groups.
 abbrev pub settings_in : PatternParts → List GivenView → ComponentName → WriteSettings
-settings_in parts groups component = settings_for component (kept_options (at parts.components component)) (parts_in parts component) groups
+settings_in parts groups component =
+    settings_for component (kept_options (at parts.components component)) (parts_in parts component)
+    groups
 
 -- The pattern has parts, and the predicate holds of them.
 abbrev pub HasParts : {E : Type 0} → UrlPattern E → (PatternParts → Type 0) → Type 0
@@ -27,13 +29,19 @@ HasParts pattern Holds = MatchOption pattern.parts ⊥ Holds
 
 -- The text is written from the component's parts with these groups and is canonical, and the
 -- component's matcher finds these groups in it.
-abbrev pub GeneratesText : {E : Type 0} → (answer : E → List ℕ → Option Captures) → UrlPattern E → ComponentName → List GivenView → (text : List ℕ) → Type 0
+abbrev pub GeneratesText : {E : Type 0} → (answer : E → List ℕ → Option Captures) → UrlPattern E
+    → ComponentName → List GivenView → (text : List ℕ) → Type 0
 GeneratesText answer pattern component groups text =
-    HasParts pattern (λ parts. HasText answer (eight_view pattern.components component).matcher (settings_in parts groups component) (parts_in parts component) text)
+    HasParts pattern (λ parts.
+    HasText answer (eight_view pattern.components component).matcher
+    (settings_in parts groups component) (parts_in parts component) text)
 
 -- Why the component has no text with these groups: the pattern was put together by hand, or what is
 -- wrong with the groups and parts.
-abbrev pub RejectsGroups : {E : Type 0} → (answer : E → List ℕ → Option Captures) → UrlPattern E → ComponentName → List GivenView → GenerateError → Type 0
+abbrev pub RejectsGroups : {E : Type 0} → (answer : E → List ℕ → Option Captures) → UrlPattern E
+    → ComponentName → List GivenView → GenerateError → Type 0
 RejectsGroups answer pattern component groups error =
     MatchOption pattern.parts (error ≡ NoParts)
-    (λ parts. LacksText answer (eight_view pattern.components component).matcher component (settings_in parts groups component) (parts_in parts component) error)
+    (λ parts.
+    LacksText answer (eight_view pattern.components component).matcher component
+    (settings_in parts groups component) (parts_in parts component) error)

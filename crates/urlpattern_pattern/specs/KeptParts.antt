@@ -25,21 +25,28 @@ pub record AreReadBySettings (settings : ParseSettings) (kept : ComponentParts) 
 -- The pattern has the parts that its texts read as, and all fields of each component are made of
 -- them. The texts are the values of this init, and the protocol decides whether the pathname is
 -- hierarchical.
-pub record KeepsPartsOf {E : Type 0} (engine : Engine E) (init : UrlPatternInit) (asked : UrlPatternOptions) (pattern : UrlPattern E) : Type 0 where
+pub record KeepsPartsOf {E : Type 0} (engine : Engine E) (init : UrlPatternInit)
+    (asked : UrlPatternOptions) (pattern : UrlPattern E) : Type 0 where
   pub parts : PatternParts
   pub values : Values
   pub hierarchical : Bool
   pub has_parts : pattern.parts ≡ Some parts
   pub are_values : pattern_values init ≡ Ok values
-  pub path_kind : IsPathKind engine.answer values (pattern_view pattern Protocol).matcher hierarchical
-  pub are_read : (name : ComponentName) → AreReadBySettings (settings_of asked values hierarchical name) (at parts.components name)
+  pub path_kind : IsPathKind engine.answer values (pattern_view pattern Protocol).matcher
+      hierarchical
+  pub are_read : (name : ComponentName)
+      → AreReadBySettings (settings_of asked values hierarchical name) (at parts.components name)
   pub are_made : AreMadeOfParts engine parts (pattern_view pattern)
 
 -- The pattern has the parts of the init of this constructor string and base URL.
-abbrev pub KeepsPartsOfText : {E : Type 0} → Engine E → (text : List ℕ) → (base : Option (List ℕ)) → UrlPatternOptions → UrlPattern E → Type 0
-KeepsPartsOfText engine text base asked pattern = (init : UrlPatternInit) × IsInitOfText engine text base init × KeepsPartsOf engine init asked pattern
+abbrev pub KeepsPartsOfText : {E : Type 0} → Engine E → (text : List ℕ) → (base : Option (List ℕ))
+    → UrlPatternOptions → UrlPattern E → Type 0
+KeepsPartsOfText engine text base asked pattern =
+    (init : UrlPatternInit) × IsInitOfText engine text base init
+    × KeepsPartsOf engine init asked pattern
 
 -- The components and the parts of these components with parts.
-pub record AreSeparated {E : Type 0} (made : Eight (ComponentWithParts E)) (components : Eight (Component E)) (parts : PatternParts) : Type 0 where
+pub record AreSeparated {E : Type 0} (made : Eight (ComponentWithParts E))
+    (components : Eight (Component E)) (parts : PatternParts) : Type 0 where
   pub components_are : (name : ComponentName) → at components name ≡ (at made name).component
   pub parts_are : (name : ComponentName) → at parts.components name ≡ (at made name).kept

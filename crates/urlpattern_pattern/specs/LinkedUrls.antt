@@ -28,26 +28,37 @@ use Rattle.urlpattern_generate.specs.declared.no_link.NoLink.TheVariants.{Compon
 
 -- Each text is that of its component's parts with these groups.
 abbrev pub AreWritten : PatternParts → List GivenView → Texts → Type 0
-AreWritten parts groups texts = (component : ComponentName) → IsWritten (settings_in parts groups component) (parts_in parts component) (at texts component)
+AreWritten parts groups texts =
+    (component : ComponentName)
+    → IsWritten (settings_in parts groups component) (parts_in parts component) (at texts component)
 
 -- The matcher of a component finds the expected captures in its text.
-abbrev pub IsConfirmed : {E : Type 0} → (answer : E → List ℕ → Option Captures) → PatternView E → PatternParts → List GivenView → Texts → ComponentName → Type 0
+abbrev pub IsConfirmed : {E : Type 0} → (answer : E → List ℕ → Option Captures) → PatternView E
+    → PatternParts → List GivenView → Texts → ComponentName → Type 0
 IsConfirmed answer pattern parts groups texts component =
-    FindsRequested answer (pattern component).matcher (settings_in parts groups component) (parts_in parts component) (at texts component)
+    FindsRequested answer (pattern component).matcher (settings_in parts groups component)
+    (parts_in parts component) (at texts component)
 
 -- The matcher of a component finds other captures in its text, or does not match.
-abbrev pub IsOther : {E : Type 0} → (answer : E → List ℕ → Option Captures) → PatternView E → PatternParts → List GivenView → Texts → ComponentName → Type 0
+abbrev pub IsOther : {E : Type 0} → (answer : E → List ℕ → Option Captures) → PatternView E
+    → PatternParts → List GivenView → Texts → ComponentName → Type 0
 IsOther answer pattern parts groups texts component =
-    FindsOther answer (pattern component).matcher (settings_in parts groups component) (parts_in parts component) (at texts component)
+    FindsOther answer (pattern component).matcher (settings_in parts groups component)
+    (parts_in parts component) (at texts component)
 
 -- Whether the matcher of a component finds the expected captures in its text.
-abbrev pub DecidesConfirmed : {E : Type 0} → Bool → (answer : E → List ℕ → Option Captures) → PatternView E → PatternParts → List GivenView → Texts → ComponentName → Type 0
+abbrev pub DecidesConfirmed : {E : Type 0} → Bool
+    → (answer : E → List ℕ → Option Captures) → PatternView E → PatternParts → List GivenView
+    → Texts → ComponentName → Type 0
 DecidesConfirmed is answer pattern parts groups texts component =
-    MatchBool is (IsConfirmed answer pattern parts groups texts component) (IsOther answer pattern parts groups texts component)
+    MatchBool is (IsConfirmed answer pattern parts groups texts component)
+    (IsOther answer pattern parts groups texts component)
 
 -- The first component whose matcher does not find the expected captures, or None.
-abbrev pub IsConfirmedBefore : {E : Type 0} → (answer : E → List ℕ → Option Captures) → PatternView E → PatternParts → List GivenView → Texts → Option ComponentName → Type 0
-IsConfirmedBefore answer pattern parts groups texts None = (component : ComponentName) → IsConfirmed answer pattern parts groups texts component
+abbrev pub IsConfirmedBefore : {E : Type 0} → (answer : E → List ℕ → Option Captures)
+    → PatternView E → PatternParts → List GivenView → Texts → Option ComponentName → Type 0
+IsConfirmedBefore answer pattern parts groups texts None =
+    (component : ComponentName) → IsConfirmed answer pattern parts groups texts component
 IsConfirmedBefore answer pattern parts groups texts (Some component) =
     (before after : List ComponentName) × (components ≡ before ++ component ∷ after)
     × All (IsConfirmed answer pattern parts groups texts) before
@@ -56,55 +67,76 @@ IsConfirmedBefore answer pattern parts groups texts (Some component) =
 -- The URL is the link of a pattern of these parts: each of its texts is that of the parts with
 -- these groups, the matchers find the expected captures in the texts, and the texts, put together,
 -- are parsed to the URL.
-pub record IsLinkOf {E : Type 0} (answer : E → List ℕ → Option Captures) (pattern : PatternView E) (parts : PatternParts) (groups : List GivenView) (url : Parts) : Type 0 where
+pub record IsLinkOf {E : Type 0} (answer : E → List ℕ → Option Captures) (pattern : PatternView E)
+    (parts : PatternParts) (groups : List GivenView) (url : Parts) : Type 0 where
   pub are_written : AreWritten parts groups (texts_of_url url)
-  pub are_confirmed : (component : ComponentName) → IsConfirmed answer pattern parts groups (texts_of_url url) component
+  pub are_confirmed : (component : ComponentName)
+      → IsConfirmed answer pattern parts groups (texts_of_url url) component
   pub is_read : IsReadOfTexts (texts_of_url url) url
 
 -- The URL is the link of the pattern with these groups.
-abbrev pub IsLink : {E : Type 0} → (answer : E → List ℕ → Option Captures) → UrlPattern E → List GivenView → Parts → Type 0
-IsLink answer pattern groups url = HasParts pattern (λ parts. IsLinkOf answer (eight_view pattern.components) parts groups url)
+abbrev pub IsLink : {E : Type 0} → (answer : E → List ℕ → Option Captures) → UrlPattern E
+    → List GivenView → Parts → Type 0
+IsLink answer pattern groups url =
+    HasParts pattern (λ parts. IsLinkOf answer (eight_view pattern.components) parts groups url)
 
 -- ---- captures of the link
 
 -- In each match of the URL the group of this name has this capture.
-abbrev pub IsCapturedBy : {E : Type 0} → (answer : E → List ℕ → Option Captures) → PatternView E → Parts → ComponentName → (name capture : List ℕ) → Type 0
+abbrev pub IsCapturedBy : {E : Type 0} → (answer : E → List ℕ → Option Captures) → PatternView E
+    → Parts → ComponentName → (name capture : List ℕ) → Type 0
 IsCapturedBy answer pattern url component name capture =
-    (result : ComponentName → ResultView) → IsMatch answer pattern (inputs.Url url) result → (result component).group name ≡ Some (Some capture)
+    (result : ComponentName → ResultView) → IsMatch answer pattern (inputs.Url url) result
+    → (result component).group name ≡ Some (Some capture)
 
 -- In each match of the URL, the groups with a given text capture the canonical form of that text.
-abbrev pub ReturnsGiven : {E : Type 0} → (answer : E → List ℕ → Option Captures) → UrlPattern E → List GivenView → Parts → Type 0
+abbrev pub ReturnsGiven : {E : Type 0} → (answer : E → List ℕ → Option Captures) → UrlPattern E
+    → List GivenView → Parts → Type 0
 ReturnsGiven answer pattern groups url = (component : ComponentName) (name text : List ℕ) →
-    text_given groups component name ≡ Some text → IsTrue (list_any (bytes_eq name) (eight_view pattern.components component).group_name_list) →
-    HasParts pattern (λ parts. (value : List ℕ) × ((settings_in parts groups component).canonical text ≡ Ok value)
+    text_given groups component name ≡ Some text
+    → IsTrue
+    (list_any (bytes_eq name) (eight_view pattern.components component).group_name_list)
+    →
+    HasParts pattern (λ parts.
+    (value : List ℕ) × ((settings_in parts groups component).canonical text ≡ Ok value)
     × IsCapturedBy answer (eight_view pattern.components) url component name value)
 
 -- ---- errors
 
 -- The result for a component: the text of its parts with these groups, or why it has none.
-abbrev pub HasPartsText : PatternParts → List GivenView → ComponentName → Result (CowStr Global) GenerateError → Type 0
+abbrev pub HasPartsText : PatternParts → List GivenView → ComponentName
+    → Result (CowStr Global) GenerateError → Type 0
 HasPartsText parts groups component result =
-    MatchResult result (λ text. IsWritten (settings_in parts groups component) (parts_in parts component) (cow_text text))
+    MatchResult result (λ text.
+    IsWritten (settings_in parts groups component) (parts_in parts component) (cow_text text))
     (CannotWrite component (settings_in parts groups component) (parts_in parts component))
 
 -- The texts are those of a URL, and the component is the first whose matcher does not find the
 -- expected captures.
-abbrev pub IsReadOtherwise : {E : Type 0} → (answer : E → List ℕ → Option Captures) → PatternView E → PatternParts → List GivenView → ComponentName → Type 0
+abbrev pub IsReadOtherwise : {E : Type 0} → (answer : E → List ℕ → Option Captures) → PatternView E
+    → PatternParts → List GivenView → ComponentName → Type 0
 IsReadOtherwise answer pattern parts groups component =
-    (url : Parts) × AreWritten parts groups (texts_of_url url) × IsReadOfTexts (texts_of_url url) url
+    (url : Parts) × AreWritten parts groups (texts_of_url url)
+    × IsReadOfTexts (texts_of_url url) url
     × IsConfirmedBefore answer pattern parts groups (texts_of_url url) (Some component)
 
 -- Why a pattern of these parts has no link: the first component without a text, that no URL has the
 -- texts, the first component that would be read with other groups, or that memory ran out.
-abbrev pub RejectsLinkOf : {E : Type 0} → (answer : E → List ℕ → Option Captures) → PatternView E → PatternParts → List GivenView → NoLink → Type 0
-RejectsLinkOf answer pattern parts groups (Component (generating.ReadOtherwise component)) = IsReadOtherwise answer pattern parts groups component
+abbrev pub RejectsLinkOf : {E : Type 0} → (answer : E → List ℕ → Option Captures) → PatternView E
+    → PatternParts → List GivenView → NoLink → Type 0
+RejectsLinkOf answer pattern parts groups (Component (generating.ReadOtherwise component)) =
+    IsReadOtherwise answer pattern parts groups component
 RejectsLinkOf answer pattern parts groups (Component generating.OutOfMemory) = ⊥
-RejectsLinkOf answer pattern parts groups (Component error) = IsFirstError (HasPartsText parts groups) error
+RejectsLinkOf answer pattern parts groups (Component error) =
+    IsFirstError (HasPartsText parts groups) error
 RejectsLinkOf answer pattern parts groups OutOfMemory = Unit {0}
-RejectsLinkOf answer pattern parts groups error = (texts : Texts) × AreWritten parts groups texts × RejectsTexts texts error
+RejectsLinkOf answer pattern parts groups error =
+    (texts : Texts) × AreWritten parts groups texts × RejectsTexts texts error
 
 -- Why the pattern has no link: it was put together by hand, or what is wrong with its parts and the
 -- groups.
-abbrev pub RejectsLink : {E : Type 0} → (answer : E → List ℕ → Option Captures) → UrlPattern E → List GivenView → NoLink → Type 0
+abbrev pub RejectsLink : {E : Type 0} → (answer : E → List ℕ → Option Captures) → UrlPattern E
+    → List GivenView → NoLink → Type 0
 RejectsLink answer pattern groups error =
-    MatchOption pattern.parts (error ≡ Component generating.NoParts) (λ parts. RejectsLinkOf answer (eight_view pattern.components) parts groups error)
+    MatchOption pattern.parts (error ≡ Component generating.NoParts) (λ parts.
+    RejectsLinkOf answer (eight_view pattern.components) parts groups error)

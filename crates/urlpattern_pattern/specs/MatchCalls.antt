@@ -13,33 +13,47 @@ use Rattle.urlpattern_pattern.specs.Patterns.{PatternView}
 use Rattle.urlpattern_components.specs.Eight.{Texts, at}
 
 -- The looks at the texts result in what the matchers of the pattern return.
-abbrev pub AreLooks : {E : Type 0} → (answer : E → List ℕ → Option Captures) → PatternView E → Texts → Eight (Look E) → Type 0
+abbrev pub AreLooks : {E : Type 0} → (answer : E → List ℕ → Option Captures) → PatternView E → Texts
+    → Eight (Look E) → Type 0
 AreLooks answer pattern texts looks =
-    (name : ComponentName) → Returns answer (pattern name).matcher (at texts name) (look_result answer (Some (at looks name)))
+    (name : ComponentName)
+    → Returns answer (pattern name).matcher (at texts name)
+    (look_result answer (Some (at looks name)))
 
 -- If a look calls an engine, its matcher does.
 abbrev pub CallWithCause : {E : Type 0} → PatternView E → Texts → Eight (Look E) → Type 0
 CallWithCause pattern texts looks =
-    (name : ComponentName) → NeedsEngine (at looks name) → CallsEngine (pattern name).matcher (at texts name)
+    (name : ComponentName) → NeedsEngine (at looks name)
+    → CallsEngine (pattern name).matcher (at texts name)
 
 -- The captures of the components are the results of the looks.
-abbrev pub AreCaptured : {E : Type 0} → (answer : E → List ℕ → Option Captures) → Eight (Look E) → Eight GroupCaptures → Type 0
+abbrev pub AreCaptured : {E : Type 0} → (answer : E → List ℕ → Option Captures) → Eight (Look E)
+    → Eight GroupCaptures → Type 0
 AreCaptured answer looks captures =
-    (name : ComponentName) → look_result answer (Some (at looks name)) ≡ Some (captures_of (at captures name))
+    (name : ComponentName)
+    → look_result answer (Some (at looks name)) ≡ Some (captures_of (at captures name))
 
 -- The captures of each component.
 abbrev pub all_captures : Eight GroupCaptures → ComponentName → Captures
 all_captures captures name = captures_of (at captures name)
 
 -- The captures are those that the matchers of the pattern return for the texts.
-abbrev pub HasMatcherResults : {E : Type 0} → (answer : E → List ℕ → Option Captures) → PatternView E → Texts → Eight GroupCaptures → Type 0
-HasMatcherResults answer pattern texts captures = AreResults answer pattern texts (all_captures captures)
+abbrev pub HasMatcherResults : {E : Type 0} → (answer : E → List ℕ → Option Captures)
+    → PatternView E → Texts → Eight GroupCaptures → Type 0
+HasMatcherResults answer pattern texts captures =
+    AreResults answer pattern texts (all_captures captures)
 
 -- The match has these texts, and these captures of the groups of the pattern.
-abbrev pub HasCaptures : {E : Type 0} → PatternView E → Texts → Eight GroupCaptures → (result : ComponentName → ResultView) → Type 0
+abbrev pub HasCaptures : {E : Type 0} → PatternView E → Texts → Eight GroupCaptures
+    → (result : ComponentName → ResultView) → Type 0
 HasCaptures pattern texts captures result =
-    (name : ComponentName) → IsResultOf (pattern name).group_name_list (all_captures captures name) (at texts name) (result name)
+    (name : ComponentName)
+    → IsResultOf (pattern name).group_name_list (all_captures captures name) (at texts name)
+    (result name)
 
 -- The groups of each component are its names, with these captures.
-abbrev pub HasGroups : {E : Type 0} → PatternView E → Eight GroupCaptures → (groups : ComponentName → List (List ℕ × Option (List ℕ))) → Type 0
-HasGroups pattern captures groups = (name : ComponentName) → groups name ≡ zip (pattern name).group_name_list (all_captures captures name)
+abbrev pub HasGroups : {E : Type 0} → PatternView E → Eight GroupCaptures
+    → (groups : ComponentName → List (List ℕ × Option (List ℕ))) → Type 0
+HasGroups pattern captures groups =
+    (name : ComponentName)
+    → groups name ≡ zip (pattern name).group_name_list (all_captures captures name)

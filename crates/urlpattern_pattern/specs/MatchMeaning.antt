@@ -29,7 +29,8 @@ pub record IsMeant (settings : ParseSettings) (text : List ℕ) : Type 0 where
 -- The premises on a compiled component and a text: no custom regular expression, case that is kept,
 -- characters without line feed, and an engine, where one is needed, that accepted its regular
 -- expression and follows it.
-pub record MeaningPremises {E : Type 0} (answer : E → List ℕ → Option Captures) (settings : ParseSettings) (compiled : ComponentView E) (text : List ℕ) : Type 0 where
+pub record MeaningPremises {E : Type 0} (answer : E → List ℕ → Option Captures)
+    (settings : ParseSettings) (compiled : ComponentView E) (text : List ℕ) : Type 0 where
   pub generated : compiled.has_regexp_group ≡ false
   pub case_kept : settings.options.ignore_case ≡ false
   pub no_line_feed : IsTrue (lacks line_feed text)
@@ -41,27 +42,36 @@ pub record MeaningPremises {E : Type 0} (answer : E → List ℕ → Option Capt
 -- component that meets the premises is a meaning of its text: its groups are the names of the
 -- parts, with the captures. Without a match, if all components meet the premises, the pattern texts
 -- do not mean all eight texts.
-abbrev pub IsFoundByMeaning : {E : Type 0} → (answer : E → List ℕ → Option Captures) → (settings : ComponentName → ParseSettings) → PatternView E → Texts → Option (ComponentName → ResultView) → Type 0
+abbrev pub IsFoundByMeaning : {E : Type 0} → (answer : E → List ℕ → Option Captures)
+    → (settings : ComponentName → ParseSettings) → PatternView E → Texts
+    → Option (ComponentName → ResultView) → Type 0
 IsFoundByMeaning answer settings pattern texts (Some result) =
-    (component : ComponentName) → MeaningPremises answer (settings component) (pattern component) (at texts component) →
+    (component : ComponentName)
+    → MeaningPremises answer (settings component) (pattern component) (at texts component)
+    →
     (meant : IsMeant (settings component) (at texts component))
     × IsResultOf (group_names meant.parts) meant.captures (at texts component) (result component)
 IsFoundByMeaning answer settings pattern texts None =
-    ((component : ComponentName) → MeaningPremises answer (settings component) (pattern component) (at texts component)) →
+    ((component : ComponentName)
+    → MeaningPremises answer (settings component) (pattern component) (at texts component))
+    →
     ¬ ((component : ComponentName) → IsMeant (settings component) (at texts component))
 
 -- ---- the result of `exec`
 
 -- A match of the input, or None if there is none.
-abbrev pub IsExecuted : {E : Type 0} → (answer : E → List ℕ → Option Captures) → PatternView E → UrlPatternMatchInput → Option (ComponentName → ResultView) → Type 0
-IsExecuted answer pattern input found = MatchOption found (HasNoMatch answer pattern input) (IsMatch answer pattern input)
+abbrev pub IsExecuted : {E : Type 0} → (answer : E → List ℕ → Option Captures) → PatternView E
+    → UrlPatternMatchInput → Option (ComponentName → ResultView) → Type 0
+IsExecuted answer pattern input found =
+    MatchOption found (HasNoMatch answer pattern input) (IsMatch answer pattern input)
 
 -- ---- the default engine
 
 -- The premises on a component that was compiled by `regex::Regex`, and on a text: those of
 -- `MeaningPremises`, but of the engine only that it accepted its regular expression, where one is
 -- needed.
-pub record RegexPremises (settings : ParseSettings) (compiled : ComponentView Regex) (text : List ℕ) : Type 0 where
+pub record RegexPremises (settings : ParseSettings) (compiled : ComponentView Regex) (text : List ℕ)
+    : Type 0 where
   pub generated : compiled.has_regexp_group ≡ false
   pub case_kept : settings.options.ignore_case ≡ false
   pub took : AcceptedText (λ regex. ⊤) compiled.matcher.inner

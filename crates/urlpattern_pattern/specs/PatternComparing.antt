@@ -6,12 +6,15 @@ use Rattle.urlpattern_pattern.specs.declared.pattern.compare.CompareError.TheVar
 use Rattle.urlpattern_compare.specs.declared.pattern_parts.PatternParts.{PatternParts}
 
 -- The two patterns have these parts.
-abbrev pub HaveParts : {E : Type 0} → (pattern other : UrlPattern E) → (parts others : PatternParts) → Type 0
+abbrev pub HaveParts : {E : Type 0} → (pattern other : UrlPattern E)
+    → (parts others : PatternParts) → Type 0
 HaveParts pattern other parts others = (pattern.parts ≡ Some parts) × (other.parts ≡ Some others)
 
 -- The two patterns have parts, and this holds of them.
-abbrev pub OfBoth : {E : Type 0} → (pattern other : UrlPattern E) → (Holds : (parts others : PatternParts) → Type 0) → Type 0
-OfBoth pattern other Holds = IsSomeAnd pattern.parts (λ parts. IsSomeAnd other.parts (λ others. Holds parts others))
+abbrev pub OfBoth : {E : Type 0} → (pattern other : UrlPattern E)
+    → (Holds : (parts others : PatternParts) → Type 0) → Type 0
+OfBoth pattern other Holds =
+    IsSomeAnd pattern.parts (λ parts. IsSomeAnd other.parts (λ others. Holds parts others))
 
 -- Why two patterns cannot be compared: one has no parts, or memory ran out.
 abbrev pub LackParts : {E : Type 0} → (pattern other : UrlPattern E) → CompareError → Type 0

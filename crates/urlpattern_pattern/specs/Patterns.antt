@@ -17,5 +17,6 @@ abbrev pub pattern_view : {E : Type 0} → UrlPattern E → ComponentName → Co
 pattern_view pattern = eight_view (components_of pattern)
 
 -- If the result is a pattern, this holds of it.
-abbrev pub IfPattern : {E Fault : Type 0} → Result (UrlPattern E) Fault → (PatternView E → Type 0) → Type 0
+abbrev pub IfPattern : {E Fault : Type 0} → Result (UrlPattern E) Fault → (PatternView E → Type 0)
+    → Type 0
 IfPattern result Holds = IfOk result (λ pattern. Holds (pattern_view pattern))

@@ -18,14 +18,17 @@ pub record UrlPattern (E : Type 0) : Type 0 where
 
 -- All five fields of the component are made of the parts by this engine, which accepted what the
 -- component needs.
-pub record IsMadeOfParts {E : Type 0} (engine : Engine E) (kept : ComponentParts) (component : ComponentView E) : Type 0 where
+pub record IsMadeOfParts {E : Type 0} (engine : Engine E) (kept : ComponentParts)
+    (component : ComponentView E) : Type 0 where
   pub is_component : IsComponentOf engine (kept_options kept) (kept_parts kept) component
   pub has_engine : HasEngine component
 
 -- Each component is made of its parts.
 abbrev pub AreMadeOfParts : {E : Type 0} → Engine E → PatternParts → PatternView E → Type 0
-AreMadeOfParts engine parts pattern = (name : ComponentName) → IsMadeOfParts engine (at parts.components name) (pattern name)
+AreMadeOfParts engine parts pattern =
+    (name : ComponentName) → IsMadeOfParts engine (at parts.components name) (pattern name)
 
 -- If the pattern has parts, its components are made of them.
 abbrev pub HasOwnParts : {E : Type 0} → Engine E → UrlPattern E → Type 0
-HasOwnParts engine pattern = IfSome pattern.parts (λ parts. AreMadeOfParts engine parts (eight_view pattern.components))
+HasOwnParts engine pattern =
+    IfSome pattern.parts (λ parts. AreMadeOfParts engine parts (eight_view pattern.components))

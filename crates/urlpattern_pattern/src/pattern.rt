@@ -69,15 +69,35 @@ impl<R: RegExp> Model for UrlPattern<R> {
 
     ghost Value = { UrlPattern R };
 
-    ghost view = { λ pattern. record {
-      components = record { protocol = pattern.protocol; username = pattern.username; password = pattern.password; hostname = pattern.hostname; port = pattern.port; pathname = pattern.pathname; search = pattern.search; hash = pattern.hash };
-      parts = pattern.parts;
-    } };
+    ghost view = { λ pattern.
+        record {
+          components = record {
+            protocol = pattern.protocol;
+            username = pattern.username;
+            password = pattern.password;
+            hostname = pattern.hostname;
+            port = pattern.port;
+            pathname = pattern.pathname;
+            search = pattern.search;
+            hash = pattern.hash;
+          };
+          parts = pattern.parts;
+        } };
 
-    ghost invariant = { λ pattern. HasOwnParts R.RegExp (record {
-      components = record { protocol = pattern.protocol; username = pattern.username; password = pattern.password; hostname = pattern.hostname; port = pattern.port; pathname = pattern.pathname; search = pattern.search; hash = pattern.hash };
-      parts = pattern.parts;
-    }) };
+    ghost invariant = { λ pattern.
+        HasOwnParts R.RegExp (record {
+          components = record {
+            protocol = pattern.protocol;
+            username = pattern.username;
+            password = pattern.password;
+            hostname = pattern.hostname;
+            port = pattern.port;
+            pathname = pattern.pathname;
+            search = pattern.search;
+            hash = pattern.hash;
+          };
+          parts = pattern.parts;
+        }) };
 }
 
 impl<R: RegExp> UrlPattern<R> {
@@ -104,7 +124,8 @@ impl<R: RegExp> UrlPattern<R> {
     /// hand.
     pub fn parts(&self) -> Option<&PatternParts>
         ensures parts { option_copied result ≡ self.now.parts }
-        ensures made { IfSome self.now.parts (λ parts. AreMadeOfParts R.RegExp parts (pattern_view self.now)) }
+        ensures made { IfSome self.now.parts (λ parts.
+            AreMadeOfParts R.RegExp parts (pattern_view self.now)) }
     {
         self.parts.as_ref()
     }

@@ -17,13 +17,15 @@ filter_tree (Some character) = string (encode_utf8 character)
 
 -- The members of an inner matcher.
 abbrev pub inner_members : PlainInnerView → List (List ℕ × Option Data)
-inner_members (literal bytes) = (codes "kind", Some (string (codes "literal"))) ∷ (codes "literal", Some (string bytes)) ∷ []
+inner_members (literal bytes) =
+    (codes "kind", Some (string (codes "literal"))) ∷ (codes "literal", Some (string bytes)) ∷ []
 inner_members (single_capture filter allow_empty) =
     (codes "kind", Some (string (codes "singleCapture")))
     ∷ (codes "filter", Some (filter_tree filter))
     ∷ (codes "allowEmpty", Some (boolean allow_empty))
     ∷ []
-inner_members (regexp bytes) = (codes "kind", Some (string (codes "regExp"))) ∷ (codes "regexp", Some (string bytes)) ∷ []
+inner_members (regexp bytes) =
+    (codes "kind", Some (string (codes "regExp"))) ∷ (codes "regexp", Some (string bytes)) ∷ []
 
 -- The tree of an inner matcher.
 abbrev pub inner_tree : PlainInnerView → Data
@@ -109,7 +111,12 @@ component_read tree = do
   regexp_string ← text_read (codes "regexpString") tree
   matcher ← member_read matcher_read (codes "matcher") tree
   group_name_list ← member_read texts_read (codes "groupNameList") tree
-  Some (record { pattern_string = pattern_string; regexp_string = regexp_string; matcher = matcher; group_name_list = group_name_list })
+  Some (record {
+    pattern_string = pattern_string;
+    regexp_string = regexp_string;
+    matcher = matcher;
+    group_name_list = group_name_list;
+  })
 
 -- The pattern read from a tree.
 unfoldable pub pattern_read : Data → Option PlainPatternView

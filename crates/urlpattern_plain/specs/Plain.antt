@@ -11,13 +11,16 @@ engine_text text_made_of (Ok engine) = text_made_of engine
 engine_text text_made_of (Err error) = []
 
 -- The plain value of an inner matcher.
-abbrev pub plain_inner : {E : Type 0} → (text_made_of : E → List ℕ) → matching.InnerView E → PlainInnerView
+abbrev pub plain_inner : {E : Type 0} → (text_made_of : E → List ℕ) → matching.InnerView E
+    → PlainInnerView
 plain_inner text_made_of (matching.Literal text) = literal text
-plain_inner text_made_of (matching.SingleCapture filter may_be_empty) = single_capture filter may_be_empty
+plain_inner text_made_of (matching.SingleCapture filter may_be_empty) =
+    single_capture filter may_be_empty
 plain_inner text_made_of (matching.RegExp engine) = regexp (engine_text text_made_of engine)
 
 -- The plain value of a matcher.
-abbrev pub plain_matcher : {E : Type 0} → (text_made_of : E → List ℕ) → matching.MatcherView E → PlainMatcherView
+abbrev pub plain_matcher : {E : Type 0} → (text_made_of : E → List ℕ) → matching.MatcherView E
+    → PlainMatcherView
 plain_matcher text_made_of matcher = record {
   prefix = matcher.prefix;
   suffix = matcher.suffix;
@@ -25,7 +28,8 @@ plain_matcher text_made_of matcher = record {
 }
 
 -- The plain value of a component.
-abbrev pub plain_component : {E : Type 0} → (text_made_of : E → List ℕ) → compiled.ComponentView E → PlainComponentView
+abbrev pub plain_component : {E : Type 0} → (text_made_of : E → List ℕ) → compiled.ComponentView E
+    → PlainComponentView
 plain_component text_made_of component = record {
   pattern_string = component.pattern_string;
   regexp_string = engine_text text_made_of component.regexp;

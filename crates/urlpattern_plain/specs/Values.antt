@@ -62,7 +62,16 @@ plain_component_view component = component_by string_bytes component
 
 -- The components of a pattern.
 abbrev pub component_patterns : UrlPattern → Eight UrlPatternComponent
-component_patterns pattern = record { protocol = pattern.protocol; username = pattern.username; password = pattern.password; hostname = pattern.hostname; port = pattern.port; pathname = pattern.pathname; search = pattern.search; hash = pattern.hash }
+component_patterns pattern = record {
+  protocol = pattern.protocol;
+  username = pattern.username;
+  password = pattern.password;
+  hostname = pattern.hostname;
+  port = pattern.port;
+  pathname = pattern.pathname;
+  search = pattern.search;
+  hash = pattern.hash;
+}
 
 -- A pattern: its components, and whether any has a custom regular expression.
 pub record PlainPatternView : Type 0 where

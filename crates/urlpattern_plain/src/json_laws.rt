@@ -16,9 +16,14 @@ pub fn reading_undoes_writing()
     ensures options { (options : UrlPatternOptions) → IsReadBack options_tree options_read options }
     ensures init { (values : InitView) → IsReadBack init_tree init_read values }
     ensures input { (input : InputView) → IsReadBack input_tree input_read input }
-    ensures match_input { (input : Eight (List ℕ)) → IsReadBack match_input_tree match_input_read input }
-    ensures inner { (value : PlainInnerView) → HasFilter value → IsReadBack inner_tree inner_read value }
-    ensures matcher { (value : PlainMatcherView) → HasFilter value.inner → IsReadBack matcher_tree matcher_read value }
-    ensures component { (value : PlainComponentView) → HasFilter value.matcher.inner → IsReadBack component_tree component_read value }
-    ensures pattern { (value : PlainPatternView) → HasFilters value → IsReadBack pattern_tree pattern_read value }
+    ensures match_input { (input : Eight (List ℕ))
+        → IsReadBack match_input_tree match_input_read input }
+    ensures inner { (value : PlainInnerView) → HasFilter value
+        → IsReadBack inner_tree inner_read value }
+    ensures matcher { (value : PlainMatcherView) → HasFilter value.inner
+        → IsReadBack matcher_tree matcher_read value }
+    ensures component { (value : PlainComponentView) → HasFilter value.matcher.inner
+        → IsReadBack component_tree component_read value }
+    ensures pattern { (value : PlainPatternView) → HasFilters value
+        → IsReadBack pattern_tree pattern_read value }
 {}

@@ -70,7 +70,9 @@ impl Matcher {
         alloc: Global,
         matcher: matcher::Matcher<R>,
     ) -> Result<Self, Error>
-        ensures plain { IfOk result (λ plain. matcher_by text_of plain ≡ plain_matcher R.text_made_of (compiled.matcher_view matcher)) }
+        ensures plain { IfOk result (λ plain.
+            matcher_by text_of plain
+            ≡ plain_matcher R.text_made_of (compiled.matcher_view matcher)) }
         ensures memory { OnlyOutOfMemory result }
     {
         let inner = InnerMatcher::from_inner(alloc, matcher.inner)?;
@@ -84,7 +86,8 @@ impl Matcher {
     /// Returns the JSON of the matcher: an object with `prefix`, `suffix` and `kind`, and the keys
     /// of its kind.
     pub fn to_json_value(&self, alloc: Global) -> Result<Value, Error>
-        ensures tree { IfOk result (λ tree. view tree ≡ matcher_tree (plain_matcher_view self.now)) }
+        ensures tree { IfOk result (λ tree.
+            view tree ≡ matcher_tree (plain_matcher_view self.now)) }
         ensures memory { OnlyOutOfMemory result }
     {
         let mut members = Map::new(alloc);
@@ -97,7 +100,8 @@ impl Matcher {
     /// Reads a matcher from JSON: an object with `prefix`, `suffix` and `kind`, and the keys of its
     /// kind. Other keys are ignored. `None`: the JSON has another shape.
     pub fn from_json_value(alloc: Global, value: &Value) -> Result<Option<Self>, Error>
-        ensures read { IfOk result (λ found. option_map plain_matcher_view found ≡ matcher_read (view value.now)) }
+        ensures read { IfOk result (λ found.
+            option_map plain_matcher_view found ≡ matcher_read (view value.now)) }
         ensures memory { OnlyOutOfMemory result }
     {
         read_or_none(Self::read(alloc, value))
@@ -122,7 +126,8 @@ impl InnerMatcher {
         alloc: Global,
         inner: matcher::InnerMatcher<R>,
     ) -> Result<Self, Error>
-        ensures plain { IfOk result (λ plain. inner_by text_of plain ≡ plain_inner R.text_made_of (compiled.inner_view inner)) }
+        ensures plain { IfOk result (λ plain.
+            inner_by text_of plain ≡ plain_inner R.text_made_of (compiled.inner_view inner)) }
         ensures memory { OnlyOutOfMemory result }
     {
         match inner {
@@ -153,7 +158,8 @@ impl InnerMatcher {
 
     /// Puts `kind`, and the keys of that kind, into an object.
     fn put_members(&self, members: &mut Map<String, Value>, alloc: Global) -> Result<(), AllocError>
-        ensures { OnOk result (GainAll members.old.entries members.new.entries (inner_members (plain_inner_view self.now))) }
+        ensures { OnOk result (GainAll members.old.entries members.new.entries
+            (inner_members (plain_inner_view self.now))) }
     {
         match self {
             InnerMatcher::Literal { literal } => {
@@ -178,7 +184,8 @@ impl InnerMatcher {
     /// Reads an inner matcher from JSON: an object with `kind`, and the keys of its kind. Other
     /// keys are ignored. `None`: the JSON has another shape.
     pub fn from_json_value(alloc: Global, value: &Value) -> Result<Option<Self>, Error>
-        ensures read { IfOk result (λ found. option_map plain_inner_view found ≡ inner_read (view value.now)) }
+        ensures read { IfOk result (λ found.
+            option_map plain_inner_view found ≡ inner_read (view value.now)) }
         ensures memory { OnlyOutOfMemory result }
     {
         read_or_none(Self::read(alloc, value))
@@ -221,7 +228,8 @@ pub(crate) fn engine_text<R: RegExp>(
     alloc: Global,
     engine: &Result<R, Error>,
 ) -> Result<String, Error>
-    ensures text { IfOk result (λ text. text_of text ≡ engine_text R.text_made_of (compiled.engine_view engine.now)) }
+    ensures text { IfOk result (λ text.
+        text_of text ≡ engine_text R.text_made_of (compiled.engine_view engine.now)) }
     ensures memory { OnlyOutOfMemory result }
 {
     match engine {

@@ -94,7 +94,8 @@ impl UrlPattern {
     /// Returns the JSON of the pattern: an object with a key for each component, and
     /// `hasRegexpGroups`.
     pub fn to_json_value(&self, alloc: Global) -> Result<Value, Error>
-        ensures tree { IfOk result (λ tree. view tree ≡ pattern_tree (plain_pattern_view self.now)) }
+        ensures tree { IfOk result (λ tree.
+            view tree ≡ pattern_tree (plain_pattern_view self.now)) }
         ensures memory { OnlyOutOfMemory result }
     {
         let mut members = Map::new(alloc);
@@ -109,7 +110,8 @@ impl UrlPattern {
     /// Reads a pattern from JSON: an object with a component for each key, and `hasRegexpGroups`.
     /// Other keys are ignored. `None`: the JSON has another shape.
     pub fn from_json_value(alloc: Global, value: &Value) -> Result<Option<Self>, Error>
-        ensures read { IfOk result (λ found. option_map plain_pattern_view found ≡ pattern_read (view value.now)) }
+        ensures read { IfOk result (λ found.
+            option_map plain_pattern_view found ≡ pattern_read (view value.now)) }
         ensures memory { OnlyOutOfMemory result }
     {
         read_or_none(Self::read(alloc, value))
@@ -142,7 +144,8 @@ impl UrlPattern {
 
 /// A copy has the same texts.
 impl Clone for UrlPatternComponent {
-    ghost is_clone = { λ component copy. plain_component_view copy ≡ plain_component_view component };
+    ghost is_clone = { λ component copy.
+        plain_component_view copy ≡ plain_component_view component };
 
     fn clone(&self) -> Result<Self, AllocError> {
         Ok(Self {
@@ -157,7 +160,9 @@ impl Clone for UrlPatternComponent {
 impl UrlPatternComponent {
     /// Returns the plain value of a component: the texts of its engines, empty for an error.
     pub fn from_component<R: RegExp>(alloc: Global, component: Component<R>) -> Result<Self, Error>
-        ensures plain { IfOk result (λ plain. component_by text_of plain ≡ plain_component R.text_made_of (compiled.component_view component)) }
+        ensures plain { IfOk result (λ plain.
+            component_by text_of plain
+            ≡ plain_component R.text_made_of (compiled.component_view component)) }
         ensures memory { OnlyOutOfMemory result }
     {
         let (pattern_string, regexp, group_name_list, matcher, _) = component.into_fields();
@@ -172,7 +177,8 @@ impl UrlPatternComponent {
     /// Returns the JSON of the component: an object with `patternString`, `regexpString`, `matcher`
     /// and `groupNameList`.
     pub fn to_json_value(&self, alloc: Global) -> Result<Value, Error>
-        ensures tree { IfOk result (λ tree. view tree ≡ component_tree (plain_component_view self.now)) }
+        ensures tree { IfOk result (λ tree.
+            view tree ≡ component_tree (plain_component_view self.now)) }
         ensures memory { OnlyOutOfMemory result }
     {
         let mut members = Map::new(alloc);
@@ -188,7 +194,8 @@ impl UrlPatternComponent {
     /// Reads a component from JSON: an object with `patternString`, `regexpString`, `matcher` and
     /// `groupNameList`. Other keys are ignored. `None`: the JSON has another shape.
     pub fn from_json_value(alloc: Global, value: &Value) -> Result<Option<Self>, Error>
-        ensures read { IfOk result (λ found. option_map plain_component_view found ≡ component_read (view value.now)) }
+        ensures read { IfOk result (λ found.
+            option_map plain_component_view found ≡ component_read (view value.now)) }
         ensures memory { OnlyOutOfMemory result }
     {
         read_or_none(Self::read(alloc, value))
@@ -214,7 +221,8 @@ fn put_component(
     name: &str,
     component: &UrlPatternComponent,
 ) -> Result<(), Error>
-    ensures put { OnOk result (Gain members.old.entries members.new.entries name.now (Some (component_tree (plain_component_view component.now)))) }
+    ensures put { OnOk result (Gain members.old.entries members.new.entries name.now
+        (Some (component_tree (plain_component_view component.now)))) }
     ensures memory { OnlyOutOfMemory result }
 {
     let tree = component.to_json_value(alloc)?;
@@ -223,14 +231,16 @@ fn put_component(
 
 /// The component of a member.
 fn component_field(alloc: Global, tree: &Value, name: &str) -> Result<UrlPatternComponent, Unread>
-    ensures { ReturnsRead plain_component_view result (member_read component_read name.now (view tree.now)) }
+    ensures { ReturnsRead plain_component_view result
+        (member_read component_read name.now (view tree.now)) }
 {
     UrlPatternComponent::read(alloc, member(tree, name)?)
 }
 
 /// The matcher of a member.
 fn matcher_field(alloc: Global, tree: &Value, name: &str) -> Result<Matcher, Unread>
-    ensures { ReturnsRead plain_matcher_view result (member_read matcher_read name.now (view tree.now)) }
+    ensures { ReturnsRead plain_matcher_view result
+        (member_read matcher_read name.now (view tree.now)) }
 {
     Matcher::read(alloc, member(tree, name)?)
 }

@@ -13,7 +13,8 @@ use urlpattern_inputs::json_reading::{Unread, member};
 
 /// Reads an optional member, a text of one character. `None`: the member is missing or null.
 pub(crate) fn optional_character_field(tree: &Value, name: &str) -> Result<Option<char>, Unread>
-    ensures { ReturnsRead (λ found. found) result (optional_read character_read name.now (view tree.now)) }
+    ensures { ReturnsRead (λ found. found) result
+        (optional_read character_read name.now (view tree.now)) }
 {
     let Some(member) = tree.get(name) else {
         return Ok(None);
@@ -44,7 +45,8 @@ fn only(text: &str) -> Option<char>
 
 /// The texts of a member.
 pub(crate) fn texts_field(alloc: Global, tree: &Value, name: &str) -> Result<Vec<String>, Unread>
-    ensures { ReturnsRead (λ texts. map string_bytes texts.items) result (member_read texts_read name.now (view tree.now)) }
+    ensures { ReturnsRead (λ texts. map string_bytes texts.items) result
+        (member_read texts_read name.now (view tree.now)) }
 {
     match member(tree, name)?.as_array() {
         Some(items) => texts_of(alloc, items),
@@ -54,7 +56,8 @@ pub(crate) fn texts_field(alloc: Global, tree: &Value, name: &str) -> Result<Vec
 
 /// The texts of an array, if each item is a string.
 fn texts_of(alloc: Global, items: &Vec<Value>) -> Result<Vec<String>, Unread>
-    ensures { ReturnsRead (λ texts. map string_bytes texts.items) result (texts_of_items (items_view items.now.items)) }
+    ensures { ReturnsRead (λ texts. map string_bytes texts.items) result
+        (texts_of_items (items_view items.now.items)) }
 {
     let mut texts = Vec::with_capacity(alloc, items.len())?;
     for item in items {

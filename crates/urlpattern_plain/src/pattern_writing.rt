@@ -24,7 +24,8 @@ pub(crate) fn filter_value(alloc: Global, filter: Option<char>) -> Result<Value,
 
 /// An array of strings.
 pub(crate) fn texts_value(alloc: Global, texts: &Vec<String>) -> Result<Value, AllocError>
-    ensures { IfOk result (λ tree. view tree ≡ array (items_of (map string (map string_bytes texts.now.items)))) }
+    ensures { IfOk result (λ tree.
+        view tree ≡ array (items_of (map string (map string_bytes texts.now.items)))) }
 {
     let mut items = Vec::with_capacity(alloc, texts.len())?;
     for text in texts {

@@ -11,4 +11,6 @@ HasGeneratedMeaning regexp options parts = AreGenerated parts → HasMeaningOf r
 
 -- Each meaning of the parts has `count` captures.
 abbrev pub HaveCaptures : OptionsView → List PartView → (count : ℕ) → Type 0
-HaveCaptures options parts count = (text : List ℕ) (captures : Captures) → PartsMean options parts text captures → length captures ≡ count
+HaveCaptures options parts count =
+    (text : List ℕ) (captures : Captures) → PartsMean options parts text captures
+    → length captures ≡ count

@@ -14,7 +14,8 @@ use Rattle.urlpattern_syntax.specs.Reading.{Encoding, Reads, Rejects}
 -- If the parts are printable, the text reads back under any encoding that keeps their texts.
 abbrev pub ReadsBackIfKept : (text : List ℕ) → OptionsView → List PartView → Type 0
 ReadsBackIfKept text options parts =
-    (answers : EncodingResults) → IsPrintable options parts → Keeps (listed answers) parts → ReadsBack text options (listed answers) parts
+    (answers : EncodingResults) → IsPrintable options parts → Keeps (listed answers) parts
+    → ReadsBack text options (listed answers) parts
 
 -- If the parts are printable and the encoding changes none of their texts, `normal` is the parts
 -- with neighbouring plain fixed texts joined.
@@ -24,12 +25,15 @@ IsJoinedIfKept options encoding parts normal =
 
 -- If the parts are printable, the error is that of one of their texts, or that memory ran out.
 abbrev pub FailsIfPrintable : OptionsView → Encoding → List PartView → Error → Type 0
-FailsIfPrintable options encoding parts error = IsPrintable options parts → MemoryOr (FailsText encoding (encoded_texts (joined parts))) error
+FailsIfPrintable options encoding parts error =
+    IsPrintable options parts → MemoryOr (FailsText encoding (encoded_texts (joined parts))) error
 
 -- The pattern text of the parts reads as `normal`.
 abbrev pub IsReadFrom : OptionsView → Encoding → List PartView → Vec Part Global → Type 0
-IsReadFrom options encoding parts normal = Reads (printed options parts) options encoding (parts_view normal.items)
+IsReadFrom options encoding parts normal =
+    Reads (printed options parts) options encoding (parts_view normal.items)
 
 -- The pattern text of the parts is rejected with this error, or memory ran out.
 abbrev pub RejectsPrinted : OptionsView → Encoding → List PartView → Error → Type 0
-RejectsPrinted options encoding parts error = MemoryOr (Rejects (printed options parts) options encoding) error
+RejectsPrinted options encoding parts error =
+    MemoryOr (Rejects (printed options parts) options encoding) error

@@ -11,19 +11,24 @@ use Rattle.urlpattern_syntax.specs.RegexpText.{affixed_regexp, bare_regexp, esca
 
 -- The value with its special characters escaped.
 abbrev pub escaped_value : PartRegexp → List ℕ
-escaped_value regexp = escaped_regexp (options_view regexp.options.now) (text_of regexp.part.now.value)
+escaped_value regexp =
+    escaped_regexp (options_view regexp.options.now) (text_of regexp.part.now.value)
 
 -- The prefix with its special characters escaped.
 abbrev pub escaped_prefix : PartRegexp → List ℕ
-escaped_prefix regexp = escaped_regexp (options_view regexp.options.now) (text_of regexp.part.now.prefix)
+escaped_prefix regexp =
+    escaped_regexp (options_view regexp.options.now) (text_of regexp.part.now.prefix)
 
 -- The suffix with its special characters escaped.
 abbrev pub escaped_suffix : PartRegexp → List ℕ
-escaped_suffix regexp = escaped_regexp (options_view regexp.options.now) (text_of regexp.part.now.suffix)
+escaped_suffix regexp =
+    escaped_regexp (options_view regexp.options.now) (text_of regexp.part.now.suffix)
 
 -- The regular expression of one copy of the part, without prefix and suffix.
 abbrev pub matched_text : PartRegexp → List ℕ
-matched_text regexp = matched_by (options_view regexp.options.now) regexp.part.now.kind (text_of regexp.part.now.value)
+matched_text regexp =
+    matched_by (options_view regexp.options.now) regexp.part.now.kind
+    (text_of regexp.part.now.value)
 
 -- The regular expression of a fixed text.
 abbrev pub fixed_part : PartRegexp → List ℕ
@@ -35,10 +40,14 @@ bare_part regexp = bare_regexp regexp.part.now.modifier (matched_text regexp)
 
 -- The regular expression of a group with a prefix or a suffix.
 abbrev pub affixed_part : PartRegexp → List ℕ
-affixed_part regexp = affixed_regexp regexp.part.now.modifier (escaped_prefix regexp) (matched_text regexp) (escaped_suffix regexp)
+affixed_part regexp =
+    affixed_regexp regexp.part.now.modifier (escaped_prefix regexp) (matched_text regexp)
+    (escaped_suffix regexp)
 
 -- ---- in the pattern text
 
 -- The text of a part that is not a fixed text, between its neighbours.
 abbrev pub group_part : PrintedPart → (braces : Bool) → List ℕ
-group_part printed braces = printed_group (options_view printed.options.now) (neighbour printed.previous) (part_view printed.part.now) braces
+group_part printed braces =
+    printed_group (options_view printed.options.now) (neighbour printed.previous)
+    (part_view printed.part.now) braces

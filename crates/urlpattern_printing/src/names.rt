@@ -21,10 +21,15 @@ pub fn generate_regular_expression_and_name_list(
     part_list: &[Part],
     options: &Options,
 ) -> Result<(String, Vec<String>), Error>
-    ensures text { IfOk result (λ found. text_of found.0 ≡ regexp_text (options_view options.now) (parts_view part_list.now)) }
-    ensures names { IfOk result (λ found. map (λ name. text_of name) found.1.items ≡ group_names (parts_view part_list.now)) }
-    ensures meaning { IfOk result (λ found. HasGeneratedMeaning (text_of found.0) (options_view options.now) (parts_view part_list.now)) }
-    ensures captures { IfOk result (λ found. HaveCaptures (options_view options.now) (parts_view part_list.now) (length found.1.items)) }
+    ensures text { IfOk result (λ found.
+        text_of found.0 ≡ regexp_text (options_view options.now) (parts_view part_list.now)) }
+    ensures names { IfOk result (λ found.
+        map (λ name. text_of name) found.1.items ≡ group_names (parts_view part_list.now)) }
+    ensures meaning { IfOk result (λ found.
+        HasGeneratedMeaning (text_of found.0) (options_view options.now)
+        (parts_view part_list.now)) }
+    ensures captures { IfOk result (λ found.
+        HaveCaptures (options_view options.now) (parts_view part_list.now) (length found.1.items)) }
     ensures memory { OnlyOutOfMemory result }
 {
     let text = generate_regular_expression(alloc, part_list, options)?;
@@ -34,7 +39,8 @@ pub fn generate_regular_expression_and_name_list(
 
 /// Returns the names of the groups of a list of parts, in order.
 pub fn generate_name_list(alloc: Global, part_list: &[Part]) -> Result<Vec<String>, AllocError>
-    ensures { IfOk result (λ found. map (λ name. text_of name) found.items ≡ group_names (parts_view part_list.now)) }
+    ensures { IfOk result (λ found.
+        map (λ name. text_of name) found.items ≡ group_names (parts_view part_list.now)) }
 {
     let count = part_list.iter().filter(|part| is_group(part)).count();
     let mut names = Vec::with_capacity(alloc, count)?;

@@ -33,8 +33,10 @@ pub fn generate_pattern_string(
     part_list: &[Part],
     options: &Options,
 ) -> Result<String, Error>
-    ensures text { IfOk result (λ text. text_of text ≡ printed (options_view options.now) (parts_view part_list.now)) }
-    ensures reads_back { IfOk result (λ text. ReadsBackIfKept (text_of text) (options_view options.now) (parts_view part_list.now)) }
+    ensures text { IfOk result (λ text.
+        text_of text ≡ printed (options_view options.now) (parts_view part_list.now)) }
+    ensures reads_back { IfOk result (λ text.
+        ReadsBackIfKept (text_of text) (options_view options.now) (parts_view part_list.now)) }
     ensures memory { OnlyOutOfMemory result }
 {
     Ok(written(alloc, &PrintedText { part_list, options })?)
@@ -48,7 +50,8 @@ struct PrintedText<'a> {
 }
 
 impl Writable for PrintedText<'_> {
-    ghost text = { λ list. printed (options_view list.options.now) (parts_view list.part_list.now) };
+    ghost text = { λ list.
+        printed (options_view list.options.now) (parts_view list.part_list.now) };
 
     fn write_to<W: Writer>(&self, writer: &mut W) {
         let options = self.options;
@@ -79,7 +82,9 @@ struct PrintedPart<'a> {
 }
 
 impl Writable for PrintedPart<'_> {
-    ghost text = { λ printed. printed_part (options_view printed.options.now) (neighbour printed.previous) (part_view printed.part.now) (neighbour printed.next) };
+    ghost text = { λ printed.
+        printed_part (options_view printed.options.now) (neighbour printed.previous)
+        (part_view printed.part.now) (neighbour printed.next) };
 
     fn write_to<W: Writer>(&self, writer: &mut W) {
         match self.part.kind {
@@ -179,7 +184,9 @@ struct PrintedBody<'a> {
 }
 
 impl Writable for PrintedBody<'_> {
-    ghost text = { λ matched. let part = part_view matched.part.now in printed_match (options_view matched.options.now) part.kind part matched.asterisk };
+    ghost text = { λ matched.
+        let part = part_view matched.part.now in
+        printed_match (options_view matched.options.now) part.kind part matched.asterisk };
 
     fn write_to<W: Writer>(&self, writer: &mut W) {
         match self.part.kind {
@@ -220,21 +227,28 @@ fn needs_grouping(
     part: &Part,
     next: Option<&Part>,
 ) -> bool
-    ensures { result ≡ needs_braces (options_view options.now) (neighbour previous.entry) (part_view part.now) (neighbour next.entry) }
+    ensures { result
+        ≡ needs_braces (options_view options.now) (neighbour previous.entry) (part_view part.now)
+        (neighbour next.entry) }
 {
     needs_grouping_before(options, part, next) || absorbs_before(options, previous, part)
 }
 
 /// Whether the part needs braces before this next part, whatever is before the part.
 fn needs_grouping_before(options: &Options, part: &Part, next: Option<&Part>) -> bool
-    ensures { result ≡ (has_suffix (part_view part.now) || has_other_prefix (options_view options.now) (part_view part.now) || absorbs_next (part_view part.now) (neighbour next.entry)) }
+    ensures { result
+        ≡ (has_suffix (part_view part.now)
+        || has_other_prefix (options_view options.now) (part_view part.now)
+        || absorbs_next (part_view part.now) (neighbour next.entry)) }
 {
     has_other_ends(options, part) || absorbs_next(part, next)
 }
 
 /// Whether the part has a suffix, or a prefix that is not the prefix code point.
 fn has_other_ends(options: &Options, part: &Part) -> bool
-    ensures { result ≡ (has_suffix (part_view part.now) || has_other_prefix (options_view options.now) (part_view part.now)) }
+    ensures { result
+        ≡ (has_suffix (part_view part.now)
+        || has_other_prefix (options_view options.now) (part_view part.now)) }
 {
     !part.suffix.is_empty() || has_other_prefix(options, part)
 }
@@ -273,7 +287,9 @@ fn continues_name(part: &Part) -> bool
 
 /// Whether the part would take the end of a fixed text before it as its prefix.
 fn absorbs_before(options: &Options, previous: Option<&Part>, part: &Part) -> bool
-    ensures { result ≡ absorbs_before (options_view options.now) (neighbour previous.entry) (part_view part.now) }
+    ensures { result
+        ≡ absorbs_before (options_view options.now) (neighbour previous.entry)
+        (part_view part.now) }
 {
     match previous {
         Some(previous) => part.prefix.is_empty() && leaves_prefix(options, previous),
@@ -283,7 +299,9 @@ fn absorbs_before(options: &Options, previous: Option<&Part>, part: &Part) -> bo
 
 /// Whether the part is a fixed text that ends with the prefix code point.
 fn leaves_prefix(options: &Options, part: &Part) -> bool
-    ensures { result ≡ (is_fixed_text part.now.kind && ends_with_prefix (options_view options.now) (text_of part.now.value)) }
+    ensures { result
+        ≡ (is_fixed_text part.now.kind
+        && ends_with_prefix (options_view options.now) (text_of part.now.value)) }
 {
     part.kind == PartType::FixedText && ends_with_prefix(options, &part.value)
 }
@@ -320,7 +338,9 @@ fn admits_asterisk(previous: Option<&Part>) -> bool
 
 /// Whether the part is a name alone that would go on with the beginning of its suffix.
 fn continues_name_with_suffix(part: &Part) -> bool
-    ensures { result ≡ (is_name_alone (part_view part.now) && begins_with is_name_part (text_of part.now.suffix)) }
+    ensures { result
+        ≡ (is_name_alone (part_view part.now)
+        && begins_with is_name_part (text_of part.now.suffix)) }
 {
     is_name_alone(part) && begins_with_name_part(&part.suffix)
 }

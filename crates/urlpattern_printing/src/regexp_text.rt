@@ -22,7 +22,8 @@ pub fn generate_regular_expression(
     part_list: &[Part],
     options: &Options,
 ) -> Result<String, AllocError>
-    ensures { IfOk result (λ text. text_of text ≡ regexp_text (options_view options.now) (parts_view part_list.now)) }
+    ensures { IfOk result (λ text.
+        text_of text ≡ regexp_text (options_view options.now) (parts_view part_list.now)) }
 {
     written(alloc, &RegexpText { part_list, options })
 }
@@ -59,7 +60,8 @@ struct RegexpText<'a> {
 }
 
 impl Writable for RegexpText<'_> {
-    ghost text = { λ list. regexp_text (options_view list.options.now) (parts_view list.part_list.now) };
+    ghost text = { λ list.
+        regexp_text (options_view list.options.now) (parts_view list.part_list.now) };
 
     fn write_to<W: Writer>(&self, writer: &mut W) {
         writer.write_char('^');
@@ -79,7 +81,8 @@ struct PartRegexp<'a> {
 }
 
 impl Writable for PartRegexp<'_> {
-    ghost text = { λ regexp. part_regexp (options_view regexp.options.now) (part_view regexp.part.now) };
+    ghost text = { λ regexp.
+        part_regexp (options_view regexp.options.now) (part_view regexp.part.now) };
 
     fn write_to<W: Writer>(&self, writer: &mut W) {
         match self.part.kind {
@@ -175,7 +178,9 @@ impl Writable for RegexpBody<'_> {
 struct Single<'a>(PartRegexp<'a>);
 
 impl Writable for Single<'_> {
-    ghost text = { λ single. grouped (escaped_prefix single.0 ++ captured (matched_text single.0) ++ escaped_suffix single.0) };
+    ghost text = { λ single.
+        grouped
+        (escaped_prefix single.0 ++ captured (matched_text single.0) ++ escaped_suffix single.0) };
 
     fn write_to<W: Writer>(&self, writer: &mut W) {
         let matched = Captured(RegexpBody(self.0));
@@ -189,7 +194,9 @@ impl Writable for Single<'_> {
 struct Repeated<'a>(PartRegexp<'a>);
 
 impl Writable for Repeated<'_> {
-    ghost text = { λ repeated. repeated_regexp (escaped_prefix repeated.0) (matched_text repeated.0) (escaped_suffix repeated.0) };
+    ghost text = { λ repeated.
+        repeated_regexp (escaped_prefix repeated.0) (matched_text repeated.0)
+        (escaped_suffix repeated.0) };
 
     fn write_to<W: Writer>(&self, writer: &mut W) {
         let (prefix, suffix) = (self.0.prefix(), self.0.suffix());

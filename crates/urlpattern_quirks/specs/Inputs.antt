@@ -48,41 +48,51 @@ HasInitAndBase input base = ⊥
 -- The init that a pattern is constructed from; the crate `regex` decides which protocols are
 -- special.
 abbrev pub IsConstructedFrom : StringOrInit → (base : Option (List ℕ)) → UrlPatternInit → Type 0
-IsConstructedFrom (inputs.String text) base init = IsInitOfText regex_engine (chars (cow_str_bytes text)) base init
+IsConstructedFrom (inputs.String text) base init =
+    IsInitOfText regex_engine (chars (cow_str_bytes text)) base init
 IsConstructedFrom (inputs.Init plain) None init = IsInitOf plain init
 IsConstructedFrom (inputs.Init plain) (Some base) init = ⊥
 
 -- The input is rejected with this error.
 abbrev pub RejectsInput : StringOrInit → (base : Option (List ℕ)) → ErrorView → Type 0
 RejectsInput (inputs.String text) base error = RejectsText (chars (cow_str_bytes text)) base error
-RejectsInput (inputs.Init plain) None error = Reports (parsed_base (plain_base plain)) (text_bytes (plain_base plain)) error
+RejectsInput (inputs.Init plain) None error =
+    Reports (parsed_base (plain_base plain)) (text_bytes (plain_base plain)) error
 RejectsInput (inputs.Init plain) (Some base) error = error ≡ views.BaseUrlWithInit
 
 -- ---- matching
 
 -- What a pattern is matched against: the URL of a text, or an init.
 abbrev pub IsMatchInput : StringOrInit → (base : Option (List ℕ)) → UrlPatternMatchInput → Type 0
-IsMatchInput (inputs.String text) base (match_inputs.Url url) = parsed_text base (cow_str_bytes text) ≡ Ok url
+IsMatchInput (inputs.String text) base (match_inputs.Url url) =
+    parsed_text base (cow_str_bytes text) ≡ Ok url
 IsMatchInput (inputs.Init plain) None (match_inputs.Init init) = IsInitOf plain init
 IsMatchInput input base matched = ⊥
 
 -- The input again, with the text of the base URL.
-pub record AreInputs (input : StringOrInit) (base : Option (List ℕ)) (again : StringOrInit × Option (String Global)) : Type 0 where
+pub record AreInputs (input : StringOrInit) (base : Option (List ℕ))
+    (again : StringOrInit × Option (String Global)) : Type 0 where
   pub same_input : input_view again.0 ≡ input_view input
   pub same_base : option_map text_of again.1 ≡ option_map chars base
 
 -- What a pattern is matched against, and the input again.
-abbrev pub IsProcessed : StringOrInit → (base : Option (List ℕ)) → UrlPatternMatchInput × (StringOrInit × Option (String Global)) → Type 0
+abbrev pub IsProcessed : StringOrInit
+    → (base : Option (List ℕ)) → UrlPatternMatchInput × (StringOrInit × Option (String Global))
+    → Type 0
 IsProcessed input base found = IsMatchInput input base found.0 × AreInputs input base found.1
 
 -- `url` rejects the text of the input, or the base URL.
 abbrev pub IsNoInputOf : StringOrInit → (base : Option (List ℕ)) → Type 0
 IsNoInputOf (inputs.String text) base = IsRejectedText (cow_str_bytes text) base
-IsNoInputOf (inputs.Init plain) None = IsRejectedByUrl (parsed_base (plain_base plain)) (text_bytes (plain_base plain))
+IsNoInputOf (inputs.Init plain) None =
+    IsRejectedByUrl (parsed_base (plain_base plain)) (text_bytes (plain_base plain))
 IsNoInputOf (inputs.Init plain) (Some base) = ⊥
 
 -- What a pattern is matched against, with the input again; `None` if a URL is rejected.
-abbrev pub FindsInput : StringOrInit → (base : Option (List ℕ)) → Option (UrlPatternMatchInput × (StringOrInit × Option (String Global))) → Type 0
+abbrev pub FindsInput : StringOrInit
+    → (base : Option (List ℕ))
+    → Option (UrlPatternMatchInput × (StringOrInit × Option (String Global)))
+    → Type 0
 FindsInput input base found = MatchOption found (IsNoInputOf input base) (IsProcessed input base)
 
 -- The error is that of a base URL passed with an init.

@@ -16,20 +16,24 @@ use Rattle.urlpattern_syntax.specs.Errors.{OnlyOutOfMemory}
 use Rattle.urlpattern_syntax.specs.declared.error.Error.{Error}
 
 -- The result is the plain value of a component, unless memory ran out.
-pub record IsPlainOf {E : Type 0} (text_made_of : E → List ℕ) (component : Component E) (result : Result UrlPatternComponent Error) : Type 0 where
-  pub plain : IfOk result (λ value. plain.component_by text_of value ≡ plain_component text_made_of (component_view component))
+pub record IsPlainOf {E : Type 0} (text_made_of : E → List ℕ) (component : Component E)
+    (result : Result UrlPatternComponent Error) : Type 0 where
+  pub plain : IfOk result (λ value.
+      plain.component_by text_of value ≡ plain_component text_made_of (component_view component))
   pub memory : OnlyOutOfMemory result
 
 -- The plain value of a pattern: that of each component, and whether any has a custom regular
 -- expression.
-abbrev pub plain_pattern : {E : Type 0} → (text_made_of : E → List ℕ) → PatternView E → plain.PlainPatternView
+abbrev pub plain_pattern : {E : Type 0} → (text_made_of : E → List ℕ) → PatternView E
+    → plain.PlainPatternView
 plain_pattern text_made_of pattern = record {
   components = each (λ name. plain_component text_made_of (pattern name));
   has_regexp_groups = has_regexp_groups pattern;
 }
 
 -- The value is the plain value of a pattern to which the init is compiled.
-abbrev pub IsPlainOfInit : {E : Type 0} → Engine E → UrlPatternInit → UrlPatternOptions → UrlPattern → Type 0
+abbrev pub IsPlainOfInit : {E : Type 0} → Engine E → UrlPatternInit → UrlPatternOptions → UrlPattern
+    → Type 0
 IsPlainOfInit {E} engine init asked value =
     (compiled : PatternView E) × IsPatternOfInit engine init asked compiled
     × (plain.pattern_by text_of value ≡ plain_pattern engine.text_made_of compiled)

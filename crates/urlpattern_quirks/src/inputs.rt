@@ -32,8 +32,10 @@ pub fn process_construct_pattern_input(
     input: StringOrInit<'_>,
     base_url: Option<&str>,
 ) -> Result<init::UrlPatternInit, Error>
-    ensures constructed { IfOk result (IsConstructedFrom input.entry (option_copied base_url.entry)) }
-    ensures refused { IfErr result (MemoryOr (RejectsInput input.entry (option_copied base_url.entry))) }
+    ensures constructed { IfOk result
+        (IsConstructedFrom input.entry (option_copied base_url.entry)) }
+    ensures refused { IfErr result
+        (MemoryOr (RejectsInput input.entry (option_copied base_url.entry))) }
 {
     match input {
         StringOrInit::String(text) => init_of_text::<Regex>(alloc, text.as_str(), base_url),
@@ -47,7 +49,8 @@ pub fn process_construct_pattern_input(
 /// Converts a plain init, and parses its base URL.
 fn init_of(alloc: Global, init: UrlPatternInit) -> Result<init::UrlPatternInit, Error>
     ensures init { IfOk result (IsInitOf init) }
-    ensures refused { IfErr result (MemoryOr (Reports (parsed_base (plain_base init)) (text_bytes (plain_base init)))) }
+    ensures refused { IfErr result
+        (MemoryOr (Reports (parsed_base (plain_base init)) (text_bytes (plain_base init)))) }
 {
     let base_url = parse_base(alloc, init.base_url.as_deref())?;
     Ok(init::UrlPatternInit::from_eight(init.into_eight(), base_url))
@@ -65,7 +68,8 @@ pub fn process_match_input<'a>(
     base_url: Option<&str>,
 ) -> Result<Option<(UrlPatternMatchInput, Inputs<'a>)>, Error>
     ensures found { IfOk result (FindsInput input.entry (option_copied base_url.entry)) }
-    ensures refused { IfErr result (MemoryOr (RejectsSecondBase input.entry (option_copied base_url.entry))) }
+    ensures refused { IfErr result
+        (MemoryOr (RejectsSecondBase input.entry (option_copied base_url.entry))) }
 {
     match input {
         StringOrInit::String(text) => match_text(alloc, text, base_url),
@@ -83,7 +87,8 @@ fn match_text<'a>(
     text: CowStr<'a>,
     base_url: Option<&str>,
 ) -> Result<Option<(UrlPatternMatchInput, Inputs<'a>)>, Error>
-    ensures found { IfOk result (FindsInput (plain_inputs.String text.entry) (option_copied base_url.entry)) }
+    ensures found { IfOk result
+        (FindsInput (plain_inputs.String text.entry) (option_copied base_url.entry)) }
     ensures memory { OnlyOutOfMemory result }
 {
     let Some(url) = find_url(alloc, text.as_str(), base_url)? else {

@@ -43,7 +43,8 @@ pub fn parse_pattern_as_lib<R: RegExp>(
 ) -> Result<pattern::UrlPattern<R>, Error>
     ensures compiled { IfPattern result (IsPatternOfInit R.RegExp init options) }
     ensures kept { IfOk result (KeepsPartsOf R.RegExp init options) }
-    ensures by_text { MakesFirstWays R.RegExp → IfPattern result (ReturnsByItsText R.answer init options) }
+    ensures by_text { MakesFirstWays R.RegExp
+        → IfPattern result (ReturnsByItsText R.answer init options) }
     ensures refused { IfErr result (MemoryOr (RejectsInit R.RegExp init options)) }
 {
     pattern::UrlPattern::parse(alloc, init, options)
@@ -54,7 +55,8 @@ fn plain_pattern<R: RegExp>(
     alloc: Global,
     pattern: pattern::UrlPattern<R>,
 ) -> Result<UrlPattern, Error>
-    ensures plain { IfOk result (λ plain. pattern_by text_of plain ≡ plain_pattern R.text_made_of (pattern_view pattern)) }
+    ensures plain { IfOk result (λ plain.
+        pattern_by text_of plain ≡ plain_pattern R.text_made_of (pattern_view pattern)) }
     ensures memory { OnlyOutOfMemory result }
 {
     let has_regexp_groups = pattern.has_regexp_groups();

@@ -17,19 +17,23 @@ abbrev pub EndsWith : {A : Type 0} → (whole end : List A) → Type 0
 EndsWith whole end = (front : List _) × (whole ≡ front ++ end)
 
 -- A state of a match: the remaining steps and the remaining text.
-pub record IsStateOf (ignore_case : Bool) (whole : Whole) (steps : List Step) (text : List ℕ) : Type 0 where
+pub record IsStateOf (ignore_case : Bool) (whole : Whole) (steps : List Step) (text : List ℕ) : Type
+    0 where
   pub of_case : whole.ignore_case ≡ ignore_case
   pub of_steps : EndsWith whole.steps steps
   pub of_text : EndsWith whole.text text
 
 -- A failed state of a match: the steps do not match the text.
 abbrev pub IsFailedState : Whole → List Step → (text : List ℕ) → Type 0
-IsFailedState whole steps text = (ignore_case : Bool) × IsStateOf ignore_case whole steps text × (walk ignore_case steps text ≡ None)
+IsFailedState whole steps text =
+    (ignore_case : Bool) × IsStateOf ignore_case whole steps text
+    × (walk ignore_case steps text ≡ None)
 
 -- If the state is memoized, it has failed: the steps do not match the text.
 abbrev pub HoldsOnlyFailed : Whole → List Step → (text : List ℕ) → (is_remembered : Bool) → Type 0
 HoldsOnlyFailed whole steps text is_remembered =
-    (ignore_case : Bool) → IsStateOf ignore_case whole steps text → IsTrue is_remembered → walk ignore_case steps text ≡ None
+    (ignore_case : Bool) → IsStateOf ignore_case whole steps text → IsTrue is_remembered
+    → walk ignore_case steps text ≡ None
 
 -- The index of the bit of a state.
 abbrev pub bit_of : (whole : List ℕ) → List Step → (text : List ℕ) → ℕ
@@ -41,14 +45,22 @@ HasBit bits bit = bit_at (slice_index bits (bit / 64)) (bit % 64) ≡ 1
 
 -- Each state whose bit is set has failed.
 abbrev pub AreFailed : Whole → (bits : List ℕ) → Type 0
-AreFailed whole bits = (steps : List Step) (text : List ℕ) → IsStateOf whole.ignore_case whole steps text → HasBit bits (bit_of whole.text steps text) → walk whole.ignore_case steps text ≡ None
+AreFailed whole bits =
+    (steps : List Step) (text : List ℕ) → IsStateOf whole.ignore_case whole steps text
+    → HasBit bits (bit_of whole.text steps text)
+    → walk whole.ignore_case steps text ≡ None
 
 -- A run without `end`, the first of the steps, ends here, or its state here has failed.
 abbrev pub HasEnded : (ignore_case : Bool) (end : ℕ) → List Step → (text : List ℕ) → Type 0
-HasEnded ignore_case end steps text = (up_to_first ignore_case end text ≡ []) ⊎ (walk ignore_case steps text ≡ None)
+HasEnded ignore_case end steps text =
+    (up_to_first ignore_case end text ≡ []) ⊎ (walk ignore_case steps text ≡ None)
 
 -- `front` is a run without `end` at the start of the text, and a run, the first of the steps, has
 -- ended after it.
-abbrev pub IsPrefixOfRun : (ignore_case : Bool) (end : ℕ) → List Step → (text front : List ℕ) → Type 0
+abbrev pub IsPrefixOfRun : (ignore_case : Bool) (end : ℕ) → List Step
+    → (text front : List ℕ) → Type 0
 IsPrefixOfRun ignore_case end steps text front =
-    (rest : List ℕ) × IsUtf8 rest × (text ≡ front ++ rest) × (up_to_first ignore_case end (chars front) ≡ chars front) × HasEnded ignore_case end steps (chars rest)
+    (rest : List ℕ) × IsUtf8 rest
+    × (text ≡ front ++ rest)
+    × (up_to_first ignore_case end (chars front) ≡ chars front)
+    × HasEnded ignore_case end steps (chars rest)

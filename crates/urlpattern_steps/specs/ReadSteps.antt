@@ -20,9 +20,12 @@ use Rattle.urlpattern_syntax.specs.Text.{is_among, line_feed, BeginsWith}
 -- ---- characters
 
 -- The text begins with a spelling of `c` that `Is` permits, followed by `rest`.
-abbrev pub BeginsWithCharacter : (Is : Character → Type 0) → (text : List ℕ) → (c : ℕ) → (rest : List ℕ) → Type 0
+abbrev pub BeginsWithCharacter : (Is : Character → Type 0) → (text : List ℕ)
+    → (c : ℕ) → (rest : List ℕ) → Type 0
 BeginsWithCharacter Is text c rest =
-    (character : Character) × Is character × (character_of character ≡ c) × (text ≡ character_text character ++ rest)
+    (character : Character) × Is character
+    × (character_of character ≡ c)
+    × (text ≡ character_text character ++ rest)
 
 -- `read` has the value `it` and the remaining text `rest`.
 abbrev pub IsRead : {A : Type 0} → Option (A × Bor (List ℕ)) → A → (rest : List ℕ) → Type 0
@@ -57,7 +60,9 @@ IsRunStep end false step = step ≡ LazyRun end
 
 -- `found` is the run of the step, if the step is one of a run.
 abbrev pub FindsRun : Step → Option (ℕ × Bool) → Type 0
-FindsRun step found = (end : ℕ) (is_greedy : Bool) → IsRunStep end is_greedy step → IsSomeAnd found (λ run. (run.0 ≡ end) × (run.1 ≡ is_greedy))
+FindsRun step found =
+    (end : ℕ) (is_greedy : Bool) → IsRunStep end is_greedy step
+    → IsSomeAnd found (λ run. (run.0 ≡ end) × (run.1 ≡ is_greedy))
 
 -- `may_be_empty` says whether a repeat of a run may be empty: under `*` it may, and under `+` if
 -- the run itself may, that is, if it is greedy. Other quantifiers do not repeat a run.
@@ -68,12 +73,16 @@ AllowsEmptyRun is_greedy quantifier may_be_empty = ⊥
 
 -- The step matches what the atom matches.
 abbrev pub IsStepOf : Step → Atom → Type 0
-IsStepOf (Literal c) atom = (character : Character) × (character_of character ≡ c) × (atom ≡ dialect.Literal character)
-IsStepOf (LazyRun c) atom = (one : Atom) × IsAllBut c one × (atom ≡ Captured (Item one LazyOneOrMore Nothing))
+IsStepOf (Literal c) atom =
+    (character : Character) × (character_of character ≡ c) × (atom ≡ dialect.Literal character)
+IsStepOf (LazyRun c) atom =
+    (one : Atom) × IsAllBut c one × (atom ≡ Captured (Item one LazyOneOrMore Nothing))
 IsStepOf DotStar atom = atom ≡ Captured (Item Dot ZeroOrMore Nothing)
 IsStepOf (OptionalGroup group) atom = ⊥
 IsStepOf (GreedyRun run) atom =
-    (items : Items) × (is_greedy : Bool) × (quantifier : Quantifier) × IsRunOf run.end is_greedy items × AllowsEmptyRun is_greedy quantifier run.may_be_empty
+    (items : Items) × (is_greedy : Bool)
+    × (quantifier : Quantifier) × IsRunOf run.end is_greedy items
+    × AllowsEmptyRun is_greedy quantifier run.may_be_empty
     × (atom ≡ Captured (Item (Grouped items) quantifier Nothing))
 IsStepOf (RepeatedLiteral copies) atom = ⊥
 IsStepOf (Segments segments) atom = ⊥
@@ -85,26 +94,33 @@ SpellsStep step text = (atom : Atom) × IsAtom atom × IsStepOf step atom × (te
 -- The text begins with the body of a capturing group of this step, followed by `rest`.
 abbrev pub BeginsWithCaptured : (text : List ℕ) → Step → (rest : List ℕ) → Type 0
 BeginsWithCaptured text step rest =
-    (items : Items) × AreItems items × IsStepOf step (Captured items) × (text ≡ items_text items ++ rest)
+    (items : Items) × AreItems items
+    × IsStepOf step (Captured items)
+    × (text ≡ items_text items ++ rest)
 
 -- Each body of a capturing group that the text begins with is read.
 abbrev pub ReadsCaptured : (text : List ℕ) → Option (Step × Bor (List ℕ)) → Type 0
-ReadsCaptured text read = (step : Step) (rest : List ℕ) → BeginsWithCaptured text step rest → IsRead read step rest
+ReadsCaptured text read =
+    (step : Step) (rest : List ℕ) → BeginsWithCaptured text step rest → IsRead read step rest
 
 -- Each run that the text begins with is read.
 abbrev pub ReadsRuns : (text : List ℕ) → Option (Step × Bor (List ℕ)) → Type 0
 ReadsRuns text read =
-    (end : ℕ) (is_greedy : Bool) (step : Step) (rest : List ℕ) → IsRunStep end is_greedy step → BeginsWithCaptured text step rest → IsRead read step rest
+    (end : ℕ) (is_greedy : Bool) (step : Step) (rest : List ℕ) → IsRunStep end is_greedy step
+    → BeginsWithCaptured text step rest → IsRead read step rest
 
 -- The step is that of a quantified group with the run as its body.
 abbrev pub IsRepeatOf : (run : Step) → Quantifier → (step : Step) → Type 0
 IsRepeatOf run quantifier step =
-    (items : Items) → IsStepOf run (Captured items) → AllowsGroups quantifier (group_count items) × IsStepOf step (Captured (Item (Grouped items) quantifier Nothing))
+    (items : Items) → IsStepOf run (Captured items)
+    → AllowsGroups quantifier (group_count items)
+    × IsStepOf step (Captured (Item (Grouped items) quantifier Nothing))
 
 -- `made` is the step of a quantified group with the run as its body, for each kind of run.
 abbrev pub RepeatsRuns : (run : Step) → Quantifier → (made : Option Step) → Type 0
 RepeatsRuns run quantifier made =
-    (end : ℕ) (is_greedy may_be_empty : Bool) → IsRunStep end is_greedy run → AllowsEmptyRun is_greedy quantifier may_be_empty
+    (end : ℕ) (is_greedy may_be_empty : Bool) → IsRunStep end is_greedy run
+    → AllowsEmptyRun is_greedy quantifier may_be_empty
     → made ≡ Some (GreedyRun (record { end = end; may_be_empty = may_be_empty }))
 
 -- The quantifier of a group.
@@ -120,7 +136,10 @@ group_quantifier_text times = quantifier_text (quantifier_of times)
 
 -- The text begins separated runs: the first run and its closing parenthesis, up to the separator.
 abbrev pub BeginsSegments : (end : ℕ) → (is_greedy : Bool) → (text : List ℕ) → Type 0
-BeginsSegments end is_greedy text = (items : Items) × AreItems items × IsRunOf end is_greedy items × (text ≡ codes "((?:" ++ (items_text items ++ codes ")(?:"))
+BeginsSegments end is_greedy text =
+    (items : Items) × AreItems items
+    × IsRunOf end is_greedy items
+    × (text ≡ codes "((?:" ++ (items_text items ++ codes ")(?:"))
 
 -- The text spells the token.
 abbrev pub IsToken : StepToken → List ℕ → Type 0
@@ -128,20 +147,29 @@ IsToken Open text = text ≡ codes "(?:"
 IsToken (Close times) text = text ≡ codes ")" ++ group_quantifier_text times
 IsToken (One step) text = SpellsStep step text
 IsToken (FirstSegment end is_greedy) text = BeginsSegments end is_greedy text
-IsToken (OptionalStep step) text = (front : List ℕ) × (capture_count (step ∷ []) ≡ 1) × SpellsStep step front × (text ≡ front ++ codes "?")
+IsToken (OptionalStep step) text =
+    (front : List ℕ) × (capture_count (step ∷ []) ≡ 1)
+    × SpellsStep step front
+    × (text ≡ front ++ codes "?")
 
 -- The text begins with the token, followed by `rest`.
 abbrev pub BeginsWithRegexpToken : (text : List ℕ) → StepToken → (rest : List ℕ) → Type 0
-BeginsWithRegexpToken text token rest = (front : List ℕ) × IsToken token front × (text ≡ front ++ rest)
+BeginsWithRegexpToken text token rest =
+    (front : List ℕ) × IsToken token front × (text ≡ front ++ rest)
 
 -- Each token that the text begins with is read, if no quantifier follows it.
 abbrev pub ReadsRegexpTokens : (text : List ℕ) → Option (StepToken × Bor (List ℕ)) → Type 0
-ReadsRegexpTokens text read = (token : StepToken) (rest : List ℕ) → BeginsWithRegexpToken text token rest → IsUnquantified rest → IsRead read token rest
+ReadsRegexpTokens text read =
+    (token : StepToken) (rest : List ℕ) → BeginsWithRegexpToken text token rest
+    → IsUnquantified rest
+    → IsRead read token rest
 
 -- Each first of separated runs that the text begins with is read.
 abbrev pub ReadsFirstSegments : (text : List ℕ) → Option (StepToken × Bor (List ℕ)) → Type 0
 ReadsFirstSegments text read =
-    (end : ℕ) (is_greedy : Bool) (rest : List ℕ) → BeginsWithRegexpToken text (FirstSegment end is_greedy) rest → IsRead read (FirstSegment end is_greedy) rest
+    (end : ℕ) (is_greedy : Bool) (rest : List ℕ)
+    → BeginsWithRegexpToken text (FirstSegment end is_greedy) rest
+    → IsRead read (FirstSegment end is_greedy) rest
 
 -- ---- groups
 
@@ -152,18 +180,25 @@ AreLiterals (step ∷ steps) = ⊥
 
 -- The steps are literal and spell the text.
 abbrev pub MakeUp : List Step → LiteralString → Type 0
-MakeUp steps text = (others : List Step) × (steps ≡ Literal text.first ∷ others) × AreLiterals others × (text.others ≡ length others)
+MakeUp steps text =
+    (others : List Step) × (steps ≡ Literal text.first ∷ others)
+    × AreLiterals others
+    × (text.others ≡ length others)
 
 -- `group` is the repeat of the literal that the steps spell.
 abbrev pub AreCopySteps : (allows_zero : Bool) → (own group : List Step) → Type 0
 AreCopySteps allows_zero own group =
     (c : ℕ) × (others : List Step) × (own ≡ Literal c ∷ others) × AreLiterals others
-    × (group ≡ RepeatedLiteral (record { text = record { first = c; others = length others }; allows_zero = allows_zero }) ∷ others)
+    × (group
+    ≡ RepeatedLiteral
+    (record { text = record { first = c; others = length others }; allows_zero = allows_zero })
+    ∷ others)
 
 -- The steps of a quantified group, by the steps of its body, which is not empty.
 abbrev pub IsSomeGroup : GroupQuantifier → (own group : List Step) → Type 0
 IsSomeGroup times.Once own group = group ≡ own
-IsSomeGroup times.Optional own group = group ≡ OptionalGroup (record { steps = length own; captures = capture_count own }) ∷ own
+IsSomeGroup times.Optional own group =
+    group ≡ OptionalGroup (record { steps = length own; captures = capture_count own }) ∷ own
 IsSomeGroup times.ZeroOrMore own group = AreCopySteps true own group
 IsSomeGroup times.OneOrMore own group = AreCopySteps false own group
 
@@ -172,8 +207,11 @@ abbrev pub IsStepGroup : GroupQuantifier → (own group : List Step) → Type 0
 IsStepGroup times own group = ((own ≡ []) × (group ≡ [])) ⊎ IsSomeGroup times own group
 
 -- The steps from `first` on were replaced by a group of them.
-abbrev pub AreGrouped : (Is : (own group : List Step) → Type 0) → (first : ℕ) → (old new : Vec Step Global) → Type 0
-AreGrouped Is first old new = (group : List Step) × Is (drop first old.items) group × (new.items ≡ take first old.items ++ group)
+abbrev pub AreGrouped : (Is : (own group : List Step) → Type 0) → (first : ℕ)
+    → (old new : Vec Step Global) → Type 0
+AreGrouped Is first old new =
+    (group : List Step) × Is (drop first old.items) group
+    × (new.items ≡ take first old.items ++ group)
 
 -- ---- segments
 
@@ -192,10 +230,17 @@ literal_steps [] = []
 literal_steps (character ∷ characters) = Literal (character_of character) ∷ literal_steps characters
 
 -- The steps of runs separated by these characters.
-abbrev pub AreSegments : (end : ℕ) → (is_greedy : Bool) → List Character → (own : List Step) → Type 0
+abbrev pub AreSegments : (end : ℕ) → (is_greedy : Bool) → List Character
+    → (own : List Step) → Type 0
 AreSegments end is_greedy characters own =
     (c : ℕ) × (others : List Step) × (literal_steps characters ≡ Literal c ∷ others)
-    × (own ≡ Segments (record { separator = record { first = c; others = length others }; end = end; is_greedy = is_greedy }) ∷ others)
+    × (own
+    ≡ Segments (record {
+      separator = record { first = c; others = length others };
+      end = end;
+      is_greedy = is_greedy;
+    })
+    ∷ others)
 
 -- The last of separated runs, the closing parentheses, and the rest.
 abbrev pub last_text : Items → (rest : List ℕ) → List ℕ
@@ -203,29 +248,42 @@ last_text items rest = codes "(?:" ++ (items_text items ++ (codes "))*)" ++ rest
 
 -- The text begins with the last of separated runs and the closing parentheses, followed by `rest`.
 abbrev pub ClosesSegments : (end : ℕ) → (is_greedy : Bool) → (text rest : List ℕ) → Type 0
-ClosesSegments end is_greedy text rest = (items : Items) × AreItems items × IsRunOf end is_greedy items × (text ≡ last_text items rest)
+ClosesSegments end is_greedy text rest =
+    (items : Items) × AreItems items × IsRunOf end is_greedy items × (text ≡ last_text items rest)
 
 -- `read` has each rest that follows a last run and the closing parentheses at the start of the
 -- text.
-abbrev pub ReadsLast : (end : ℕ) → (is_greedy : Bool) → (text : List ℕ) → Option (Bor (List ℕ)) → Type 0
+abbrev pub ReadsLast : (end : ℕ) → (is_greedy : Bool) → (text : List ℕ) → Option (Bor (List ℕ))
+    → Type 0
 ReadsLast end is_greedy text read =
-    (items : Items) (rest : List ℕ) → AreItems items → IsRunOf end is_greedy items → text ≡ last_text items rest → IsLeft read rest
+    (items : Items) (rest : List ℕ) → AreItems items → IsRunOf end is_greedy items
+    → text ≡ last_text items rest → IsLeft read rest
 
 -- The text begins with the remainder of separated runs with these steps, followed by `rest`: the
 -- separator, the last run and the closing parentheses.
-abbrev pub EndsSegments : (end : ℕ) → (is_greedy : Bool) → (own : List Step) → (text rest : List ℕ) → Type 0
+abbrev pub EndsSegments : (end : ℕ) → (is_greedy : Bool) → (own : List Step) → (text rest : List ℕ)
+    → Type 0
 EndsSegments end is_greedy own text rest =
-    (characters : List Character) × (items : Items) × AreCharacters characters × AreItems items × IsRunOf end is_greedy items × AreSegments end is_greedy characters own
+    (characters : List Character) × (items : Items)
+    × AreCharacters characters
+    × AreItems items
+    × IsRunOf end is_greedy items
+    × AreSegments end is_greedy characters own
     × (text ≡ characters_text characters ++ last_text items rest)
 
 -- If a rest is left, the steps of the separated runs before it were added.
-abbrev pub AddsSegments : (end : ℕ) → (is_greedy : Bool) → (old new : Vec Step Global) → (text : List ℕ) → (left : Option (Bor (List ℕ))) → Type 0
+abbrev pub AddsSegments : (end : ℕ) → (is_greedy : Bool)
+    → (old new : Vec Step Global) → (text : List ℕ) → (left : Option (Bor (List ℕ))) → Type 0
 AddsSegments end is_greedy old new text left =
-    IfSome left (λ rest. (own : List Step) × EndsSegments end is_greedy own text (chars rest.now) × (new.items ≡ old.items ++ own))
+    IfSome left (λ rest.
+    (own : List Step) × EndsSegments end is_greedy own text (chars rest.now)
+    × (new.items ≡ old.items ++ own))
 
 -- `read` has each rest that follows a remainder of separated runs at the start of the text.
-abbrev pub ReadsSegments : (end : ℕ) → (is_greedy : Bool) → (text : List ℕ) → Option (Bor (List ℕ)) → Type 0
-ReadsSegments end is_greedy text read = (own : List Step) (rest : List ℕ) → EndsSegments end is_greedy own text rest → IsLeft read rest
+abbrev pub ReadsSegments : (end : ℕ) → (is_greedy : Bool) → (text : List ℕ) → Option (Bor (List ℕ))
+    → Type 0
+ReadsSegments end is_greedy text read =
+    (own : List Step) (rest : List ℕ) → EndsSegments end is_greedy own text rest → IsLeft read rest
 
 -- ---- expressions
 
@@ -234,4 +292,5 @@ ReadsSegments end is_greedy text read = (own : List Step) (rest : List ℕ) → 
 pub record AreStepsOf (regexp : List ℕ) (steps : List Step) : Type 0 where
   pub tree : Items
   pub is_tree : IsTreeOf regexp tree
-  pub answers : (ignore_case : Bool) (text : List ℕ) → walk ignore_case steps text ≡ first_way_by ignore_case tree text
+  pub answers : (ignore_case : Bool) (text : List ℕ)
+      → walk ignore_case steps text ≡ first_way_by ignore_case tree text

@@ -45,7 +45,9 @@ is_capture step = true
 
 -- The captures of the steps after a step, with the prefix that the step matches if it captures.
 abbrev pub given : (ignore_case : Bool) → Step → List Step → Continuation
-given ignore_case step others = if is_capture step then captured_prefix (walk ignore_case (following step others)) else (λ front rest. walk ignore_case (following step others) rest)
+given ignore_case step others =
+    if is_capture step then captured_prefix (walk ignore_case (following step others))
+    else (λ front rest. walk ignore_case (following step others) rest)
 
 -- The step is not an optional group.
 abbrev pub IsSingle : Step → Type 0
@@ -59,7 +61,8 @@ IsSingle step = Unit {0}
 abbrev pub begun_of : {A : Type 0} → Step → (next here onward : Option A) → Option A
 begun_of (Literal c) next here onward = here
 begun_of (RepeatedLiteral copies) next here onward = option_or next here
-begun_of (Segments segments) next here onward = if segments.is_greedy then option_or onward (option_or next here) else onward
+begun_of (Segments segments) next here onward =
+    if segments.is_greedy then option_or onward (option_or next here) else onward
 begun_of step next here onward = None
 
 -- The preferred result within a run of a step.
@@ -67,7 +70,9 @@ abbrev pub later_of : {A : Type 0} → Step → (next here onward : Option A) �
 later_of (LazyRun end) next here onward = option_or here onward
 later_of DotStar next here onward = option_or onward here
 later_of (GreedyRun run) next here onward = option_or onward here
-later_of (Segments segments) next here onward = if segments.is_greedy then option_or onward (option_or next here) else option_or (option_or next here) onward
+later_of (Segments segments) next here onward =
+    if segments.is_greedy then option_or onward (option_or next here)
+    else option_or (option_or next here) onward
 later_of step next here onward = None
 
 -- The preferred result at the beginning of a step.
@@ -75,17 +80,22 @@ abbrev pub whole_of : {A : Type 0} → Step → (next here onward : Option A) �
 whole_of (Literal c) next here onward = next
 whole_of (LazyRun end) next here onward = onward
 whole_of DotStar next here onward = option_or onward here
-whole_of (GreedyRun run) next here onward = if run.may_be_empty then option_or onward here else onward
-whole_of (RepeatedLiteral copies) next here onward = if copies.allows_zero then option_or next here else next
-whole_of (Segments segments) next here onward = if segments.is_greedy then option_or onward (option_or next here) else onward
+whole_of (GreedyRun run) next here onward =
+    if run.may_be_empty then option_or onward here else onward
+whole_of (RepeatedLiteral copies) next here onward =
+    if copies.allows_zero then option_or next here else next
+whole_of (Segments segments) next here onward =
+    if segments.is_greedy then option_or onward (option_or next here) else onward
 whole_of (OptionalGroup group) next here onward = None
 
 -- `entry` is that for the rest after some characters, in a list with an entry for each shorter
 -- suffix of the text.
-abbrev pub IsEntryAfter : (ignore_case : Bool) (entries : List (Option ℕ)) → Option (List ℕ) → (text : List ℕ) → (entry : Option ℕ) → Type 0
+abbrev pub IsEntryAfter : (ignore_case : Bool) (entries : List (Option ℕ)) → Option (List ℕ)
+    → (text : List ℕ) → (entry : Option ℕ) → Type 0
 IsEntryAfter ignore_case entries None text entry = entry ≡ None
 IsEntryAfter ignore_case entries (Some characters) text entry =
-    ((rest : List ℕ) → BeginsAs ignore_case characters text rest → entry ≡ get_or entries (length rest) None)
+    ((rest : List ℕ) → BeginsAs ignore_case characters text rest
+    → entry ≡ get_or entries (length rest) None)
     × (((rest : List ℕ) → ¬ BeginsAs ignore_case characters text rest) → entry ≡ None)
 
 -- ---- rows
@@ -95,23 +105,33 @@ abbrev pub has : List Bool → ℕ → Bool
 has row n = get_or row n false
 
 -- For each suffix of the text, by its number of characters, whether the steps match it.
-pub record IsRow (ignore_case : Bool) (text : List ℕ) (steps : List Step) (row : List Bool) : Type 0 where
-  pub long : length text < length row
-  pub bits : (end : List ℕ) → EndsWith text end → has row (length end) ≡ is_some (walk ignore_case steps end)
+pub record IsRow (ignore_case : Bool) (text : List ℕ) (steps : List Step) (row : List Bool) : Type 0
+  where
+    pub long : length text < length row
+    pub bits : (end : List ℕ) → EndsWith text end
+        → has row (length end) ≡ is_some (walk ignore_case steps end)
 
 -- The row of n steps.
 abbrev pub row_at : List (Vec Bool Global) → ℕ → List Bool
 row_at rows n = get_or (map (λ (row : Vec Bool Global). row.items) rows) n []
 
 -- The rows have the row of these steps.
-abbrev pub HaveRow : (ignore_case : Bool) (text : List ℕ) (steps : List Step) (rows : List (Vec Bool Global)) → Type 0
+abbrev pub HaveRow : (ignore_case : Bool) (text : List ℕ) (steps : List Step)
+    (rows : List (Vec Bool Global))
+    → Type 0
 HaveRow ignore_case text steps rows = IsRow ignore_case text steps (row_at rows (length steps))
 
 -- Whether the steps match the text, by the rows.
-abbrev pub IsMatchedByRows : (rows : List (Vec Bool Global)) (steps : List Step) (text : List ℕ) (is_taken : Bool) → Type 0
-IsMatchedByRows rows steps text is_taken = (ignore_case : Bool) → HaveRow ignore_case text steps rows → is_taken ≡ is_some (walk ignore_case steps text)
+abbrev pub IsMatchedByRows : (rows : List (Vec Bool Global)) (steps : List Step) (text : List ℕ)
+    (is_taken : Bool)
+    → Type 0
+IsMatchedByRows rows steps text is_taken =
+    (ignore_case : Bool) → HaveRow ignore_case text steps rows
+    → is_taken ≡ is_some (walk ignore_case steps text)
 
 -- A row for each suffix of the steps, by its number of steps.
-pub record AreRows (ignore_case : Bool) (text : List ℕ) (steps : List Step) (rows : List (Vec Bool Global)) : Type 0 where
+pub record AreRows (ignore_case : Bool) (text : List ℕ) (steps : List Step)
+    (rows : List (Vec Bool Global)) : Type 0 where
   pub count : length rows ≡ suc (length steps)
-  pub each : (end : List Step) → EndsWith steps end → IsRow ignore_case text end (row_at rows (length end))
+  pub each : (end : List Step) → EndsWith steps end
+      → IsRow ignore_case text end (row_at rows (length end))

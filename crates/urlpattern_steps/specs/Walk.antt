@@ -13,29 +13,35 @@ use Rattle.urlpattern_meaning.specs.Matching.{IsSame, is_same_character}
 
 -- The text begins with the characters, up to ASCII case if it is ignored, followed by `rest`.
 abbrev pub BeginsAs : (ignore_case : Bool) → (characters text rest : List ℕ) → Type 0
-BeginsAs ignore_case characters text rest = (front : List ℕ) × (text ≡ front ++ rest) × IsSame ignore_case front characters
+BeginsAs ignore_case characters text rest =
+    (front : List ℕ) × (text ≡ front ++ rest) × IsSame ignore_case front characters
 
 -- `front` is the text without its last n characters.
 abbrev pub IsWithoutLast : (n : ℕ) → (text front : List ℕ) → Type 0
-IsWithoutLast n text front = (end : List ℕ) × IsUtf8 end × (text ≡ front ++ end) × (length (chars end) ≡ n)
+IsWithoutLast n text front =
+    (end : List ℕ) × IsUtf8 end × (text ≡ front ++ end) × (length (chars end) ≡ n)
 
 -- ---- runs of characters
 
 -- The end of a run that continues with the first character; None if this is `end`, or there is
 -- none.
-abbrev pub end_if_continued : (ignore_case : Bool) (end : ℕ) → (later : Option ℕ) → (text : List ℕ) → Option ℕ
+abbrev pub end_if_continued : (ignore_case : Bool) (end : ℕ) → (later : Option ℕ)
+    → (text : List ℕ) → Option ℕ
 end_if_continued ignore_case end later [] = None
-end_if_continued ignore_case end later (c ∷ text) = if is_same_character ignore_case c end then None else later
+end_if_continued ignore_case end later (c ∷ text) =
+    if is_same_character ignore_case c end then None else later
 
 -- The text before the first occurrence of the character.
 abbrev pub up_to_first : (ignore_case : Bool) → ℕ → List ℕ → List ℕ
 up_to_first ignore_case c [] = []
-up_to_first ignore_case c (other ∷ text) = if is_same_character ignore_case other c then [] else other ∷ up_to_first ignore_case c text
+up_to_first ignore_case c (other ∷ text) =
+    if is_same_character ignore_case other c then [] else other ∷ up_to_first ignore_case c text
 
 -- The text from the first occurrence of the character on.
 abbrev pub from_first : (ignore_case : Bool) → ℕ → List ℕ → List ℕ
 from_first ignore_case c [] = []
-from_first ignore_case c (other ∷ text) = if is_same_character ignore_case other c then other ∷ text else from_first ignore_case c text
+from_first ignore_case c (other ∷ text) =
+    if is_same_character ignore_case other c then other ∷ text else from_first ignore_case c text
 
 -- The captures after a prefix of a text, by the prefix and the rest. None: no match.
 abbrev pub Continuation : Type 0
@@ -43,24 +49,36 @@ Continuation = (front rest : List ℕ) → Option Captures
 
 -- A lazy repeat of characters other than `end`, one or more: the result of the shortest that has
 -- one.
-abbrev pub shortest : (ignore_case : Bool) (end : ℕ) → Continuation → (front text : List ℕ) → Option Captures
+abbrev pub shortest : (ignore_case : Bool) (end : ℕ) → Continuation
+    → (front text : List ℕ) → Option Captures
 shortest ignore_case end gives front [] = None
-shortest ignore_case end gives front (c ∷ text) = if is_same_character ignore_case c end then None else option_or (gives (front ++ c ∷ []) text) (shortest ignore_case end gives (front ++ c ∷ []) text)
+shortest ignore_case end gives front (c ∷ text) =
+    if is_same_character ignore_case c end then None
+    else option_or (gives (front ++ c ∷ []) text)
+    (shortest ignore_case end gives (front ++ c ∷ []) text)
 
 -- A greedy repeat of characters other than `end`, any number: the result of the longest that has
 -- one.
-abbrev pub longest : (ignore_case : Bool) (end : ℕ) → Continuation → (front text : List ℕ) → Option Captures
+abbrev pub longest : (ignore_case : Bool) (end : ℕ) → Continuation
+    → (front text : List ℕ) → Option Captures
 longest ignore_case end gives front [] = gives front []
-longest ignore_case end gives front (c ∷ text) = if is_same_character ignore_case c end then gives front (c ∷ text) else option_or (longest ignore_case end gives (front ++ c ∷ []) text) (gives front (c ∷ text))
+longest ignore_case end gives front (c ∷ text) =
+    if is_same_character ignore_case c end then gives front (c ∷ text)
+    else option_or (longest ignore_case end gives (front ++ c ∷ []) text) (gives front (c ∷ text))
 
 -- A greedy repeat of characters other than `end`, one or more.
-abbrev pub longest_some : (ignore_case : Bool) (end : ℕ) → Continuation → (front text : List ℕ) → Option Captures
+abbrev pub longest_some : (ignore_case : Bool) (end : ℕ) → Continuation
+    → (front text : List ℕ) → Option Captures
 longest_some ignore_case end gives front [] = None
-longest_some ignore_case end gives front (c ∷ text) = if is_same_character ignore_case c end then None else longest ignore_case end gives (front ++ c ∷ []) text
+longest_some ignore_case end gives front (c ∷ text) =
+    if is_same_character ignore_case c end then None
+    else longest ignore_case end gives (front ++ c ∷ []) text
 
 -- A greedy repeat of characters other than `end`, any number, or one or more.
-abbrev pub longest_run : (ignore_case : Bool) (may_be_empty : Bool) → (end : ℕ) → Continuation → Continuation
-longest_run ignore_case may_be_empty end = if may_be_empty then longest ignore_case end else longest_some ignore_case end
+abbrev pub longest_run : (ignore_case : Bool) (may_be_empty : Bool) → (end : ℕ) → Continuation
+    → Continuation
+longest_run ignore_case may_be_empty end =
+    if may_be_empty then longest ignore_case end else longest_some ignore_case end
 
 -- ---- repeats
 
@@ -68,12 +86,15 @@ longest_run ignore_case may_be_empty end = if may_be_empty then longest ignore_c
 abbrev pub after_text : (ignore_case : Bool) → List ℕ → Continuation → Continuation
 after_text ignore_case [] gives front text = gives front text
 after_text ignore_case (c ∷ characters) gives front [] = None
-after_text ignore_case (c ∷ characters) gives front (other ∷ text) = if is_same_character ignore_case other c then after_text ignore_case characters gives (front ++ other ∷ []) text else None
+after_text ignore_case (c ∷ characters) gives front (other ∷ text) =
+    if is_same_character ignore_case other c
+    then after_text ignore_case characters gives (front ++ other ∷ []) text else None
 
 -- A greedy repeat: the result after as many rounds as have one, at most n.
 abbrev pub rounds : (round : Continuation → Continuation) → (n : ℕ) → Continuation → Continuation
 rounds round zero gives front text = gives front text
-rounds round (suc n) gives front text = option_or (round (rounds round n gives) front text) (gives front text)
+rounds round (suc n) gives front text =
+    option_or (round (rounds round n gives) front text) (gives front text)
 
 -- A greedy repeat of any number of rounds, at most one for each character, since each round matches
 -- one or more.
@@ -85,20 +106,29 @@ abbrev pub some_rounds : (round : Continuation → Continuation) → Continuatio
 some_rounds round gives front text = round (any_rounds round gives) front text
 
 -- A greedy repeat of any number of rounds, or of one or more.
-abbrev pub repeated : (allows_zero : Bool) → (round : Continuation → Continuation) → Continuation → Continuation
+abbrev pub repeated : (allows_zero : Bool) → (round : Continuation → Continuation) → Continuation
+    → Continuation
 repeated allows_zero round = if allows_zero then any_rounds round else some_rounds round
 
 -- A run: greedy, of any number of characters, or lazy, of one or more.
-abbrev pub single_run : (ignore_case : Bool) (is_greedy : Bool) → (end : ℕ) → Continuation → Continuation
-single_run ignore_case is_greedy end = if is_greedy then longest ignore_case end else shortest ignore_case end
+abbrev pub single_run : (ignore_case : Bool) (is_greedy : Bool) → (end : ℕ) → Continuation
+    → Continuation
+single_run ignore_case is_greedy end =
+    if is_greedy then longest ignore_case end else shortest ignore_case end
 
 -- A separator and a run.
-abbrev pub after_separator : (ignore_case : Bool) (separator : List ℕ) → (single : Continuation → Continuation) → Continuation → Continuation
-after_separator ignore_case separator single gives front text = after_text ignore_case separator (single gives) front text
+abbrev pub after_separator : (ignore_case : Bool) (separator : List ℕ)
+    → (single : Continuation → Continuation)
+    → Continuation → Continuation
+after_separator ignore_case separator single gives front text =
+    after_text ignore_case separator (single gives) front text
 
 -- Separated runs: a run, and as many more as have a result, each after the separator.
-abbrev pub segmented : (ignore_case : Bool) (separator : List ℕ) → (single : Continuation → Continuation) → Continuation → Continuation
-segmented ignore_case separator single gives front text = single (any_rounds (after_separator ignore_case separator single) gives) front text
+abbrev pub segmented : (ignore_case : Bool) (separator : List ℕ)
+    → (single : Continuation → Continuation)
+    → Continuation → Continuation
+segmented ignore_case separator single gives front text =
+    single (any_rounds (after_separator ignore_case separator single) gives) front text
 
 -- ---- literals
 
@@ -120,21 +150,26 @@ in_turn (last ∷ texts) = in_turn texts ++ last
 -- Each text is a copy of `copy`, up to ASCII case if it is ignored.
 abbrev pub AreCopiesOf : (ignore_case : Bool) → (copy : List ℕ) → List (List ℕ) → Type 0
 AreCopiesOf ignore_case copy [] = Unit {0}
-AreCopiesOf ignore_case copy (last ∷ texts) = IsSame ignore_case last copy × AreCopiesOf ignore_case copy texts
+AreCopiesOf ignore_case copy (last ∷ texts) =
+    IsSame ignore_case last copy × AreCopiesOf ignore_case copy texts
 
 -- The text begins with copies of `copy`, up to ASCII case if it is ignored, followed by `rest`.
 abbrev pub BeginsWithCopies : (ignore_case : Bool) → (copy text rest : List ℕ) → Type 0
-BeginsWithCopies ignore_case copy text rest = (copies : List (List ℕ)) × (text ≡ in_turn copies ++ rest) × AreCopiesOf ignore_case copy copies
+BeginsWithCopies ignore_case copy text rest =
+    (copies : List (List ℕ)) × (text ≡ in_turn copies ++ rest) × AreCopiesOf ignore_case copy copies
 
 -- `entry` is that for the rest after these characters, if the table has an entry for each shorter
 -- suffix of the text.
-abbrev pub IsEntryForRest : (ignore_case : Bool) → (characters text : List ℕ) → (table : List (Option ℕ)) → (entry : Option ℕ) → Type 0
+abbrev pub IsEntryForRest : (ignore_case : Bool) → (characters text : List ℕ)
+    → (table : List (Option ℕ)) → (entry : Option ℕ) → Type 0
 IsEntryForRest ignore_case characters text table entry =
-    (rest : List ℕ) → BeginsAs ignore_case characters text rest → length table ≡ length text → entry ≡ get_or table (length rest) None
+    (rest : List ℕ) → BeginsAs ignore_case characters text rest → length table ≡ length text
+    → entry ≡ get_or table (length rest) None
 
 -- The text of a literal, by the steps that have its other characters.
 abbrev pub literal_string_text : LiteralString → List Step → List ℕ
-literal_string_text literal_string steps = literal_text literal_string.first (take literal_string.others steps)
+literal_string_text literal_string steps =
+    literal_text literal_string.first (take literal_string.others steps)
 
 -- ---- steps
 
@@ -149,16 +184,26 @@ walk_after ignore_case passed [] [] = Some []
 walk_after ignore_case passed [] (c ∷ text) = None
 walk_after ignore_case (suc passed) (step ∷ steps) text = walk_after ignore_case passed steps text
 walk_after ignore_case zero (Literal c ∷ steps) [] = None
-walk_after ignore_case zero (Literal c ∷ steps) (other ∷ text) = if is_same_character ignore_case other c then walk_after ignore_case zero steps text else None
-walk_after ignore_case zero (LazyRun end ∷ steps) text = shortest ignore_case end (captured_prefix (walk_after ignore_case zero steps)) [] text
-walk_after ignore_case zero (DotStar ∷ steps) text = longest ignore_case line_feed (captured_prefix (walk_after ignore_case zero steps)) [] text
+walk_after ignore_case zero (Literal c ∷ steps) (other ∷ text) =
+    if is_same_character ignore_case other c then walk_after ignore_case zero steps text else None
+walk_after ignore_case zero (LazyRun end ∷ steps) text =
+    shortest ignore_case end (captured_prefix (walk_after ignore_case zero steps)) [] text
+walk_after ignore_case zero (DotStar ∷ steps) text =
+    longest ignore_case line_feed (captured_prefix (walk_after ignore_case zero steps)) [] text
 walk_after ignore_case zero (OptionalGroup group ∷ steps) text =
-    option_or (walk_after ignore_case zero steps text) (option_map (λ others. replicate group.captures None ++ others) (walk_after ignore_case group.steps steps text))
-walk_after ignore_case zero (GreedyRun run ∷ steps) text = longest_run ignore_case run.may_be_empty run.end (captured_prefix (walk_after ignore_case zero steps)) [] text
+    option_or (walk_after ignore_case zero steps text) (option_map
+    (λ others. replicate group.captures None ++ others)
+    (walk_after ignore_case group.steps steps text))
+walk_after ignore_case zero (GreedyRun run ∷ steps) text =
+    longest_run ignore_case run.may_be_empty run.end
+    (captured_prefix (walk_after ignore_case zero steps)) [] text
 walk_after ignore_case zero (RepeatedLiteral copies ∷ steps) text =
-    repeated copies.allows_zero (after_text ignore_case (literal_string_text copies.text steps)) (λ front rest. walk_after ignore_case copies.text.others steps rest) [] text
+    repeated copies.allows_zero (after_text ignore_case (literal_string_text copies.text steps))
+    (λ front rest. walk_after ignore_case copies.text.others steps rest) [] text
 walk_after ignore_case zero (Segments segments ∷ steps) text =
-    segmented ignore_case (literal_string_text segments.separator steps) (single_run ignore_case segments.is_greedy segments.end) (captured_prefix (walk_after ignore_case segments.separator.others steps)) [] text
+    segmented ignore_case (literal_string_text segments.separator steps)
+    (single_run ignore_case segments.is_greedy segments.end)
+    (captured_prefix (walk_after ignore_case segments.separator.others steps)) [] text
 
 -- The captures of the steps, if they match the whole text. None: no match.
 abbrev pub walk : (ignore_case : Bool) → List Step → List ℕ → Option Captures
@@ -166,8 +211,11 @@ walk ignore_case steps text = walk_after ignore_case zero steps text
 
 -- The captures of the other steps after as many copies as have a match, of the first character and
 -- those of the literal steps.
-abbrev pub walk_copies : (ignore_case : Bool) (first : ℕ) → (literal others : List Step) → List ℕ → Option Captures
-walk_copies ignore_case first literal others text = any_rounds (after_text ignore_case (literal_text first literal)) (λ front rest. walk ignore_case others rest) [] text
+abbrev pub walk_copies : (ignore_case : Bool) (first : ℕ) → (literal others : List Step) → List ℕ
+    → Option Captures
+walk_copies ignore_case first literal others text =
+    any_rounds (after_text ignore_case (literal_text first literal))
+    (λ front rest. walk ignore_case others rest) [] text
 
 -- The number of steps that capture.
 abbrev pub capture_count : List Step → ℕ
@@ -183,4 +231,6 @@ capture_count (Segments segments ∷ steps) = suc (capture_count steps)
 -- The steps match no text that begins with a character other than `end`, whether case is ignored or
 -- not.
 abbrev pub BeginOnlyWith : (end : ℕ) → List Step → Type 0
-BeginOnlyWith end steps = (ignore_case : Bool) (c : ℕ) (rest : List ℕ) → is_same_character ignore_case c end ≡ false → walk ignore_case steps (c ∷ rest) ≡ None
+BeginOnlyWith end steps =
+    (ignore_case : Bool) (c : ℕ) (rest : List ℕ) → is_same_character ignore_case c end ≡ false
+    → walk ignore_case steps (c ∷ rest) ≡ None

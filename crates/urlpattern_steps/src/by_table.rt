@@ -26,7 +26,8 @@ pub fn walk_by_table<'t>(
     ignore_case: bool,
     text: &'t str,
 ) -> Result<Option<Vec<Option<&'t str>>>, OutOfMemory>
-    ensures { IfOk result (λ found. captures_view found ≡ walk ignore_case steps.now (chars text.now)) }
+    ensures { IfOk result (λ found.
+        captures_view found ≡ walk ignore_case steps.now (chars text.now)) }
 {
     let rows = rows_of(alloc, steps, ignore_case, text)?;
     let mut captures = Vec::new(alloc);
@@ -77,7 +78,8 @@ fn choose_group<'s>(
     others: &'s [Step],
     text: &str,
 ) -> Result<&'s [Step], OutOfMemory>
-    ensures chosen { IfOk result (λ left. LeavesChosen rows.now captures.old captures.new group others.now text.now left.now) }
+    ensures chosen { IfOk result (λ left.
+        LeavesChosen rows.now captures.old captures.new group others.now text.now left.now) }
     ensures end { IfOk result (λ left. EndsWith others.now left.now) }
 {
     if is_taken(rows, others, text) {
@@ -102,9 +104,12 @@ fn match_prefix<'t>(
 ) -> Result<Option<&'t str>, OutOfMemory>
     requires single { IsSingle step }
     requires row { IsRow ignore_case (chars text.now) (following step others.now) row.now }
-    ensures taken { IfOk result (LeavesFollowing ignore_case captures.old captures.new step others.now text.now) }
-    ensures none { IfOk result (λ left. IfNone left (walk ignore_case (step ∷ others.now) (chars text.now) ≡ None)) }
-    ensures end { IfOk result (λ left. IfSome left (λ rest. EndsWith (chars text.now) (chars rest.now))) }
+    ensures taken { IfOk result
+        (LeavesFollowing ignore_case captures.old captures.new step others.now text.now) }
+    ensures none { IfOk result (λ left.
+        IfNone left (walk ignore_case (step ∷ others.now) (chars text.now) ≡ None)) }
+    ensures end { IfOk result (λ left. IfSome left (λ rest.
+        EndsWith (chars text.now) (chars rest.now))) }
 {
     let Some(count) = matched_prefix(alloc, step, others, ignore_case, row, text)?.end else {
         return Ok(None);
@@ -120,7 +125,9 @@ fn push_prefix<'t>(
     step: Step,
     front: &'t str,
 ) -> Result<(), OutOfMemory>
-    ensures { OnOk result (captures.new.items ≡ (if is_capture step then captures.old.items ++ Some front.entry ∷ [] else captures.old.items)) }
+    ensures { OnOk result (captures.new.items
+        ≡ (if is_capture step then captures.old.items ++ Some front.entry ∷ []
+        else captures.old.items)) }
 {
     if is_capture(step) {
         captures.push(Some(front))?;

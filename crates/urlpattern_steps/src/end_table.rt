@@ -34,7 +34,8 @@ pub fn rows_of(
 
 /// Returns the row of no steps, which match only the empty suffix.
 fn row_of_none(alloc: Global, text: &str) -> Result<Vec<bool>, OutOfMemory>
-    ensures { IfOk result (λ row. (ignore_case : Bool) → IsRow ignore_case (chars text.now) [] row.items) }
+    ensures { IfOk result (λ row.
+        (ignore_case : Bool) → IsRow ignore_case (chars text.now) [] row.items) }
 {
     let mut row = Vec::with_capacity(alloc, text.len())?;
     row.push(true)?;
@@ -54,7 +55,8 @@ fn row_of(
     text: &str,
 ) -> Result<Vec<bool>, OutOfMemory>
     requires { AreRows ignore_case (chars text.now) others.now rows.now }
-    ensures { IfOk result (λ row. IsRow ignore_case (chars text.now) (step ∷ others.now) row.items) }
+    ensures { IfOk result (λ row.
+        IsRow ignore_case (chars text.now) (step ∷ others.now) row.items) }
 {
     if let Step::OptionalGroup(group) = step {
         let missing = pass(others, group.steps);
@@ -67,7 +69,8 @@ fn row_of(
 /// Returns the union of two rows.
 fn either(alloc: Global, one: &[bool], other: &[bool]) -> Result<Vec<bool>, OutOfMemory>
     ensures len { IfOk result (λ row. length row.items ≡ length one.now) }
-    ensures bits { IfOk result (λ row. (n : ℕ) → n < length one.now → has row.items n ≡ has one.now n || has other.now n) }
+    ensures bits { IfOk result (λ row.
+        (n : ℕ) → n < length one.now → has row.items n ≡ has one.now n || has other.now n) }
 {
     let mut row = Vec::with_capacity(alloc, one.len())?;
     for n in 0..one.len() {

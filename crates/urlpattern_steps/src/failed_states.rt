@@ -26,9 +26,19 @@ impl<'s, 't> Model for FailedStates<'s, 't> {
 
     ghost Value = { Whole };
 
-    ghost view = { λ failed. record { ignore_case = failed.ignore_case; steps = failed.steps.now; text = chars failed.text.now } };
+    ghost view = { λ failed.
+        record {
+          ignore_case = failed.ignore_case;
+          steps = failed.steps.now;
+          text = chars failed.text.now;
+        } };
 
-    ghost invariant = { λ failed. AreFailed (record { ignore_case = failed.ignore_case; steps = failed.steps.now; text = chars failed.text.now }) failed.bits.items };
+    ghost invariant = { λ failed.
+        AreFailed (record {
+          ignore_case = failed.ignore_case;
+          steps = failed.steps.now;
+          text = chars failed.text.now;
+        }) failed.bits.items };
 }
 
 impl<'s, 't> FailedStates<'s, 't> {
@@ -40,7 +50,9 @@ impl<'s, 't> FailedStates<'s, 't> {
         text: &'t str,
         has_room: bool,
     ) -> Result<Self, AllocError>
-        ensures { IfOk result (λ failed. failed ≡ record { ignore_case = ignore_case; steps = steps.now; text = chars text.now }) }
+        ensures { IfOk result (λ failed.
+            failed
+            ≡ record { ignore_case = ignore_case; steps = steps.now; text = chars text.now }) }
     {
         let count = if has_room { words(steps, text) } else { 0 };
         Ok(FailedStates {

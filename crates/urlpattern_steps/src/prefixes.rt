@@ -35,8 +35,10 @@ pub fn matched_prefix(
 ) -> Result<MatchedPrefix, OutOfMemory>
     requires single { IsSingle step }
     requires after { IsRow ignore_case (chars text.now) (following step others.now) row_after.now }
-    ensures row { IfOk result (λ front. IsRow ignore_case (chars text.now) (step ∷ others.now) front.row.items) }
-    ensures end { IfOk result (λ front. IsEndOfPrefix ignore_case step others.now text.now front.end) }
+    ensures row { IfOk result (λ front.
+        IsRow ignore_case (chars text.now) (step ∷ others.now) front.row.items) }
+    ensures end { IfOk result (λ front.
+        IsEndOfPrefix ignore_case step others.now text.now front.end) }
 {
     let literal_string = literal_string_of(step);
     let literal = own_steps(step, others);
@@ -137,7 +139,9 @@ fn entry_after(
     text: &str,
 ) -> Option<usize>
     requires { length entries.now ≡ length (chars text.now) }
-    ensures { IsEntryAfter ignore_case entries.now (option_map (λ own. own.first ∷ literals literal.now) literal_string) (chars text.now) result }
+    ensures { IsEntryAfter ignore_case entries.now
+        (option_map (λ own. own.first ∷ literals literal.now) literal_string) (chars text.now)
+        result }
 {
     match literal_string {
         Some(own) => entry_after_literal(entries, own.first, literal, ignore_case, text),

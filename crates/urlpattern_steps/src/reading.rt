@@ -17,7 +17,8 @@ use std::alloc::{AllocError, Global};
 /// Parses an expression into steps. `None`: the expression is not generated from parts without
 /// custom expressions.
 pub fn read_steps(alloc: Global, regexp: &str) -> Result<Option<Vec<Step>>, AllocError>
-    ensures steps { IfOk result (λ read. IfSome read (λ steps. AreStepsOf (chars regexp.now) steps.items)) }
+    ensures steps { IfOk result (λ read. IfSome read (λ steps.
+        AreStepsOf (chars regexp.now) steps.items)) }
     ensures none { IfOk result (λ read. IfNone read (¬ IsGenerated (chars regexp.now))) }
 {
     let Some(mut rest) = after(regexp, '^') else {
@@ -70,8 +71,11 @@ fn close_group(
     times: GroupQuantifier,
 ) -> Result<bool, AllocError>
     requires { first ≤ length steps.old.items }
-    ensures group { IfOk result (λ is_group. IsTrue is_group → AreGrouped (IsStepGroup times) first steps.old steps.new) }
-    ensures any { IfOk result (λ is_group. (group : List Step) → IsStepGroup times (drop first steps.old.items) group → IsTrue is_group) }
+    ensures group { IfOk result (λ is_group.
+        IsTrue is_group → AreGrouped (IsStepGroup times) first steps.old steps.new) }
+    ensures any { IfOk result (λ is_group.
+        (group : List Step) → IsStepGroup times (drop first steps.old.items) group
+        → IsTrue is_group) }
 {
     if steps.len() == first {
         return Ok(true);
@@ -92,8 +96,10 @@ fn close_group(
 /// literals.
 fn close_copies(steps: &mut Vec<Step>, first: usize, allows_zero: bool) -> bool
     requires { first ≤ length steps.old.items }
-    ensures group { IsTrue result → AreGrouped (AreCopySteps allows_zero) first steps.old steps.new }
-    ensures any { (group : List Step) → AreCopySteps allows_zero (drop first steps.old.items) group → IsTrue result }
+    ensures group { IsTrue result
+        → AreGrouped (AreCopySteps allows_zero) first steps.old steps.new }
+    ensures any { (group : List Step) → AreCopySteps allows_zero (drop first steps.old.items) group
+        → IsTrue result }
 {
     let Some(text) = literal_string_of(&steps[first..]) else {
         return false;
@@ -105,7 +111,9 @@ fn close_copies(steps: &mut Vec<Step>, first: usize, allows_zero: bool) -> bool
 /// The literal that the steps spell. `None`: some step is not literal, or there are no steps.
 fn literal_string_of(steps: &[Step]) -> Option<LiteralString>
     ensures text { IfSome result (λ text. MakeUp steps.now text) }
-    ensures other { IfNone result ((first : ℕ) (others : List Step) → steps.now ≡ Step.Literal first ∷ others → ¬ AreLiterals others) }
+    ensures other { IfNone result ((first : ℕ) (others : List Step)
+        → steps.now ≡ Step.Literal first ∷ others
+        → ¬ AreLiterals others) }
 {
     match steps {
         [Step::Literal(first), others @ ..] if are_literals(others) => Some(LiteralString {
@@ -200,7 +208,8 @@ fn read_segments<'a>(
 
 /// Parses `(?:`, a run of this kind and `))*)`, which end separated runs, and returns the rest.
 fn read_last_segment(text: &str, end: char, is_greedy: bool) -> Option<&str>
-    ensures cut { IfSome result (λ rest. ClosesSegments end is_greedy (chars text.now) (chars rest.now)) }
+    ensures cut { IfSome result (λ rest.
+        ClosesSegments end is_greedy (chars text.now) (chars rest.now)) }
     ensures reads { ReadsLast end is_greedy (chars text.now) result }
     ensures len { IfSome result (λ rest. length rest.now < length text.now) }
 {

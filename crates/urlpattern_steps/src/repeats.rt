@@ -32,8 +32,10 @@ pub fn after_literals<'t>(
     literal: &[Step],
     ignore_case: bool,
 ) -> Option<&'t str>
-    ensures cut { IfSome result (λ rest. BeginsAs ignore_case (literal_text first literal.now) (chars text.now) (chars rest.now)) }
-    ensures other { IfNone result ((rest : List ℕ) → ¬ BeginsAs ignore_case (literal_text first literal.now) (chars text.now) rest) }
+    ensures cut { IfSome result (λ rest.
+        BeginsAs ignore_case (literal_text first literal.now) (chars text.now) (chars rest.now)) }
+    ensures other { IfNone result ((rest : List ℕ)
+        → ¬ BeginsAs ignore_case (literal_text first literal.now) (chars text.now) rest) }
     ensures len { IfSome result (λ rest. length rest.now < length text.now) }
 {
     let mut rest = after_same(text, first, ignore_case)?;
@@ -53,8 +55,10 @@ pub fn after_literals<'t>(
 /// Strips all copies of a literal, `first` and the characters of the literal steps, from the start
 /// of a text. Characters are compared by `is_same`.
 pub fn skip_copies<'t>(text: &'t str, first: char, literal: &[Step], ignore_case: bool) -> &'t str
-    ensures front { BeginsWithCopies ignore_case (literal_text first literal.now) (chars text.now) (chars result.now) }
-    ensures all { (rest : List ℕ) → ¬ BeginsAs ignore_case (literal_text first literal.now) (chars result.now) rest }
+    ensures front { BeginsWithCopies ignore_case (literal_text first literal.now) (chars text.now)
+        (chars result.now) }
+    ensures all { (rest : List ℕ)
+        → ¬ BeginsAs ignore_case (literal_text first literal.now) (chars result.now) rest }
 {
     let mut rest = text;
     while let Some(remaining) = after_literals(rest, first, literal, ignore_case) {
@@ -67,7 +71,8 @@ pub fn skip_copies<'t>(text: &'t str, first: char, literal: &[Step], ignore_case
 /// text has fewer characters.
 pub fn without_copy<'t>(text: &'t str, literal: &[Step]) -> Option<&'t str>
     ensures few { IfNone result (length (chars text.now) < suc (length (literals literal.now))) }
-    ensures cut { IfSome result (λ front. IsWithoutLast (suc (length (literals literal.now))) text.now front.now) }
+    ensures cut { IfSome result (λ front.
+        IsWithoutLast (suc (length (literals literal.now))) text.now front.now) }
     ensures len { IfSome result (λ front. length front.now < length text.now) }
 {
     let Some(mut front) = without_last(text) else {
@@ -113,8 +118,11 @@ pub fn entry_after_literal(
     ignore_case: bool,
     text: &str,
 ) -> Option<usize>
-    ensures there { IsEntryForRest ignore_case (literal_text first literal.now) (chars text.now) table.now result }
-    ensures other { ((rest : List ℕ) → ¬ BeginsAs ignore_case (literal_text first literal.now) (chars text.now) rest) → result ≡ None }
+    ensures there { IsEntryForRest ignore_case (literal_text first literal.now) (chars text.now)
+        table.now result }
+    ensures other { ((rest : List ℕ)
+        → ¬ BeginsAs ignore_case (literal_text first literal.now) (chars text.now) rest)
+        → result ≡ None }
 {
     after_literals(text, first, literal, ignore_case)?;
     let index = table
@@ -151,7 +159,8 @@ pub fn ends(
     stopping: Option<usize>,
 ) -> (Option<usize>, Option<usize>)
     ensures beginning { result.0 ≡ (if is_greedy then option_or onward stopping else onward) }
-    ensures either { result.1 ≡ (if is_greedy then option_or onward stopping else option_or stopping onward) }
+    ensures either { result.1
+        ≡ (if is_greedy then option_or onward stopping else option_or stopping onward) }
 {
     if is_greedy {
         let either = onward.or(stopping);

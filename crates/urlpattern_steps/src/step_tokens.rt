@@ -41,7 +41,8 @@ pub enum GroupQuantifier {
 
 /// Returns the token that the text begins with, and the rest.
 pub fn read_token(text: &str) -> Option<(StepToken, &str)>
-    ensures token { IfSome result (λ read. BeginsWithRegexpToken (chars text.now) read.0 (chars read.1.now)) }
+    ensures token { IfSome result (λ read.
+        BeginsWithRegexpToken (chars text.now) read.0 (chars read.1.now)) }
     ensures reads { ReadsRegexpTokens (chars text.now) result }
     ensures len { IfSome result (λ read. length read.1.now < length text.now) }
 {
@@ -72,7 +73,8 @@ fn read_group_quantifier(text: &str) -> (GroupQuantifier, &str)
 
 /// Returns a token that begins with `(`, and the rest. `text` is what follows the `(`.
 fn read_bracket(text: &str) -> Option<(StepToken, &str)>
-    ensures token { IfSome result (λ read. BeginsWithRegexpToken (codes "(" ++ chars text.now) read.0 (chars read.1.now)) }
+    ensures token { IfSome result (λ read.
+        BeginsWithRegexpToken (codes "(" ++ chars text.now) read.0 (chars read.1.now)) }
     ensures reads { ReadsRegexpTokens (codes "(" ++ chars text.now) result }
     ensures len { IfSome result (λ read. length read.1.now < length text.now) }
 {
@@ -92,9 +94,11 @@ fn read_bracket(text: &str) -> Option<(StepToken, &str)>
 
 /// Returns the token of the first of separated runs, and the rest. `text` is what follows the `(`.
 fn read_first_segment(text: &str) -> Option<(StepToken, &str)>
-    ensures token { IfSome result (λ read. BeginsWithRegexpToken (codes "(" ++ chars text.now) read.0 (chars read.1.now)) }
+    ensures token { IfSome result (λ read.
+        BeginsWithRegexpToken (codes "(" ++ chars text.now) read.0 (chars read.1.now)) }
     ensures reads { ReadsFirstSegments (codes "(" ++ chars text.now) result }
-    ensures other { (step : Step) (rest : List ℕ) → BeginsWithCaptured (chars text.now) step rest → result ≡ None }
+    ensures other { (step : Step) (rest : List ℕ) → BeginsWithCaptured (chars text.now) step rest
+        → result ≡ None }
     ensures len { IfSome result (λ read. length read.1.now < length text.now) }
 {
     let (single, rest) = read_run(after_open(text)?)?;
@@ -123,7 +127,8 @@ pub fn after_segments(text: &str) -> Option<&str>
 
 /// Returns the step of the body of a capturing group, and the rest.
 fn read_captured(text: &str) -> Option<(Step, &str)>
-    ensures step { IfSome result (λ read. BeginsWithCaptured (chars text.now) read.0 (chars read.1.now)) }
+    ensures step { IfSome result (λ read.
+        BeginsWithCaptured (chars text.now) read.0 (chars read.1.now)) }
     ensures reads { ReadsCaptured (chars text.now) result }
     ensures len { IfSome result (λ read. length read.1.now < length text.now) }
 {
@@ -136,7 +141,8 @@ fn read_captured(text: &str) -> Option<(Step, &str)>
 /// Returns the step of a quantified group with a run as its body, and the rest. `text` is what
 /// follows the `(`.
 fn read_repeated_run(text: &str) -> Option<(Step, &str)>
-    ensures step { IfSome result (λ read. BeginsWithCaptured (codes "(" ++ chars text.now) read.0 (chars read.1.now)) }
+    ensures step { IfSome result (λ read.
+        BeginsWithCaptured (codes "(" ++ chars text.now) read.0 (chars read.1.now)) }
     ensures reads { ReadsCaptured (codes "(" ++ chars text.now) result }
     ensures len { IfSome result (λ read. length read.1.now < length text.now) }
 {
@@ -159,7 +165,8 @@ fn repeated_run(run: Step, times: GroupQuantifier) -> Option<Step>
 /// The character that ends the run of a step, and whether the run is greedy. `None`: the step is
 /// neither `LazyRun` nor `DotStar`.
 pub fn run_of(step: Step) -> Option<(char, bool)>
-    ensures run { IfSome result (λ run. (items : Items) → IsStepOf step (Captured items) → IsRunOf run.0 run.1 items) }
+    ensures run { IfSome result (λ run.
+        (items : Items) → IsStepOf step (Captured items) → IsRunOf run.0 run.1 items) }
     ensures reads { FindsRun step result }
 {
     match step {
@@ -171,8 +178,11 @@ pub fn run_of(step: Step) -> Option<(char, bool)>
 
 /// Whether a repeated run may be empty. `None`: the quantifier is no repeat.
 fn may_be_empty(is_greedy: bool, times: GroupQuantifier) -> Option<bool>
-    ensures may { IfSome result (λ may_be_empty. AllowsEmptyRun is_greedy (quantifier_of times) may_be_empty) }
-    ensures reads { (may_be_empty : Bool) → AllowsEmptyRun is_greedy (quantifier_of times) may_be_empty → result ≡ Some may_be_empty }
+    ensures may { IfSome result (λ may_be_empty.
+        AllowsEmptyRun is_greedy (quantifier_of times) may_be_empty) }
+    ensures reads { (may_be_empty : Bool)
+        → AllowsEmptyRun is_greedy (quantifier_of times) may_be_empty
+        → result ≡ Some may_be_empty }
 {
     match times {
         GroupQuantifier::ZeroOrMore => Some(true),
@@ -183,7 +193,8 @@ fn may_be_empty(is_greedy: bool, times: GroupQuantifier) -> Option<bool>
 
 /// Returns the step of a run of characters, and the rest.
 pub fn read_run(text: &str) -> Option<(Step, &str)>
-    ensures step { IfSome result (λ read. BeginsWithCaptured (chars text.now) read.0 (chars read.1.now)) }
+    ensures step { IfSome result (λ read.
+        BeginsWithCaptured (chars text.now) read.0 (chars read.1.now)) }
     ensures reads { ReadsRuns (chars text.now) result }
     ensures len { IfSome result (λ read. length read.1.now < length text.now) }
 {
@@ -195,7 +206,8 @@ pub fn read_run(text: &str) -> Option<(Step, &str)>
 
 /// Returns the step of a quantified dot, and the rest. `text` is what follows the dot.
 fn read_repeated_dot(text: &str) -> Option<(Step, &str)>
-    ensures step { IfSome result (λ read. BeginsWithCaptured (codes "." ++ chars text.now) read.0 (chars read.1.now)) }
+    ensures step { IfSome result (λ read.
+        BeginsWithCaptured (codes "." ++ chars text.now) read.0 (chars read.1.now)) }
     ensures reads { ReadsRuns (codes "." ++ chars text.now) result }
     ensures len { IfSome result (λ read. length read.1.now < length text.now) }
 {
@@ -207,7 +219,8 @@ fn read_repeated_dot(text: &str) -> Option<(Step, &str)>
 
 /// Returns the step of a quantified class, and the rest. `text` is what follows `[^`.
 fn read_repeated_class(text: &str) -> Option<(Step, &str)>
-    ensures step { IfSome result (λ read. BeginsWithCaptured (codes "[^" ++ chars text.now) read.0 (chars read.1.now)) }
+    ensures step { IfSome result (λ read.
+        BeginsWithCaptured (codes "[^" ++ chars text.now) read.0 (chars read.1.now)) }
     ensures reads { ReadsRuns (codes "[^" ++ chars text.now) result }
     ensures len { IfSome result (λ read. length read.1.now < length text.now) }
 {
@@ -226,8 +239,11 @@ fn after_lazy_plus(text: &str) -> Option<&str>
 
 /// Returns the literal character that the text begins with, unescaped, and the rest.
 pub fn read_literal(text: &str) -> Option<(char, &str)>
-    ensures character { IfSome result (λ read. BeginsWithCharacter IsCharacter (chars text.now) read.0 (chars read.1.now)) }
-    ensures reads { (c : ℕ) (rest : List ℕ) → BeginsWithCharacter IsCharacter (chars text.now) c rest → IsRead result c rest }
+    ensures character { IfSome result (λ read.
+        BeginsWithCharacter IsCharacter (chars text.now) read.0 (chars read.1.now)) }
+    ensures reads { (c : ℕ) (rest : List ℕ)
+        → BeginsWithCharacter IsCharacter (chars text.now) c rest
+        → IsRead result c rest }
     ensures len { IfSome result (λ read. length read.1.now < length text.now) }
 {
     let (c, rest) = split_first(text)?;
@@ -239,8 +255,11 @@ pub fn read_literal(text: &str) -> Option<(char, &str)>
 
 /// Returns the character of a class, unescaped, and the rest.
 fn read_class_character(text: &str) -> Option<(char, &str)>
-    ensures character { IfSome result (λ read. BeginsWithCharacter IsClassCharacter (chars text.now) read.0 (chars read.1.now)) }
-    ensures reads { (c : ℕ) (rest : List ℕ) → BeginsWithCharacter IsClassCharacter (chars text.now) c rest → IsRead result c rest }
+    ensures character { IfSome result (λ read.
+        BeginsWithCharacter IsClassCharacter (chars text.now) read.0 (chars read.1.now)) }
+    ensures reads { (c : ℕ) (rest : List ℕ)
+        → BeginsWithCharacter IsClassCharacter (chars text.now) c rest
+        → IsRead result c rest }
     ensures len { IfSome result (λ read. length read.1.now < length text.now) }
 {
     let (c, rest) = split_first(text)?;
@@ -256,7 +275,9 @@ fn read_class_character(text: &str) -> Option<(char, &str)>
 fn read_escaped(text: &str) -> Option<(char, &str)>
     ensures mark { IfSome result (λ read. IsTrue (is_among (regexp_marks ++ codes "/") read.0)) }
     ensures cut { IfSome result (λ read. chars text.now ≡ read.0 ∷ chars read.1.now) }
-    ensures other { IfNone result ((c : ℕ) (rest : List ℕ) → IsTrue (is_among (regexp_marks ++ codes "/") c) → chars text.now ≢ c ∷ rest) }
+    ensures other { IfNone result ((c : ℕ) (rest : List ℕ)
+        → IsTrue (is_among (regexp_marks ++ codes "/") c)
+        → chars text.now ≢ c ∷ rest) }
     ensures len { IfSome result (λ read. length read.1.now < length text.now) }
 {
     let (c, rest) = split_first(text)?;

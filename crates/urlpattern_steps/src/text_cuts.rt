@@ -27,8 +27,10 @@ pub fn is_same(c: char, other: char, ignore_case: bool) -> bool
 
 /// Returns the text without its first character, if `is_same` finds that equal to `c`.
 pub fn after_same(text: &str, c: char, ignore_case: bool) -> Option<&str>
-    ensures cut { IfSome result (λ rest. BeginsAs ignore_case (c ∷ []) (chars text.now) (chars rest.now)) }
-    ensures other { IfNone result ((rest : List ℕ) → ¬ BeginsAs ignore_case (c ∷ []) (chars text.now) rest) }
+    ensures cut { IfSome result (λ rest.
+        BeginsAs ignore_case (c ∷ []) (chars text.now) (chars rest.now)) }
+    ensures other { IfNone result
+        ((rest : List ℕ) → ¬ BeginsAs ignore_case (c ∷ []) (chars text.now) rest) }
     ensures len { IfSome result (λ rest. length rest.now < length text.now) }
 {
     let (first, rest) = split_first(text)?;
@@ -49,7 +51,10 @@ pub fn after_prefix<'a>(text: &'a str, front: &str) -> &'a str
 
 /// Splits a text at a byte index.
 pub fn split_at_boundary(text: &str, count: usize) -> (&str, &str)
-    requires { (front rest : List ℕ) × IsUtf8 front × IsUtf8 rest × (text.now ≡ front ++ rest) × (length front ≡ count) }
+    requires { (front rest : List ℕ) × IsUtf8 front
+        × IsUtf8 rest
+        × (text.now ≡ front ++ rest)
+        × (length front ≡ count) }
     ensures cut { text.now ≡ result.0.now ++ result.1.now }
     ensures count { length result.0.now ≡ count }
 {
@@ -59,7 +64,8 @@ pub fn split_at_boundary(text: &str, count: usize) -> (&str, &str)
 /// Returns the text without its last character. `None`: the text is empty.
 pub fn without_last(text: &str) -> Option<&str>
     ensures empty { IfNone result (text.now ≡ []) }
-    ensures cut { IfSome result (λ front. (c : ℕ) × IsScalar c × (text.now ≡ front.now ++ encode_utf8 c)) }
+    ensures cut { IfSome result (λ front.
+        (c : ℕ) × IsScalar c × (text.now ≡ front.now ++ encode_utf8 c)) }
     ensures len { IfSome result (λ front. length front.now < length text.now) }
 {
     let mut characters = text.chars();

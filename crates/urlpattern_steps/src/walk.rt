@@ -42,7 +42,8 @@ pub fn walk<'t>(
     is_memoized: bool,
     text: &'t str,
 ) -> Result<Option<Vec<Option<&'t str>>>, OutOfMemory>
-    ensures { IfOk result (λ found. captures_view found ≡ walk ignore_case steps.now (chars text.now)) }
+    ensures { IfOk result (λ found.
+        captures_view found ≡ walk ignore_case steps.now (chars text.now)) }
 {
     let failed = FailedStates::new(alloc, steps, ignore_case, text, is_memoized)?;
     let mut attempt = Attempt {
@@ -61,7 +62,8 @@ impl<'t> Attempt<'_, 't> {
     #[cycle(following)]
     fn match_rest(&mut self, ignore_case: bool, steps: &[Step], text: &'t str) -> Taken
         requires { IsStateOf ignore_case self.old.failed steps.now (chars text.now) }
-        ensures { MatchesRestIfOk self.old self.new result (walk ignore_case steps.now (chars text.now)) }
+        ensures { MatchesRestIfOk self.old self.new result
+            (walk ignore_case steps.now (chars text.now)) }
     {
         let count = self.captures.len();
         if self.match_in_turn(ignore_case, steps, text)? {
@@ -76,7 +78,8 @@ impl<'t> Attempt<'_, 't> {
     #[cycle(following)]
     fn match_in_turn(&mut self, ignore_case: bool, steps: &[Step], text: &'t str) -> Taken
         requires { IsStateOf ignore_case self.old.failed steps.now (chars text.now) }
-        ensures { IfOk result (λ taken. MatchesInTurn self.old self.new taken (walk ignore_case steps.now (chars text.now))) }
+        ensures { IfOk result (λ taken.
+            MatchesInTurn self.old self.new taken (walk ignore_case steps.now (chars text.now))) }
     {
         let mut left = steps;
         let mut rest = text;
@@ -132,7 +135,8 @@ impl<'t> Attempt<'_, 't> {
     ) -> Taken
         requires state { IsStateOf ignore_case self.old.failed steps.now (chars text.now) }
         requires first { steps.now ≡ step.now ∷ others.now }
-        ensures { IfOk result (λ taken. MatchesInTurn self.old self.new taken (walk ignore_case steps.now (chars text.now))) }
+        ensures { IfOk result (λ taken.
+            MatchesInTurn self.old self.new taken (walk ignore_case steps.now (chars text.now))) }
     {
         if self.failed.contains(steps, text) {
             return Ok(false);
@@ -159,7 +163,8 @@ impl<'t> Attempt<'_, 't> {
     ) -> Taken
         requires state { IsStateOf ignore_case self.old.failed steps.now (chars text.now) }
         requires first { steps.now ≡ step.now ∷ others.now }
-        ensures { IfOk result (λ taken. MatchesInTurn self.old self.new taken (walk ignore_case steps.now (chars text.now))) }
+        ensures { IfOk result (λ taken.
+            MatchesInTurn self.old self.new taken (walk ignore_case steps.now (chars text.now))) }
     {
         match step {
             Step::Literal(c) => match after_same(text, *c, ignore_case) {
@@ -191,7 +196,9 @@ impl<'t> Attempt<'_, 't> {
         text: &'t str,
     ) -> Taken
         requires { IsStateOf ignore_case self.old.failed others.now (chars text.now) }
-        ensures { IfOk result (λ taken. MatchesInTurn self.old self.new taken (walk ignore_case (Step.OptionalGroup group ∷ others.now) (chars text.now))) }
+        ensures { IfOk result (λ taken.
+            MatchesInTurn self.old self.new taken
+            (walk ignore_case (Step.OptionalGroup group ∷ others.now) (chars text.now))) }
     {
         if self.match_rest(ignore_case, others, text)? {
             return Ok(true);
@@ -211,7 +218,8 @@ impl<'t> Attempt<'_, 't> {
         rest: &'t str,
     ) -> Taken
         requires { IsStateOf ignore_case self.old.failed steps.now (chars rest.now) }
-        ensures { MatchesRestIfOk self.old self.new result (captured_prefix (walk ignore_case steps.now) (chars front.now) (chars rest.now)) }
+        ensures { MatchesRestIfOk self.old self.new result
+            (captured_prefix (walk ignore_case steps.now) (chars front.now) (chars rest.now)) }
     {
         self.captures.push(Some(front))?;
         if self.match_rest(ignore_case, steps, rest)? {

@@ -26,7 +26,8 @@ fault_text (FaultView.InvalidRegex reason) = codes "invalid regex: " ++ reason
 -- The message for a token of an unexpected kind, with its value.
 abbrev pub expected_token_text : (expected found : TokenType) → (value : List ℕ) → List ℕ
 expected_token_text expected found value =
-    codes "expected token " ++ kind_name expected ++ codes ", found '" ++ encode_utf8_all value ++ codes "' of type "
+    codes "expected token " ++ kind_name expected ++ codes ", found '" ++ encode_utf8_all value
+    ++ codes "' of type "
     ++ kind_name found
 
 -- The message for a name that two groups have.
@@ -35,18 +36,23 @@ duplicate_name_text name = codes "pattern contains duplicate name " ++ encode_ut
 
 -- The message of a `ParserError`.
 abbrev pub parser_error_text : ParserError → List ℕ
-parser_error_text (ParserError.ExpectedToken expected found value) = expected_token_text expected found (text_of value)
+parser_error_text (ParserError.ExpectedToken expected found value) =
+    expected_token_text expected found (text_of value)
 parser_error_text (ParserError.DuplicateName name) = duplicate_name_text (text_of name)
 
 -- The message of an `Error`. `None` for an error of `url`, whose message no clause describes.
 abbrev pub error_text : ErrorView → Option (List ℕ)
-error_text ErrorView.BaseUrlRequired = Some (codes "a relative input without a base URL is not valid")
-error_text ErrorView.BaseUrlWithInit = Some (codes "specifying both an init object, " ++ codes "and a separate base URL is not valid")
+error_text ErrorView.BaseUrlRequired =
+    Some (codes "a relative input without a base URL is not valid")
+error_text ErrorView.BaseUrlWithInit =
+    Some (codes "specifying both an init object, " ++ codes "and a separate base URL is not valid")
 error_text (ErrorView.Tokenizer fault place) =
-    Some (codes "tokenizer error: " ++ fault_text fault ++ codes " (at char " ++ decimal place ++ codes ")")
+    Some (codes "tokenizer error: " ++ fault_text fault ++ codes " (at char " ++ decimal place
+    ++ codes ")")
 error_text (ErrorView.ExpectedToken expected found value) =
     Some (codes "parser error: " ++ expected_token_text expected found value)
-error_text (ErrorView.DuplicateName name) = Some (codes "parser error: " ++ duplicate_name_text name)
+error_text (ErrorView.DuplicateName name) =
+    Some (codes "parser error: " ++ duplicate_name_text name)
 error_text (ErrorView.Url error) = None
 error_text ErrorView.RegExp = Some (codes "regexp error")
 error_text ErrorView.OutOfMemory = Some (codes "out of memory")

@@ -18,7 +18,8 @@ pub data ErrorView : Type 0 where
 
 -- A `ParserError` as an error.
 abbrev pub parser_error_view : ParserError → ErrorView
-parser_error_view (ParserError.ExpectedToken expected found value) = ExpectedToken expected found (text_of value)
+parser_error_view (ParserError.ExpectedToken expected found value) =
+    ExpectedToken expected found (text_of value)
 parser_error_view (ParserError.DuplicateName name) = DuplicateName (text_of name)
 
 -- An `Error`, as clauses see it.

@@ -23,7 +23,12 @@ options_view options = record {
 
 -- A set of options in Rust's syntax, by its delimiter and its prefix code point.
 abbrev pub standard_options : Option ℕ → List ℕ → OptionsView
-standard_options delimiter prefix = record { delimiter = delimiter; prefix = prefix; syntax = RegexSyntax.Rust; ignore_case = false }
+standard_options delimiter prefix = record {
+  delimiter = delimiter;
+  prefix = prefix;
+  syntax = RegexSyntax.Rust;
+  ignore_case = false;
+}
 
 -- The options of most components.
 abbrev pub default_options : OptionsView

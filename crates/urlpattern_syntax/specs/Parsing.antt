@@ -17,7 +17,8 @@ views tokens = map token_view tokens
 
 -- A modifier token is spelled `+` or `?`.
 abbrev pub IsModifierSpelled : TokenView → Type 0
-IsModifierSpelled token = token.kind ≡ OtherModifier → (token.value ≡ codes "+") ⊎ (token.value ≡ codes "?")
+IsModifierSpelled token =
+    token.kind ≡ OtherModifier → (token.value ≡ codes "+") ⊎ (token.value ≡ codes "?")
 
 -- A name from a pattern: its first character may begin a name, which a digit may not.
 abbrev pub IsGiven : List ℕ → Type 0
@@ -31,10 +32,12 @@ IsNameSpelled token = token.kind ≡ Name → IsGiven token.value
 abbrev pub IsTokenList : List TokenView → Type 0
 IsTokenList [] = ⊥
 IsTokenList (token ∷ []) = token.kind ≡ End
-IsTokenList (token ∷ next ∷ tokens) = (token.kind ≢ End) × IsModifierSpelled token × IsTokenList (next ∷ tokens)
+IsTokenList (token ∷ next ∷ tokens) =
+    (token.kind ≢ End) × IsModifierSpelled token × IsTokenList (next ∷ tokens)
 
 -- The tokens begin with a placeholder of maximal length.
-pub record BeginsWithPlaceholder (tokens : List TokenView) (placeholder : Placeholder) (rest : List TokenView) : Type 0 where
+pub record BeginsWithPlaceholder (tokens : List TokenView) (placeholder : Placeholder)
+    (rest : List TokenView) : Type 0 where
   pub front : List TokenView
   pub cut : tokens ≡ front ++ rest
   pub is_placeholder : IsPlaceholderOf front placeholder.name placeholder.matched
@@ -42,7 +45,8 @@ pub record BeginsWithPlaceholder (tokens : List TokenView) (placeholder : Placeh
   pub closed : IsTokenList tokens → IsTokenList rest
 
 -- The tokens begin with a modifier, if there is one.
-pub record BeginsWithModifier (tokens : List TokenView) (modifier : PartModifier) (rest : List TokenView) : Type 0 where
+pub record BeginsWithModifier (tokens : List TokenView) (modifier : PartModifier)
+    (rest : List TokenView) : Type 0 where
   pub front : List TokenView
   pub cut : tokens ≡ front ++ rest
   pub is_modifier : IsModifier front modifier
@@ -64,7 +68,8 @@ IsPieceNamed other = Unit {0}
 
 -- The tokens begin with `first` and the text tokens of `more`. A further text token follows, unless
 -- `more` is empty.
-pub record BeginsWithCharacters (tokens : List TokenView) (first : TokenView) (more : List ℕ) (rest : List TokenView) : Type 0 where
+pub record BeginsWithCharacters (tokens : List TokenView) (first : TokenView) (more : List ℕ)
+    (rest : List TokenView) : Type 0 where
   pub row : List TokenView
   pub cut : tokens ≡ first ∷ row ++ rest
   pub are_texts : AreTexts row more
@@ -72,21 +77,24 @@ pub record BeginsWithCharacters (tokens : List TokenView) (first : TokenView) (m
   pub goes_on : (more ≡ []) ⊎ BeginsWithKind is_text rest
 
 -- The tokens begin with the text tokens of `text`, and a further text token follows.
-pub record BeginsWithRow (tokens : List TokenView) (text : List ℕ) (rest : List TokenView) : Type 0 where
-  pub row : List TokenView
-  pub cut : tokens ≡ row ++ rest
-  pub are_texts : AreTexts row text
-  pub goes_on : BeginsWithKind is_text rest
+pub record BeginsWithRow (tokens : List TokenView) (text : List ℕ) (rest : List TokenView) : Type 0
+  where
+    pub row : List TokenView
+    pub cut : tokens ≡ row ++ rest
+    pub are_texts : AreTexts row text
+    pub goes_on : BeginsWithKind is_text rest
 
 -- The tokens begin with the text tokens of `text`, and no text token follows.
-pub record BeginsWithTexts (tokens : List TokenView) (text : List ℕ) (rest : List TokenView) : Type 0 where
+pub record BeginsWithTexts (tokens : List TokenView) (text : List ℕ) (rest : List TokenView) : Type
+    0 where
   pub front : List TokenView
   pub cut : tokens ≡ front ++ rest
   pub are_texts : AreTexts front text
   pub all : ¬ BeginsWithKind is_text rest
 
 -- The tokens begin with the Close of a group and its modifier.
-pub record BeginsWithClose (tokens : List TokenView) (modifier : PartModifier) (rest : List TokenView) : Type 0 where
+pub record BeginsWithClose (tokens : List TokenView) (modifier : PartModifier)
+    (rest : List TokenView) : Type 0 where
   pub closing : TokenView
   pub behind : List TokenView
   pub cut : tokens ≡ closing ∷ behind
@@ -94,12 +102,17 @@ pub record BeginsWithClose (tokens : List TokenView) (modifier : PartModifier) (
   pub begins : BeginsWithModifier behind modifier rest
 
 -- The tokens begin with the piece.
-abbrev pub BeginsWithPiece : (point : List ℕ) → List TokenView → Piece → (rest : List TokenView) → Type 0
-BeginsWithPiece point tokens piece rest = (front : List TokenView) × (tokens ≡ front ++ rest) × IsPiece point front piece rest
+abbrev pub BeginsWithPiece : (point : List ℕ) → List TokenView → Piece
+    → (rest : List TokenView) → Type 0
+BeginsWithPiece point tokens piece rest =
+    (front : List TokenView) × (tokens ≡ front ++ rest) × IsPiece point front piece rest
 
 -- The tokens have the ending, whose token is the first of `rest`.
 abbrev pub HasEndingAt : List TokenView → (TokenView → Ending) → (rest : List TokenView) → Type 0
-HasEndingAt tokens ending rest = (found : TokenView) × (more : List TokenView) × (rest ≡ found ∷ more) × IsEnding tokens (ending found)
+HasEndingAt tokens ending rest =
+    (found : TokenView) × (more : List TokenView)
+    × (rest ≡ found ∷ more)
+    × IsEnding tokens (ending found)
 
 -- ---- the parts read
 
@@ -122,7 +135,8 @@ pending_items [] = []
 pending_items (c ∷ text) = Fixed (c ∷ text) PartModifier.None ∷ []
 
 -- The parts of the items are appended, and no text is pending.
-pub record AddsParts (options : OptionsView) (encoding : Encoding) (old : PartListView) (items : List Item) (new : PartListView) : Type 0 where
+pub record AddsParts (options : OptionsView) (encoding : Encoding) (old : PartListView)
+    (items : List Item) (new : PartListView) : Type 0 where
   pub added : List PartView
   pub parts : new.parts ≡ old.parts ++ added
   pub are_parts : AreParts options encoding items added
@@ -132,14 +146,19 @@ pub record AddsParts (options : OptionsView) (encoding : Encoding) (old : PartLi
 -- The item is added: a plain fixed text to the pending text, any other as a part after that of the
 -- pending text.
 abbrev pub AddsItem : OptionsView → Encoding → PartListView → Item → PartListView → Type 0
-AddsItem options encoding old (Fixed text PartModifier.None) new = (new.parts ≡ old.parts) × (new.pending ≡ old.pending ++ text)
-AddsItem options encoding old item new = AddsParts options encoding old (pending_items old.pending ++ item ∷ []) new
+AddsItem options encoding old (Fixed text PartModifier.None) new =
+    (new.parts ≡ old.parts) × (new.pending ≡ old.pending ++ text)
+AddsItem options encoding old item new =
+    AddsParts options encoding old (pending_items old.pending ++ item ∷ []) new
 
 -- Memory ran out, or the first demand of the items that is not met fails with the error.
 abbrev pub FailsItems : Encoding → List PartView → List Item → Error → Type 0
-FailsItems encoding parts items error = MemoryOr (FirstFails encoding (item_demands (group_names parts) items)) error
+FailsItems encoding parts items error =
+    MemoryOr (FirstFails encoding (item_demands (group_names parts) items)) error
 
 -- The item is not added. For a plain fixed text memory ran out; any other may also fail a demand.
 abbrev pub FailsItem : Encoding → PartListView → Item → Error → Type 0
-FailsItem encoding old (Fixed text PartModifier.None) error = error_view error ≡ ErrorView.OutOfMemory
-FailsItem encoding old item error = FailsItems encoding old.parts (pending_items old.pending ++ item ∷ []) error
+FailsItem encoding old (Fixed text PartModifier.None) error =
+    error_view error ≡ ErrorView.OutOfMemory
+FailsItem encoding old item error =
+    FailsItems encoding old.parts (pending_items old.pending ++ item ∷ []) error

@@ -29,4 +29,11 @@ parts_view parts = map part_view parts
 
 -- The part of a fixed text.
 abbrev pub fixed_text : List ℕ → PartModifier → PartView
-fixed_text value modifier = record { kind = PartType.FixedText; value = value; modifier = modifier; name = []; prefix = []; suffix = [] }
+fixed_text value modifier = record {
+  kind = PartType.FixedText;
+  value = value;
+  modifier = modifier;
+  name = [];
+  prefix = [];
+  suffix = [];
+}

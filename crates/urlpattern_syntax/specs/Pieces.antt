@@ -59,14 +59,18 @@ BeginsWithKind test (token ∷ tokens) = IsTrue (test token.kind)
 
 -- The tokens are literal characters, and `text` is their values, joined.
 abbrev pub AreTexts : List TokenView → List ℕ → Type 0
-AreTexts tokens text = IsTrue (list_all (λ token. is_text token.kind) tokens) × (text ≡ flat_map (λ token. token.value) tokens)
+AreTexts tokens text =
+    IsTrue (list_all (λ token. is_text token.kind) tokens)
+    × (text ≡ flat_map (λ token. token.value) tokens)
 
 -- The tokens are a placeholder with this name that matches `PlaceholderKindView`.
 abbrev pub IsPlaceholderOf : List TokenView → Option (List ℕ) → PlaceholderKindView → Type 0
-IsPlaceholderOf tokens (Some name) Segment = (kinds tokens ≡ Name ∷ []) × (values tokens ≡ name ∷ [])
+IsPlaceholderOf tokens (Some name) Segment =
+    (kinds tokens ≡ Name ∷ []) × (values tokens ≡ name ∷ [])
 IsPlaceholderOf tokens (Some name) (Custom body) =
     (kinds tokens ≡ Name ∷ Regexp ∷ []) × (values tokens ≡ name ∷ body ∷ [])
-IsPlaceholderOf tokens None (Custom body) = (kinds tokens ≡ Regexp ∷ []) × (values tokens ≡ body ∷ [])
+IsPlaceholderOf tokens None (Custom body) =
+    (kinds tokens ≡ Regexp ∷ []) × (values tokens ≡ body ∷ [])
 IsPlaceholderOf tokens None Anything = kinds tokens ≡ Asterisk ∷ []
 -- An asterisk has no name, and a segment has one.
 IsPlaceholderOf tokens (Some name) Anything = ⊥
@@ -75,14 +79,17 @@ IsPlaceholderOf tokens None Segment = ⊥
 -- The tokens spell the modifier.
 abbrev pub IsModifier : List TokenView → PartModifier → Type 0
 IsModifier tokens PartModifier.None = tokens ≡ []
-IsModifier tokens PartModifier.Optional = (kinds tokens ≡ OtherModifier ∷ []) × (values tokens ≡ codes "?" ∷ [])
-IsModifier tokens PartModifier.OneOrMore = (kinds tokens ≡ OtherModifier ∷ []) × (values tokens ≡ codes "+" ∷ [])
+IsModifier tokens PartModifier.Optional =
+    (kinds tokens ≡ OtherModifier ∷ []) × (values tokens ≡ codes "?" ∷ [])
+IsModifier tokens PartModifier.OneOrMore =
+    (kinds tokens ≡ OtherModifier ∷ []) × (values tokens ≡ codes "+" ∷ [])
 IsModifier tokens PartModifier.ZeroOrMore = kinds tokens ≡ Asterisk ∷ []
 
 -- The prefix is empty without tokens, or the prefix code point as a Char token.
 abbrev pub IsPrefixOf : (point : List ℕ) → List TokenView → List ℕ → Type 0
 IsPrefixOf point tokens prefix =
-    ((tokens ≡ []) × (prefix ≡ [])) ⊎ ((kinds tokens ≡ Char ∷ []) × (values tokens ≡ prefix ∷ []) × (prefix ≡ point))
+    ((tokens ≡ []) × (prefix ≡ []))
+    ⊎ ((kinds tokens ≡ Char ∷ []) × (values tokens ≡ prefix ∷ []) × (prefix ≡ point))
 
 -- ---- maximal length
 
@@ -109,12 +116,14 @@ TakesRegexp matched rest = Unit {0}
 
 -- A Char token with the prefix code point belongs to the placeholder after it.
 abbrev pub TakesPrefix : (point : List ℕ) → TokenView → List TokenView → Type 0
-TakesPrefix point token rest = token.kind ≡ Char → token.value ≡ point → ¬ BeginsWithKind is_placeholder rest
+TakesPrefix point token rest =
+    token.kind ≡ Char → token.value ≡ point → ¬ BeginsWithKind is_placeholder rest
 
 -- ---- pieces
 
 -- The tokens before `rest` are a prefix, a placeholder and a modifier, without braces.
-pub record IsBare (point : List ℕ) (tokens : List TokenView) (prefix : List ℕ) (placeholder : Placeholder) (modifier : PartModifier) (rest : List TokenView) : Type 0 where
+pub record IsBare (point : List ℕ) (tokens : List TokenView) (prefix : List ℕ)
+    (placeholder : Placeholder) (modifier : PartModifier) (rest : List TokenView) : Type 0 where
   pub front : List TokenView
   pub middle : List TokenView
   pub back : List TokenView
@@ -126,7 +135,8 @@ pub record IsBare (point : List ℕ) (tokens : List TokenView) (prefix : List �
   pub takes_modifier : TakesModifier modifier rest
 
 -- The tokens before `rest` are `inner` in braces and a modifier.
-pub record IsBraced (tokens inner : List TokenView) (modifier : PartModifier) (rest : List TokenView) : Type 0 where
+pub record IsBraced (tokens inner : List TokenView) (modifier : PartModifier)
+    (rest : List TokenView) : Type 0 where
   pub opening : TokenView
   pub closing : TokenView
   pub back : List TokenView
@@ -137,7 +147,8 @@ pub record IsBraced (tokens inner : List TokenView) (modifier : PartModifier) (r
   pub takes_modifier : TakesModifier modifier rest
 
 -- The tokens between braces, before `rest`, are texts, a placeholder and texts.
-pub record IsFilled (inner : List TokenView) (before : List ℕ) (placeholder : Placeholder) (after : List ℕ) (rest : List TokenView) : Type 0 where
+pub record IsFilled (inner : List TokenView) (before : List ℕ) (placeholder : Placeholder)
+    (after : List ℕ) (rest : List TokenView) : Type 0 where
   pub front : List TokenView
   pub middle : List TokenView
   pub back : List TokenView
@@ -152,7 +163,8 @@ abbrev pub IsPiece : (point : List ℕ) → List TokenView → Piece → (rest :
 IsPiece point tokens (Text text) rest =
     (token : TokenView) × (tokens ≡ token ∷ []) × IsTrue (is_text token.kind) × (text ≡ token.value)
     × TakesPrefix point token rest
-IsPiece point tokens (Bare prefix placeholder modifier) rest = IsBare point tokens prefix placeholder modifier rest
+IsPiece point tokens (Bare prefix placeholder modifier) rest =
+    IsBare point tokens prefix placeholder modifier rest
 IsPiece point tokens (TextGroup text modifier) rest =
     (inner : List TokenView) × IsBraced tokens inner modifier rest × AreTexts inner text
 IsPiece point tokens (Group before placeholder after modifier) rest =
@@ -180,13 +192,18 @@ abbrev pub IsOpenGroup : List TokenView → List TokenView → Type 0
 IsOpenGroup inner rest =
     ¬ BeginsWithKind is_text rest
     × (((text : List ℕ) × AreTexts inner text × ¬ BeginsWithKind is_placeholder rest)
-    ⊎ ((before after : List ℕ) × (placeholder : Placeholder) × IsFilled inner before placeholder after rest))
+    ⊎
+    ((before after : List ℕ) × (placeholder : Placeholder)
+    × IsFilled inner before placeholder after rest))
 
 -- The tokens after the last piece have this ending.
 abbrev pub IsEnding : List TokenView → Ending → Type 0
-IsEnding tokens (Stops found) = (more : List TokenView) × (tokens ≡ found ∷ more) × IsTrue (is_stop found.kind)
+IsEnding tokens (Stops found) =
+    (more : List TokenView) × (tokens ≡ found ∷ more) × IsTrue (is_stop found.kind)
 IsEnding tokens (LacksClose found) =
-    (opening : TokenView) × (inner more : List TokenView) × (tokens ≡ opening ∷ inner ++ found ∷ more) × (opening.kind ≡ Open)
+    (opening : TokenView) × (inner more : List TokenView)
+    × (tokens ≡ opening ∷ inner ++ found ∷ more)
+    × (opening.kind ≡ Open)
     × IsOpenGroup inner (found ∷ more) × (found.kind ≢ Close)
 
 -- The tokens are these pieces, and then have the ending.

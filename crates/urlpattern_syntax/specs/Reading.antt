@@ -43,7 +43,8 @@ abbrev pub number_after : ℕ → Piece → ℕ
 number_after number (Piece.Text text) = number
 number_after number (Piece.TextGroup text modifier) = number
 number_after number (Piece.Bare prefix placeholder modifier) = next_number placeholder.name number
-number_after number (Piece.Group before placeholder after modifier) = next_number placeholder.name number
+number_after number (Piece.Group before placeholder after modifier) =
+    next_number placeholder.name number
 
 -- The items of the pieces, one by one.
 abbrev pub items_from : ℕ → List Piece → List Item
@@ -54,7 +55,8 @@ items_from number (piece ∷ rest) = item number piece ∷ items_from (number_af
 -- at the head is extended.
 abbrev pub with_text : List ℕ → List Item → List Item
 with_text [] items = items
-with_text (c ∷ text) (Fixed more PartModifier.None ∷ items) = Fixed (c ∷ text ++ more) PartModifier.None ∷ items
+with_text (c ∷ text) (Fixed more PartModifier.None ∷ items) =
+    Fixed (c ∷ text ++ more) PartModifier.None ∷ items
 with_text (c ∷ text) items = Fixed (c ∷ text) PartModifier.None ∷ items
 
 -- The items, with neighbouring plain fixed texts joined.
@@ -88,10 +90,13 @@ encode_fixed (c ∷ text) = Encode (c ∷ text) ∷ []
 abbrev pub demands_after : List (List ℕ) → List Item → Ending → List Demand
 demands_after earlier [] (Ending.Stops found) = Expect TokenType.End found ∷ []
 demands_after earlier [] (Ending.LacksClose found) = Expect TokenType.Close found ∷ []
-demands_after earlier (Fixed text PartModifier.None ∷ []) (Ending.LacksClose found) = Expect TokenType.Close found ∷ []
-demands_after earlier (Fixed text modifier ∷ items) ending = encode_fixed text ++ demands_after earlier items ending
+demands_after earlier (Fixed text PartModifier.None ∷ []) (Ending.LacksClose found) =
+    Expect TokenType.Close found ∷ []
+demands_after earlier (Fixed text modifier ∷ items) ending =
+    encode_fixed text ++ demands_after earlier items ending
 demands_after earlier (Capture prefix name match suffix modifier ∷ items) ending =
-    NewName earlier name ∷ Encode prefix ∷ Encode suffix ∷ demands_after (earlier ++ name ∷ []) items ending
+    NewName earlier name ∷ Encode prefix ∷ Encode suffix
+    ∷ demands_after (earlier ++ name ∷ []) items ending
 
 -- The demands of the items of a whole text.
 abbrev pub demands : List Item → Ending → List Demand
@@ -115,8 +120,10 @@ AreMet encoding (demand ∷ rest) = IsMet encoding demand × AreMet encoding res
 -- The demand is not met, and the error reports it.
 abbrev pub Fails : Encoding → Demand → ErrorView → Type 0
 Fails encoding (Encode text) error = encoding text (Err error)
-Fails encoding (NewName earlier name) error = Contains earlier name × (error ≡ ErrorView.DuplicateName name)
-Fails encoding (Expect kind token) error = (token.kind ≢ kind) × (error ≡ ErrorView.ExpectedToken kind token.kind token.value)
+Fails encoding (NewName earlier name) error =
+    Contains earlier name × (error ≡ ErrorView.DuplicateName name)
+Fails encoding (Expect kind token) error =
+    (token.kind ≢ kind) × (error ≡ ErrorView.ExpectedToken kind token.kind token.value)
 
 -- The first demand that is not met fails with this error.
 abbrev pub FirstFails : Encoding → List Demand → ErrorView → Type 0
@@ -144,7 +151,8 @@ value_of PartType.Regexp regexp = regexp
 value_of kind regexp = []
 
 -- The part of a group.
-abbrev pub capture_part : OptionsView → (prefix name : List ℕ) → PlaceholderKindView → (suffix : List ℕ) → PartModifier → PartView
+abbrev pub capture_part : OptionsView → (prefix name : List ℕ) → PlaceholderKindView
+    → (suffix : List ℕ) → PartModifier → PartView
 capture_part options prefix name match suffix modifier =
     let regexp = placeholder_regexp options match in
     record {
@@ -166,12 +174,15 @@ AreParts options encoding (Fixed (c ∷ text) modifier ∷ items) parts =
 AreParts options encoding (Capture prefix name match suffix modifier ∷ items) parts =
     (before after : List ℕ) × (rest : List PartView)
     × (parts ≡ capture_part options before name match after modifier ∷ rest)
-    × encoding prefix (Ok before) × encoding suffix (Ok after) × AreParts options encoding items rest
+    × encoding prefix (Ok before)
+    × encoding suffix (Ok after)
+    × AreParts options encoding items rest
 
 -- ---- reading and rejection
 
 -- The text reads as these parts.
-pub record Reads (text : List ℕ) (options : OptionsView) (encoding : Encoding) (parts : List PartView) : Type 0 where
+pub record Reads (text : List ℕ) (options : OptionsView) (encoding : Encoding)
+    (parts : List PartView) : Type 0 where
   pub tokens : List TokenView
   pub pieces : List Piece
   pub found : TokenView
@@ -181,7 +192,8 @@ pub record Reads (text : List ℕ) (options : OptionsView) (encoding : Encoding)
   pub are_parts : AreParts options encoding (items_of pieces) parts
 
 -- The first demand of the text that is not met fails with this error.
-pub record FailsDemand (text : List ℕ) (options : OptionsView) (encoding : Encoding) (error : ErrorView) : Type 0 where
+pub record FailsDemand (text : List ℕ) (options : OptionsView) (encoding : Encoding)
+    (error : ErrorView) : Type 0 where
   pub tokens : List TokenView
   pub pieces : List Piece
   pub ending : Ending
@@ -192,7 +204,9 @@ pub record FailsDemand (text : List ℕ) (options : OptionsView) (encoding : Enc
 -- The text is rejected with this error: its first fault, or else its first demand that is not met.
 abbrev pub Rejects : List ℕ → OptionsView → Encoding → ErrorView → Type 0
 Rejects text options encoding error =
-    ((fault : FaultView) × (place : ℕ) × IsFault text fault place × (error ≡ ErrorView.Tokenizer fault place))
+    ((fault : FaultView) × (place : ℕ)
+    × IsFault text fault place
+    × (error ≡ ErrorView.Tokenizer fault place))
     ⊎ FailsDemand text options encoding error
 
 -- The text reads as the parts of this vector.
@@ -209,7 +223,8 @@ callback_result_view (Err error) = Err (error_view error)
 -- The encoding of a callback: its possible results for the UTF-8 of a text.
 abbrev pub encoding_of : (List ℕ → Result (String Global) Error → Type 0) → Encoding
 encoding_of returns text answer =
-    (returned : Result (String Global) Error) × returns (encode_utf8_all text) returned × (answer ≡ callback_result_view returned)
+    (returned : Result (String Global) Error) × returns (encode_utf8_all text) returned
+    × (answer ≡ callback_result_view returned)
 
 -- The possible results of callbacks of the type `F`: `F.Fn`, of the bound
 -- `F: Fn(&str) -> Result<String, Error>`.

@@ -26,7 +26,8 @@ escaped_regexp options text = escaped (escaped_marks options.syntax) text
 -- At least one character other than the delimiter. Without a delimiter, any but a line feed.
 abbrev pub segment_wildcard_of : RegexSyntax → Option ℕ → List ℕ
 segment_wildcard_of syntax None = codes ".+?"
-segment_wildcard_of syntax (Some c) = codes "[^" ++ escaped (escaped_marks syntax) (c ∷ []) ++ codes "]+?"
+segment_wildcard_of syntax (Some c) =
+    codes "[^" ++ escaped (escaped_marks syntax) (c ∷ []) ++ codes "]+?"
 
 -- The regular expression of a segment under the options.
 abbrev pub segment_wildcard : OptionsView → List ℕ
@@ -74,14 +75,18 @@ bare_regexp PartModifier.OneOrMore text = captured (grouped text ++ codes "+")
 -- are not captured.
 abbrev pub repeated_regexp : (prefix text suffix : List ℕ) → List ℕ
 repeated_regexp prefix text suffix =
-    grouped (prefix ++ captured (grouped text ++ grouped (suffix ++ prefix ++ grouped text) ++ codes "*") ++ suffix)
+    grouped (prefix
+    ++ captured (grouped text ++ grouped (suffix ++ prefix ++ grouped text) ++ codes "*")
+    ++ suffix)
 
 -- The regular expression of a group with a prefix or a suffix, by its modifier.
 abbrev pub affixed_regexp : PartModifier → (prefix text suffix : List ℕ) → List ℕ
 affixed_regexp PartModifier.None prefix text suffix = grouped (prefix ++ captured text ++ suffix)
-affixed_regexp PartModifier.Optional prefix text suffix = grouped (prefix ++ captured text ++ suffix) ++ codes "?"
+affixed_regexp PartModifier.Optional prefix text suffix =
+    grouped (prefix ++ captured text ++ suffix) ++ codes "?"
 affixed_regexp PartModifier.OneOrMore prefix text suffix = repeated_regexp prefix text suffix
-affixed_regexp PartModifier.ZeroOrMore prefix text suffix = repeated_regexp prefix text suffix ++ codes "?"
+affixed_regexp PartModifier.ZeroOrMore prefix text suffix =
+    repeated_regexp prefix text suffix ++ codes "?"
 
 -- Whether the text is empty.
 abbrev pub is_empty : List ℕ → Bool
@@ -113,7 +118,8 @@ abbrev pub group_regexp : OptionsView → PartView → List ℕ
 group_regexp options part =
     if is_empty part.prefix && is_empty part.suffix
     then bare_regexp part.modifier (matched_by options part.kind part.value)
-    else affixed_regexp part.modifier (escaped_regexp options part.prefix) (matched_by options part.kind part.value) (escaped_regexp options part.suffix)
+    else affixed_regexp part.modifier (escaped_regexp options part.prefix)
+    (matched_by options part.kind part.value) (escaped_regexp options part.suffix)
 
 -- The regular expression of a part, by whether the part is a fixed text.
 abbrev pub part_regexp_of : OptionsView → PartView → Bool → List ℕ

@@ -46,7 +46,8 @@ line_feed = slice_index (codes "\n") 0
 -- The text is a concatenation of n texts of this kind.
 abbrev pub IsRepeated : (List ℕ → Type 0) → ℕ → List ℕ → Type 0
 IsRepeated Is zero text = text ≡ []
-IsRepeated Is (suc n) text = (first rest : List ℕ) × (text ≡ first ++ rest) × Is first × IsRepeated Is n rest
+IsRepeated Is (suc n) text =
+    (first rest : List ℕ) × (text ≡ first ++ rest) × Is first × IsRepeated Is n rest
 
 -- Whether a name may begin with the character: ID_Start, `$` or `_`.
 unfoldable pub is_name_start : ℕ → Bool

@@ -43,7 +43,8 @@ abbrev pub IsBody : Body → Type 0
 IsBody Nothing = Unit {0}
 IsBody (Escaped c body) = (c < 128) × IsBody body
 IsBody (Plain c body) = (c < 128) × ¬ IsTrue (is_among (codes "\\()") c) × IsBody body
-IsBody (Group inner body) = BeginsWith is_question_mark (body_text inner) × IsBody inner × IsBody body
+IsBody (Group inner body) =
+    BeginsWith is_question_mark (body_text inner) × IsBody inner × IsBody body
 
 -- The text is the value of a Regexp token.
 pub record IsRegexpBody (text : List ℕ) : Type 0 where
@@ -78,7 +79,8 @@ Spells EscapedChar value text = (text ≡ codes "\\" ++ value) × ((c : ℕ) × 
 Spells Name value text = (text ≡ codes ":" ++ value) × IsName value
 Spells Regexp value text = (text ≡ codes "(" ++ value ++ codes ")") × IsRegexpBody value
 Spells Char value text =
-    (value ≡ text) × ((c : ℕ) × (text ≡ c ∷ []) × ¬ IsTrue (is_among marks c) × ¬ IsTrue (is_ignored c))
+    (value ≡ text)
+    × ((c : ℕ) × (text ≡ c ∷ []) × ¬ IsTrue (is_among marks c) × ¬ IsTrue (is_ignored c))
 -- End and InvalidChar have no spelling: the first follows the whole text, the second replaces a
 -- fault.
 Spells End value text = ⊥
@@ -111,7 +113,8 @@ body_start_text (Inside body front) = body_text body ++ codes "(" ++ body_start_
 -- The start of a valid body.
 abbrev pub IsBodyStart : BodyStart → Type 0
 IsBodyStart (Here body) = IsBody body
-IsBodyStart (Inside body front) = IsBody body × IsBodyStart front × BeginsWith is_question_mark (body_start_text front)
+IsBodyStart (Inside body front) =
+    IsBody body × IsBodyStart front × BeginsWith is_question_mark (body_start_text front)
 
 -- The text may follow an opening parenthesis before a fault.
 pub record IsRegexpStart (text : List ℕ) : Type 0 where
@@ -122,7 +125,8 @@ pub record IsRegexpStart (text : List ℕ) : Type 0 where
 
 -- A fault after an opening parenthesis.
 pub data RegexpFault : Type 0 where
-  StartsWithQuestionMark NotAscii EscapedNotAscii GroupAtEnd CapturingGroup NotClosed NoBody : RegexpFault
+  StartsWithQuestionMark NotAscii EscapedNotAscii GroupAtEnd CapturingGroup NotClosed NoBody :
+      RegexpFault
 
 -- The text after an opening parenthesis has this fault.
 abbrev pub LacksRegexp : List ℕ → RegexpFault → Type 0
@@ -130,7 +134,10 @@ LacksRegexp rest StartsWithQuestionMark = BeginsWith is_question_mark rest
 LacksRegexp rest NotAscii =
     (front more : List ℕ) × (c : ℕ) × IsRegexpStart front × (rest ≡ front ++ c ∷ more) × (128 ≤ c)
 LacksRegexp rest EscapedNotAscii =
-    (front more : List ℕ) × (c : ℕ) × IsRegexpStart front × (rest ≡ front ++ codes "\\" ++ c ∷ more) × (128 ≤ c)
+    (front more : List ℕ) × (c : ℕ)
+    × IsRegexpStart front
+    × (rest ≡ front ++ codes "\\" ++ c ∷ more)
+    × (128 ≤ c)
 LacksRegexp rest GroupAtEnd = (front : List ℕ) × IsRegexpStart front × (rest ≡ front ++ codes "(")
 LacksRegexp rest CapturingGroup =
     (front more : List ℕ) × (c : ℕ) × IsRegexpStart front × (rest ≡ front ++ codes "(" ++ c ∷ more)
@@ -171,23 +178,30 @@ fault_view (TokenizerError.InvalidRegex fault) = InvalidRegex (regex_fault_text 
 -- No token begins at the start of the text, because of this fault.
 abbrev pub IsFaultAt : List ℕ → FaultView → Type 0
 IsFaultAt text IncompleteEscapeCode =
-    (text ≡ codes "\\") ⊎ ((front : List ℕ) × IsRegexpStart front × (text ≡ codes "(" ++ front ++ codes "\\"))
-IsFaultAt text InvalidName = (rest : List ℕ) × (text ≡ codes ":" ++ rest) × ¬ BeginsWith is_name_start rest
+    (text ≡ codes "\\")
+    ⊎ ((front : List ℕ) × IsRegexpStart front × (text ≡ codes "(" ++ front ++ codes "\\"))
+IsFaultAt text InvalidName =
+    (rest : List ℕ) × (text ≡ codes ":" ++ rest) × ¬ BeginsWith is_name_start rest
 IsFaultAt text (InvalidRegex reported) =
-    (rest : List ℕ) × (fault : RegexpFault) × (text ≡ codes "(" ++ rest) × LacksRegexp rest fault × (reported ≡ reason fault)
+    (rest : List ℕ) × (fault : RegexpFault)
+    × (text ≡ codes "(" ++ rest)
+    × LacksRegexp rest fault
+    × (reported ≡ reason fault)
 
 -- ---- whole texts
 
 -- The text is characters that pass the test, and then `rest`.
 abbrev pub SkipsBy : (ℕ → Bool) → (text rest : List ℕ) → Type 0
-SkipsBy test text rest = (skipped : List ℕ) × (text ≡ skipped ++ rest) × IsTrue (list_all test skipped)
+SkipsBy test text rest =
+    (skipped : List ℕ) × (text ≡ skipped ++ rest) × IsTrue (list_all test skipped)
 
 -- The text is skipped characters, and then `rest`.
 abbrev pub Skips : (text rest : List ℕ) → Type 0
 Skips text rest = SkipsBy is_ignored text rest
 
 -- The text is these tokens and then `left`. Each token is an `Item` of the text at its place.
-abbrev pub IsCut : (List ℕ → TokenView → List ℕ → Type 0) → List ℕ → List TokenView → List ℕ → Type 0
+abbrev pub IsCut : (List ℕ → TokenView → List ℕ → Type 0) → List ℕ → List TokenView → List ℕ
+    → Type 0
 IsCut Item text [] left = Skips text left
 IsCut Item text (token ∷ tokens) left =
     (start rest : List ℕ) × Skips text start × Item start token rest × IsCut Item rest tokens left
@@ -232,7 +246,9 @@ pub record IsInvalidCharOf (whole text : List ℕ) (token : TokenView) (rest : L
 -- token.
 pub record AreLenientTokens (text : List ℕ) (tokens : List TokenView) : Type 0 where
   pub front : List TokenView
-  pub cut : IsCut (λ start token rest. IsTokenOf text start token rest ⊎ IsInvalidCharOf text start token rest) text front []
+  pub cut : IsCut
+      (λ start token rest. IsTokenOf text start token rest ⊎ IsInvalidCharOf text start token rest)
+      text front []
   pub all : tokens ≡ front ++ end_of text ∷ []
 
 -- The tokens of the text under the policy.
@@ -264,7 +280,10 @@ LacksQuestionMark text IncompleteEscapeCode = ⊥
 LacksQuestionMark text InvalidName = ⊥
 LacksQuestionMark text (InvalidRegex reported) =
     ((text ≡ []) × (reported ≡ reason GroupAtEnd))
-    ⊎ ((c : ℕ) × (more : List ℕ) × (text ≡ c ∷ more) × ¬ IsTrue (is_question_mark c) × (reported ≡ reason CapturingGroup))
+    ⊎ ((c : ℕ) × (more : List ℕ)
+    × (text ≡ c ∷ more)
+    × ¬ IsTrue (is_question_mark c)
+    × (reported ≡ reason CapturingGroup))
 
 -- The error is the first fault of the text, or `OutOfMemory`.
 abbrev pub ReportsFault : List ℕ → Error → Type 0

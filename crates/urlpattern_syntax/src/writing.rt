@@ -27,13 +27,18 @@ pub trait Writer {
         requires { Fits self.old (c ∷ []) }
         ensures { Writes self.old (c ∷ []) self.new };
 
-    ghost fits_front: { (writer : Self) (xs ys : List ℕ) → Fits writer (xs ++ ys) → Fits writer xs };
+    ghost fits_front: { (writer : Self) (xs ys : List ℕ) → Fits writer (xs ++ ys)
+        → Fits writer xs };
 
-    ghost fits_rest: { (before after : Self) (xs ys : List ℕ) → Fits before (xs ++ ys) → Writes before xs after → Fits after ys };
+    ghost fits_rest: { (before after : Self) (xs ys : List ℕ) → Fits before (xs ++ ys)
+        → Writes before xs after
+        → Fits after ys };
 
     ghost writes_nothing: { (writer : Self) → Writes writer [] writer };
 
-    ghost writes_both: { (before between after : Self) (xs ys : List ℕ) → Writes before xs between → Writes between ys after → Writes before (xs ++ ys) after };
+    ghost writes_both: { (before between after : Self) (xs ys : List ℕ) → Writes before xs between
+        → Writes between ys after
+        → Writes before (xs ++ ys) after };
 }
 
 /// A byte counter, which saturates at the largest number.
@@ -61,7 +66,8 @@ impl Writer for Counter {
 
     ghost writes_nothing = { λ counter. counts_nothing counter.bytes };
 
-    ghost writes_both = { λ before between after xs ys first second. counts_both before.bytes between.bytes after.bytes xs ys first second };
+    ghost writes_both = { λ before between after xs ys first second.
+        counts_both before.bytes between.bytes after.bytes xs ys first second };
 }
 
 /// Writes into reserved capacity. Does not allocate.
@@ -121,7 +127,8 @@ impl Writer for Comparison<'_> {
 
     ghost writes_nothing = { λ comparison. compares_nothing (left_view comparison) };
 
-    ghost writes_both = { λ before between after xs ys first second. compares_both (left_view before) (left_view between) (left_view after) xs ys first second };
+    ghost writes_both = { λ before between after xs ys first second.
+        compares_both (left_view before) (left_view between) (left_view after) xs ys first second };
 }
 
 /// A text that is written piece by piece.
@@ -153,7 +160,8 @@ pub fn written<T: Writable>(alloc: Global, text: &T) -> Result<String, AllocErro
 
 /// Whether the text equals what would be written. Does not allocate.
 pub fn is_written<T: Writable>(text: &str, written: &T) -> bool
-    ensures { MatchBool result (chars text.now ≡ T.text written.now) (¬ (chars text.now ≡ T.text written.now)) }
+    ensures { MatchBool result (chars text.now ≡ T.text written.now)
+        (¬ (chars text.now ≡ T.text written.now)) }
 {
     let mut comparison = Comparison { left: Some(text) };
     written.write_to(&mut comparison);

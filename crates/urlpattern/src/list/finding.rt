@@ -24,9 +24,12 @@ impl<R: RegExp> UrlPatternList<R> {
         alloc: Global,
         texts: Eight<&str>,
     ) -> Result<Option<(usize, UrlPatternResult)>, Error>
-        ensures first { IfOk result (λ found. IsFirstMatchOf R.answer (patterns_view self.now) (borrowed_texts texts.entry) (first_view found)) }
+        ensures first { IfOk result (λ found.
+            IsFirstMatchOf R.answer (patterns_view self.now) (borrowed_texts texts.entry)
+            (first_view found)) }
         ensures memory { OnlyOutOfMemory result }
-        ensures copied { IfErr result (λ _. CopiesFirstMatch R.answer (patterns_view self.now) (borrowed_texts texts.entry)) }
+        ensures copied { IfErr result (λ _.
+            CopiesFirstMatch R.answer (patterns_view self.now) (borrowed_texts texts.entry)) }
     {
         match self.first(alloc, texts)? {
             Some((index, captures)) => Ok(Some((index, captures.to_result(alloc)?))),
@@ -42,9 +45,12 @@ impl<R: RegExp> UrlPatternList<R> {
         alloc: Global,
         texts: Eight<&'u str>,
     ) -> Result<Option<(usize, UrlPatternCaptures<'p, 'u>)>, OutOfMemory>
-        ensures first { IfOk result (IsFirstCaptured R.answer (patterns_view self.now) (borrowed_texts texts.entry)) }
-        ensures groups { IfOk result (HasGroupsInOrder R.answer (patterns_view self.now) (borrowed_texts texts.entry)) }
-        ensures asked { IfErr result (λ _. CallsEngineBeforeMatch R.answer (patterns_view self.now) (borrowed_texts texts.entry)) }
+        ensures first { IfOk result
+            (IsFirstCaptured R.answer (patterns_view self.now) (borrowed_texts texts.entry)) }
+        ensures groups { IfOk result
+            (HasGroupsInOrder R.answer (patterns_view self.now) (borrowed_texts texts.entry)) }
+        ensures asked { IfErr result (λ _.
+            CallsEngineBeforeMatch R.answer (patterns_view self.now) (borrowed_texts texts.entry)) }
     {
         self.first_from(alloc, &texts, 0)
     }
@@ -59,9 +65,13 @@ impl<R: RegExp> UrlPatternList<R> {
         texts: &Eight<&'u str>,
         from: usize,
     ) -> Result<Option<(usize, UrlPatternCaptures<'p, 'u>)>, OutOfMemory>
-        ensures first { IfOk result (IsFirstCapturedFrom R.answer (patterns_view self.now) (borrowed_texts texts.now) from) }
-        ensures groups { IfOk result (HasGroupsInOrder R.answer (patterns_view self.now) (borrowed_texts texts.now)) }
-        ensures asked { IfErr result (λ _. CallsEngineBeforeMatchFrom R.answer (patterns_view self.now) (borrowed_texts texts.now) from) }
+        ensures first { IfOk result (IsFirstCapturedFrom R.answer (patterns_view self.now)
+            (borrowed_texts texts.now) from) }
+        ensures groups { IfOk result
+            (HasGroupsInOrder R.answer (patterns_view self.now) (borrowed_texts texts.now)) }
+        ensures asked { IfErr result (λ _.
+            CallsEngineBeforeMatchFrom R.answer (patterns_view self.now) (borrowed_texts texts.now)
+            from) }
     {
         let mut hashes = AddressHashes::new();
         hashes.fill(Address {
@@ -87,10 +97,15 @@ impl<R: RegExp> UrlPatternList<R> {
         index: usize,
     ) -> Result<Option<(usize, UrlPatternCaptures<'p, 'u>)>, OutOfMemory>
         requires within { index < length self.now }
-        requires hashes { hashes_view hashes.now ≡ hashes_of (address_of (borrowed_texts texts.now)) }
-        ensures first { IfOk result (IsFirstCapturedFrom R.answer (patterns_view self.now) (borrowed_texts texts.now) index) }
-        ensures groups { IfOk result (HasGroupsInOrder R.answer (patterns_view self.now) (borrowed_texts texts.now)) }
-        ensures asked { IfErr result (λ _. CallsEngineBeforeMatchFrom R.answer (patterns_view self.now) (borrowed_texts texts.now) index) }
+        requires hashes { hashes_view hashes.now
+            ≡ hashes_of (address_of (borrowed_texts texts.now)) }
+        ensures first { IfOk result (IsFirstCapturedFrom R.answer (patterns_view self.now)
+            (borrowed_texts texts.now) index) }
+        ensures groups { IfOk result
+            (HasGroupsInOrder R.answer (patterns_view self.now) (borrowed_texts texts.now)) }
+        ensures asked { IfErr result (λ _.
+            CallsEngineBeforeMatchFrom R.answer (patterns_view self.now) (borrowed_texts texts.now)
+            index) }
     {
         let mut found = Some(index);
         while let Some(index) = found {
@@ -108,7 +123,8 @@ impl<R: RegExp> UrlPatternList<R> {
     #[inline(always)]
     pub(super) fn next_candidate(&self, hashes: &AddressHashes, from: usize) -> Option<usize>
         ensures within { IfSome result (λ index. (from ≤ index) × (index < length self.now)) }
-        ensures passed { SkipsOnlyMismatches R.answer (patterns_view self.now) (hashes_view hashes.now) from result }
+        ensures passed { SkipsOnlyMismatches R.answer (patterns_view self.now)
+            (hashes_view hashes.now) from result }
     {
         self.index.first_from(hashes, from)
     }

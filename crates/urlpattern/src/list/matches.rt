@@ -36,7 +36,12 @@ impl<'p, 'u, R: RegExp> UrlPatternMatches<'p, 'u, R> {
 
     /// All matches of eight texts.
     pub(super) fn new(list: &'p UrlPatternList<R>, alloc: Global, texts: Eight<&'u str>) -> Self
-        ensures { matches_left result ≡ record { patterns = patterns_view list.now; texts = borrowed_texts texts.entry; from = 0 } }
+        ensures { matches_left result
+            ≡ record {
+              patterns = patterns_view list.now;
+              texts = borrowed_texts texts.entry;
+              from = 0;
+            } }
     {
         Self {
             list,
@@ -54,7 +59,8 @@ impl<'p, 'u, R: RegExp> Iterator for UrlPatternMatches<'p, 'u, R> {
 
     type Item = Result<(usize, UrlPatternCaptures<'p, 'u>), Error>;
 
-    ghost next_gives = { λ old found new. YieldsMatch R.answer (matches_left old) found (matches_left new) };
+    ghost next_gives = { λ old found new.
+        YieldsMatch R.answer (matches_left old) found (matches_left new) };
 
     ghost remaining = { λ matches. at_most (length matches.list.now - matches.from) };
 

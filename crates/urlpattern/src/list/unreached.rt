@@ -33,7 +33,8 @@ fn parts_of_each<R: RegExp>(
     alloc: Global,
     patterns: &[UrlPattern<R>],
 ) -> Result<Vec<&PatternParts>, CompareError>
-    ensures parts { IfOk result (λ parts. HaveAllParts patterns.now (map (λ them. them.now) parts.items)) }
+    ensures parts { IfOk result (λ parts.
+        HaveAllParts patterns.now (map (λ them. them.now) parts.items)) }
     ensures missing { IfErr result (LacksParts patterns.now) }
 {
     let mut all = Vec::new(alloc);

@@ -30,7 +30,8 @@ impl<'a, T, R: RegExp> Model for UrlPatternMapIter<'a, T, R> {
 
     ghost view = { λ entries. zip (iter_rest entries.patterns) (iter_rest entries.values) };
 
-    ghost invariant = { λ entries. length (iter_rest entries.values) ≡ length (iter_rest entries.patterns) };
+    ghost invariant = { λ entries.
+        length (iter_rest entries.values) ≡ length (iter_rest entries.patterns) };
 }
 
 impl<'a, T, R: RegExp> UrlPatternMapIter<'a, T, R> {

@@ -15,7 +15,8 @@ impl Canonicalizer {
     ///
     /// Fails with `Error::Url` if the value is for a URL and `url` rejects it.
     pub fn process_protocol(&self, value: &str, kind: &ProcessType) -> Result<String, Error>
-        ensures { IsResult (processed_protocol kind.now (chars value.now)) (bytes_passed kind.now (length value.now)) result }
+        ensures { IsResult (processed_protocol kind.now (chars value.now))
+            (bytes_passed kind.now (length value.now)) result }
     {
         let value = without_colon(value);
         match kind {
@@ -28,7 +29,8 @@ impl Canonicalizer {
     ///
     /// Fails with `Error::Url` if the value is for a URL and `url` rejects it.
     pub fn process_username(&self, value: &str, kind: &ProcessType) -> Result<String, Error>
-        ensures { IsResult (processed_username kind.now (chars value.now)) (bytes_passed kind.now (length value.now)) result }
+        ensures { IsResult (processed_username kind.now (chars value.now))
+            (bytes_passed kind.now (length value.now)) result }
     {
         match kind {
             ProcessType::Pattern => self.kept(value),
@@ -40,7 +42,8 @@ impl Canonicalizer {
     ///
     /// Fails with `Error::Url` if the value is for a URL and `url` rejects it.
     pub fn process_password(&self, value: &str, kind: &ProcessType) -> Result<String, Error>
-        ensures { IsResult (processed_password kind.now (chars value.now)) (bytes_passed kind.now (length value.now)) result }
+        ensures { IsResult (processed_password kind.now (chars value.now))
+            (bytes_passed kind.now (length value.now)) result }
     {
         match kind {
             ProcessType::Pattern => self.kept(value),
@@ -52,7 +55,8 @@ impl Canonicalizer {
     ///
     /// Fails with `Error::Url` if the value is for a URL and `url` rejects it.
     pub fn process_hostname(&self, value: &str, kind: &ProcessType) -> Result<String, Error>
-        ensures { IsResult (processed_hostname kind.now (chars value.now)) (bytes_passed kind.now (length value.now)) result }
+        ensures { IsResult (processed_hostname kind.now (chars value.now))
+            (bytes_passed kind.now (length value.now)) result }
     {
         match kind {
             ProcessType::Pattern => self.kept(value),
@@ -100,7 +104,8 @@ impl Canonicalizer {
     ///
     /// Fails with `Error::Url` if the value is for a URL and `url` rejects it.
     pub fn process_search(&self, value: &str, kind: &ProcessType) -> Result<String, Error>
-        ensures { IsResult (processed_search kind.now (chars value.now)) (bytes_passed kind.now (length value.now)) result }
+        ensures { IsResult (processed_search kind.now (chars value.now))
+            (bytes_passed kind.now (length value.now)) result }
     {
         let value = without_first(value, b'?');
         match kind {
@@ -113,7 +118,8 @@ impl Canonicalizer {
     ///
     /// Fails with `Error::Url` if the value is for a URL and `url` rejects it.
     pub fn process_hash(&self, value: &str, kind: &ProcessType) -> Result<String, Error>
-        ensures { IsResult (processed_hash kind.now (chars value.now)) (bytes_passed kind.now (length value.now)) result }
+        ensures { IsResult (processed_hash kind.now (chars value.now))
+            (bytes_passed kind.now (length value.now)) result }
     {
         let value = without_first(value, b'#');
         match kind {

@@ -79,7 +79,8 @@ impl Canonicalizer {
     ///
     /// Fails with `Error::Url` if `url` rejects the value.
     pub fn port(&self, value: &str, protocol: Option<&str>) -> Result<String, Error>
-        ensures { IsResult (canonical_port (option_text protocol.entry) (chars value.now)) (port_bytes value.now protocol.entry) result }
+        ensures { IsResult (canonical_port (option_text protocol.entry) (chars value.now))
+            (port_bytes value.now protocol.entry) result }
     {
         if value.is_empty() {
             return Ok(String::new(self.alloc));

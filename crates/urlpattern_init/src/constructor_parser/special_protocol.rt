@@ -46,7 +46,8 @@ pub(super) fn is_special_protocol<R: RegExp>(
 
 /// Whether a matcher accepts a special scheme.
 pub fn accepts_special_scheme<R: RegExp>(alloc: Global, matcher: &Matcher<R>) -> Result<bool, Error>
-    ensures answer { IfOk result (λ accepted. IsTrue accepted ↔ AcceptsSpecialScheme R.answer (matcher_view matcher.now)) }
+    ensures answer { IfOk result (λ accepted.
+        IsTrue accepted ↔ AcceptsSpecialScheme R.answer (matcher_view matcher.now)) }
     ensures memory { OnlyOutOfMemory result }
 {
     if let Some(text) = only_text(matcher) {
@@ -61,7 +62,8 @@ pub fn accepts_special_scheme<R: RegExp>(alloc: Global, matcher: &Matcher<R>) ->
 
 /// The only text that a matcher accepts, if the matcher is a case-sensitive literal.
 fn only_text<R: RegExp>(matcher: &Matcher<R>) -> Option<&str>
-    ensures { IfSome result (λ only. AcceptsOnly R.answer (matcher_view matcher.now) (chars only.now)) }
+    ensures { IfSome result (λ only.
+        AcceptsOnly R.answer (matcher_view matcher.now) (chars only.now)) }
 {
     if matcher.ignore_case || !matcher.prefix.is_empty() || !matcher.suffix.is_empty() {
         return None;

@@ -140,7 +140,8 @@ struct Processing<'a> {
 impl Processing<'_> {
     /// The processed values of the init, given that of the protocol.
     fn values(&self, protocol: Option<String>) -> Result<Eight<Option<String>>, Error>
-        requires { value_in self.now None ComponentName.Protocol ≡ Ok (option_map text_of protocol) }
+        requires { value_in self.now None ComponentName.Protocol
+            ≡ Ok (option_map text_of protocol) }
         ensures ok { IfOk result (λ values. values_in self.now ≡ Ok (values_of values)) }
         ensures err { IfErr result (MemoryOr (Reports (values_in self.now) (bytes_in self.now))) }
     {
@@ -173,8 +174,11 @@ impl Processing<'_> {
         component: ComponentName,
         protocol: &Option<String>,
     ) -> Result<Option<String>, Error>
-        ensures ok { IfOk result (λ value. value_in self.now (option_map text_of protocol.now) component ≡ Ok (option_map text_of value)) }
-        ensures err { IfErr result (IsFailureIn self.now (option_map text_of protocol.now) (bytes_of (option_map text_of protocol.now)) component) }
+        ensures ok { IfOk result (λ value.
+            value_in self.now (option_map text_of protocol.now) component
+            ≡ Ok (option_map text_of value)) }
+        ensures err { IfErr result (IsFailureIn self.now (option_map text_of protocol.now)
+            (bytes_of (option_map text_of protocol.now)) component) }
     {
         match protocol {
             Some(protocol) => self.value(component, Some(protocol)),
@@ -188,8 +192,11 @@ impl Processing<'_> {
         component: ComponentName,
         protocol: Option<&str>,
     ) -> Result<Option<String>, Error>
-        ensures ok { IfOk result (λ value. value_in self.now (option_text protocol.entry) component ≡ Ok (option_map text_of value)) }
-        ensures err { IfErr result (IsFailureIn self.now (option_text protocol.entry) (optional_bytes protocol.entry) component) }
+        ensures ok { IfOk result (λ value.
+            value_in self.now (option_text protocol.entry) component
+            ≡ Ok (option_map text_of value)) }
+        ensures err { IfErr result (IsFailureIn self.now (option_text protocol.entry)
+            (optional_bytes protocol.entry) component) }
     {
         match self.init.get(component) {
             Some(text) => Ok(Some(self.processed(component, text, protocol)?)),
@@ -199,7 +206,8 @@ impl Processing<'_> {
 
     /// The value of a component that the init lacks.
     fn lacking(&self, component: ComponentName) -> Result<Option<String>, Error>
-        ensures ok { IfOk result (λ value. option_map text_of value ≡ lacking_in self.now component) }
+        ensures ok { IfOk result (λ value.
+            option_map text_of value ≡ lacking_in self.now component) }
         ensures memory { OnlyOutOfMemory result }
     {
         match &self.init.base_url {
@@ -213,7 +221,9 @@ impl Processing<'_> {
 
     /// Whether the init inherits a component that it lacks.
     fn inherits(&self, component: ComponentName) -> bool
-        ensures { result ≡ (is_inheritable self.now.kind.now component && spec.lacks_all (given_values self.now) (must_lack component)) }
+        ensures { result
+            ≡ (is_inheritable self.now.kind.now component
+            && spec.lacks_all (given_values self.now) (must_lack component)) }
     {
         is_inheritable(component, self.kind) && lacks_all(self.init, must_lack(component))
     }
@@ -282,7 +292,8 @@ pub fn process(
     kind: &ProcessType,
 ) -> Result<UrlPatternInit, Error>
     ensures ok { IfOk result (λ values. init_values kind.now init.now ≡ Ok (values_view values)) }
-    ensures err { IfErr result (MemoryOr (Reports (init_values kind.now init.now) (longest_init_bytes kind.now init.now))) }
+    ensures err { IfErr result (MemoryOr
+        (Reports (init_values kind.now init.now) (longest_init_bytes kind.now init.now))) }
 {
     let values = process_values(alloc, init, kind)?;
     Ok(UrlPatternInit::from_eight(values, None))
@@ -299,7 +310,8 @@ pub fn process_values(
     kind: &ProcessType,
 ) -> Result<Eight<Option<String>>, Error>
     ensures ok { IfOk result (λ values. init_values kind.now init.now ≡ Ok (values_of values)) }
-    ensures err { IfErr result (MemoryOr (Reports (init_values kind.now init.now) (longest_init_bytes kind.now init.now))) }
+    ensures err { IfErr result (MemoryOr
+        (Reports (init_values kind.now init.now) (longest_init_bytes kind.now init.now))) }
 {
     let canonicalizer = match kind {
         ProcessType::Pattern => Canonicalizer::new(alloc),

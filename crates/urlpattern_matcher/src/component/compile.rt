@@ -40,10 +40,13 @@ impl<R: RegExp> Component<R> {
         options: Options,
     ) -> Result<Self, Error>
         requires { F.IsAlwaysCallable encoding_callback }
-        ensures compiled { IfOk result (λ component. IsCompiledFrom R.RegExp (pattern_text pattern.entry) (options_view options)
+        ensures compiled { IfOk result (λ component.
+            IsCompiledFrom R.RegExp (pattern_text pattern.entry) (options_view options)
             (encoding_by F.Fn encoding_callback) (component_view component)) }
-        ensures means { IfOk result (λ component. ReturnsByItsParts R.RegExp (options_view options) (component_view component)) }
-        ensures refuses { IfErr result (FailsToRead (pattern_text pattern.entry) (options_view options) (encoding_by F.Fn encoding_callback)) }
+        ensures means { IfOk result (λ component.
+            ReturnsByItsParts R.RegExp (options_view options) (component_view component)) }
+        ensures refuses { IfErr result (FailsToRead (pattern_text pattern.entry)
+            (options_view options) (encoding_by F.Fn encoding_callback)) }
     {
         match Self::compile_with_parts(alloc, pattern, encoding_callback, options) {
             Ok(made) => {
@@ -68,8 +71,10 @@ impl<R: RegExp> Component<R> {
         options: Options,
     ) -> Result<ComponentWithParts<R>, Error>
         requires { F.IsAlwaysCallable encoding_callback }
-        ensures compiled { IfOk result (IsCompiledKeeping R.RegExp (pattern_text pattern.entry) (options_view options) (encoding_by F.Fn encoding_callback)) }
-        ensures refuses { IfErr result (FailsToRead (pattern_text pattern.entry) (options_view options) (encoding_by F.Fn encoding_callback)) }
+        ensures compiled { IfOk result (IsCompiledKeeping R.RegExp (pattern_text pattern.entry)
+            (options_view options) (encoding_by F.Fn encoding_callback)) }
+        ensures refuses { IfErr result (FailsToRead (pattern_text pattern.entry)
+            (options_view options) (encoding_by F.Fn encoding_callback)) }
     {
         let pattern = pattern.unwrap_or("*");
         let parts = parse_pattern_string(alloc, pattern, &options, encoding_callback)?;
@@ -80,7 +85,9 @@ impl<R: RegExp> Component<R> {
 
     /// Makes the component of a list of parts.
     fn from_parts(alloc: Global, part_list: &[Part], options: &Options) -> Result<Self, Error>
-        ensures made { IfOk result (λ made. IsComponentOf R.RegExp (options_view options.now) (parts_view part_list.now) (component_view made)) }
+        ensures made { IfOk result (λ made.
+            IsComponentOf R.RegExp (options_view options.now) (parts_view part_list.now)
+            (component_view made)) }
         ensures memory { OnlyOutOfMemory result }
     {
         let flags = engine_flags(options);
@@ -123,7 +130,9 @@ fn engine_of<R: RegExp>(
     has_regexp_group: bool,
 ) -> Result<Result<R, Error>, AllocError>
     requires { has_regexp_group ≡ false → IsGenerated (text_of regexp) }
-    ensures { IfOk result (λ engine. IsWholeEngineOf R.RegExp has_regexp_group (chars flags.now) (text_of regexp) (engine_view engine)) }
+    ensures { IfOk result (λ engine.
+        IsWholeEngineOf R.RegExp has_regexp_group (chars flags.now) (text_of regexp)
+        (engine_view engine)) }
 {
     if has_regexp_group && R::syntax() == RegexSyntax::EcmaScript {
         let engine: Result<R, Error> = kept_engine(alloc, regexp.clone()?, flags, false, false)?;
@@ -144,7 +153,8 @@ fn kept_engine<R: RegExp>(
     is_generated: bool,
 ) -> Result<Result<R, Error>, AllocError>
     requires { is_generated ≡ true → IsGenerated (text_of regexp) }
-    ensures { IfOk result (λ engine. IsEngineOf R.RegExp force_eval (chars flags.now) (text_of regexp) (engine_view engine)) }
+    ensures { IfOk result (λ engine.
+        IsEngineOf R.RegExp force_eval (chars flags.now) (text_of regexp) (engine_view engine)) }
 {
     match R::parse_to_keep(alloc, regexp, flags, force_eval, is_generated) {
         Ok(engine) => Ok(Ok(engine)),

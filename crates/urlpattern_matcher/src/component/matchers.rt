@@ -29,8 +29,10 @@ pub fn generate_matcher<R: RegExp>(
     options: &Options,
     flags: &str,
 ) -> Result<Matcher<R>, Error>
-    ensures made { IfMatcher result (IsMadeOf (IsEngineOf R.RegExp false (chars flags.now)) (options_view options.now) (parts_view part_list.now)) }
-    ensures means { IfMatcher result (ReturnsByMeaning R.answer (options_view options.now) (parts_view part_list.now)) }
+    ensures made { IfMatcher result (IsMadeOf (IsEngineOf R.RegExp false (chars flags.now))
+        (options_view options.now) (parts_view part_list.now)) }
+    ensures means { IfMatcher result
+        (ReturnsByMeaning R.answer (options_view options.now) (parts_view part_list.now)) }
     ensures memory { OnlyOutOfMemory result }
 {
     Ok(generate_matcher_with_regexp(alloc, part_list, options, flags, None)?)
@@ -44,8 +46,10 @@ pub(crate) fn generate_matcher_with_regexp<R: RegExp>(
     flags: &str,
     whole: Option<&str>,
 ) -> Result<Matcher<R>, AllocError>
-    requires { IfSome whole (λ text. chars text.now ≡ regexp_text (options_view options.now) (parts_view part_list.now)) }
-    ensures { IfMatcher result (IsMadeOf (IsEngineOf R.RegExp false (chars flags.now)) (options_view options.now) (parts_view part_list.now)) }
+    requires { IfSome whole (λ text.
+        chars text.now ≡ regexp_text (options_view options.now) (parts_view part_list.now)) }
+    ensures { IfMatcher result (IsMadeOf (IsEngineOf R.RegExp false (chars flags.now))
+        (options_view options.now) (parts_view part_list.now)) }
 {
     let (prefix, middle, suffix) = strip_fixed_texts(part_list);
     let known = if middle.len() == part_list.len() {
@@ -68,7 +72,8 @@ pub(crate) fn generate_matcher_with_regexp<R: RegExp>(
 /// Returns the plain fixed texts at the ends of a list of parts, or empty texts, and the parts
 /// between them.
 fn strip_fixed_texts(part_list: &[Part]) -> (&str, &[Part], &str)
-    ensures { StripsFixedTexts (parts_view part_list.now) (chars result.0.now) (parts_view result.1.now) (chars result.2.now) }
+    ensures { StripsFixedTexts (parts_view part_list.now) (chars result.0.now)
+        (parts_view result.1.now) (chars result.2.now) }
 {
     let (prefix, rest) = strip_fixed_prefix(part_list);
     let (middle, suffix) = strip_fixed_suffix(rest);
@@ -78,7 +83,8 @@ fn strip_fixed_texts(part_list: &[Part]) -> (&str, &[Part], &str)
 /// Returns the plain fixed text at the start of a list of parts, or an empty text, and the other
 /// parts.
 fn strip_fixed_prefix(part_list: &[Part]) -> (&str, &[Part])
-    ensures { StripsFixedPrefix (parts_view part_list.now) (chars result.0.now) (parts_view result.1.now) }
+    ensures { StripsFixedPrefix (parts_view part_list.now) (chars result.0.now)
+        (parts_view result.1.now) }
 {
     match part_list.split_first() {
         Some((first, rest)) if is_plain(first) => (&first.value, rest),
@@ -89,7 +95,8 @@ fn strip_fixed_prefix(part_list: &[Part]) -> (&str, &[Part])
 /// Returns the plain fixed text at the end of a list of parts, or an empty text, and the other
 /// parts.
 fn strip_fixed_suffix(part_list: &[Part]) -> (&[Part], &str)
-    ensures { StripsFixedSuffix (parts_view part_list.now) (parts_view result.0.now) (chars result.1.now) }
+    ensures { StripsFixedSuffix (parts_view part_list.now) (parts_view result.0.now)
+        (chars result.1.now) }
 {
     match part_list.split_last() {
         Some((last, middle)) if is_plain(last) => (middle, &last.value),
@@ -126,7 +133,8 @@ fn literal_matcher<R>(
     suffix: &str,
     options: &Options,
 ) -> Result<Matcher<R>, AllocError>
-    ensures { IfMatcher result (λ made. made ≡ literal_view options.now.ignore_case (chars prefix.now ++ chars suffix.now)) }
+    ensures { IfMatcher result (λ made.
+        made ≡ literal_view options.now.ignore_case (chars prefix.now ++ chars suffix.now)) }
 {
     Ok(Matcher {
         prefix: String::new(alloc),
@@ -148,8 +156,10 @@ fn capture_matcher<R>(
     filter: Option<char>,
     allow_empty: bool,
 ) -> Result<Matcher<R>, AllocError>
-    ensures { IfMatcher result (λ made. made
-        ≡ single_capture_matcher (options_view options.now) (chars prefix.now) (part_view part.now) (chars suffix.now) filter allow_empty) }
+    ensures { IfMatcher result (λ made.
+        made
+        ≡ single_capture_matcher (options_view options.now) (chars prefix.now) (part_view part.now)
+        (chars suffix.now) filter allow_empty) }
 {
     Ok(Matcher {
         prefix: concatenated(alloc, prefix, &part.prefix)?,
@@ -173,9 +183,10 @@ fn engine_matcher<R: RegExp>(
     flags: &str,
     known: Option<&str>,
 ) -> Result<Matcher<R>, AllocError>
-    requires { IfSome known (λ text. chars text.now ≡ regexp_text (options_view options.now) (parts_view middle.now)) }
-    ensures { IfMatcher result (IsMadeByEngine (IsEngineOf R.RegExp false (chars flags.now)) (options_view options.now)
-        (chars prefix.now) (parts_view middle.now) (chars suffix.now)) }
+    requires { IfSome known (λ text.
+        chars text.now ≡ regexp_text (options_view options.now) (parts_view middle.now)) }
+    ensures { IfMatcher result (IsMadeByEngine (IsEngineOf R.RegExp false (chars flags.now))
+        (options_view options.now) (chars prefix.now) (parts_view middle.now) (chars suffix.now)) }
 {
     let regexp = match known {
         Some(text) => call_engine(alloc, text, flags, false)?,
@@ -199,7 +210,8 @@ fn call_engine<R: RegExp>(
     flags: &str,
     force_eval: bool,
 ) -> Result<Result<R, Error>, AllocError>
-    ensures { IfOk result (λ engine. IsEngineOf R.RegExp force_eval (chars flags.now) (chars regexp.now) (engine_view engine)) }
+    ensures { IfOk result (λ engine.
+        IsEngineOf R.RegExp force_eval (chars flags.now) (chars regexp.now) (engine_view engine)) }
 {
     match R::parse(alloc, regexp, flags, force_eval) {
         Ok(engine) => Ok(Ok(engine)),

@@ -24,10 +24,14 @@ pub fn normalize_part_list<F: Fn(&str) -> Result<String, Error> + Drop>(
     encoding_callback: F,
 ) -> Result<Vec<Part>, Error>
     requires { F.IsAlwaysCallable encoding_callback }
-    ensures same { IfOk result (IsJoinedIfKept (options_view options.now) (encoding_by F.Fn encoding_callback) (parts_view part_list.now)) }
-    ensures fails { IfErr result (FailsIfPrintable (options_view options.now) (encoding_by F.Fn encoding_callback) (parts_view part_list.now)) }
-    ensures reads { IfOk result (IsReadFrom (options_view options.now) (encoding_by F.Fn encoding_callback) (parts_view part_list.now)) }
-    ensures refuses { IfErr result (RejectsPrinted (options_view options.now) (encoding_by F.Fn encoding_callback) (parts_view part_list.now)) }
+    ensures same { IfOk result (IsJoinedIfKept (options_view options.now)
+        (encoding_by F.Fn encoding_callback) (parts_view part_list.now)) }
+    ensures fails { IfErr result (FailsIfPrintable (options_view options.now)
+        (encoding_by F.Fn encoding_callback) (parts_view part_list.now)) }
+    ensures reads { IfOk result (IsReadFrom (options_view options.now)
+        (encoding_by F.Fn encoding_callback) (parts_view part_list.now)) }
+    ensures refuses { IfErr result (RejectsPrinted (options_view options.now)
+        (encoding_by F.Fn encoding_callback) (parts_view part_list.now)) }
 {
     let text = generate_pattern_string(alloc, part_list, options)?;
     parse_pattern_string(alloc, &text, options, encoding_callback)

@@ -30,8 +30,10 @@ impl<R: RegExp> Matcher<R> {
     /// `Asks` is returned only for a text that has prefix and suffix, by a matcher with an engine
     /// between them.
     pub fn look<'m, 'a>(&'m self, input: &'a str) -> Option<Look<'m, 'a, R>>
-        ensures answer { Returns R.answer (matcher_view self.now) (chars input.now) (look_result R.answer result) }
-        ensures asked { IfSome result (λ look. NeedsEngine look → CallsEngine (matcher_view self.now) (chars input.now)) }
+        ensures answer { Returns R.answer (matcher_view self.now) (chars input.now)
+            (look_result R.answer result) }
+        ensures asked { IfSome result (λ look.
+            NeedsEngine look → CallsEngine (matcher_view self.now) (chars input.now)) }
     {
         let middle = self.middle(input)?;
         match &self.inner {

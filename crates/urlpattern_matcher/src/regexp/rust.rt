@@ -26,7 +26,9 @@ pub(super) fn groups<'h>(
 
 /// Returns what a group spans. `None`: the group took no part.
 fn group<'h>(captures: &Captures<'_, 'h>, index: usize) -> Option<&'h str>
-    ensures { option_text result ≡ option_map (text_between (captures_haystack captures.now)) (captures_span captures.now index) }
+    ensures { option_text result
+        ≡ option_map (text_between (captures_haystack captures.now))
+        (captures_span captures.now index) }
 {
     let found = captures.get(index)?;
     Some(found.as_str())

@@ -36,7 +36,8 @@ impl<'a> GivenNames<'a> {
 
     /// Adds a name.
     pub(super) fn add_name(&mut self, name: &'a str) -> Result<(), AllocError>
-        ensures { OnOk result ((other : List ℕ) → has_name self.new other ≡ (has_bytes other name.entry || has_name self.old other)) }
+        ensures { OnOk result ((other : List ℕ)
+            → has_name self.new other ≡ (has_bytes other name.entry || has_name self.old other)) }
     {
         if !self.few.is_full() {
             self.few.push(name);

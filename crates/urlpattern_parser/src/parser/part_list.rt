@@ -54,7 +54,8 @@ impl<'a> PartList<'a> {
         requires knows { KnowsItsNames self.old }
         ensures knows { OnOk result (KnowsItsNames self.new) }
         ensures ok { OnOk result (AddsPiece F.Fn parser.now self.old piece.now self.new) }
-        ensures number { OnOk result (self.new.next_numeric_name ≡ number_after self.old.next_numeric_name (piece_view piece.now)) }
+        ensures number { OnOk result (self.new.next_numeric_name
+            ≡ number_after self.old.next_numeric_name (piece_view piece.now)) }
         ensures err { IfErr result (FailsToAddPiece F.Fn parser.now self.old piece.now) }
     {
         match piece {
@@ -73,7 +74,8 @@ impl<'a> PartList<'a> {
     /// Appends a text to the pending text.
     pub(super) fn add_plain(&mut self, text: &str) -> Result<(), AllocError>
         ensures parts { self.new.parts ≡ self.old.parts }
-        ensures pending { OnOk result (text_of self.new.pending_fixed_value ≡ text_of self.old.pending_fixed_value ++ chars text.now) }
+        ensures pending { OnOk result (text_of self.new.pending_fixed_value
+            ≡ text_of self.old.pending_fixed_value ++ chars text.now) }
         ensures names { self.new.given_names ≡ self.old.given_names }
         ensures number { self.new.next_numeric_name ≡ self.old.next_numeric_name }
     {
@@ -89,10 +91,12 @@ impl<'a> PartList<'a> {
         modifier: PartModifier,
     ) -> Result<(), Error>
         requires { F.IsAlwaysCallable parser.now.encoding_callback }
-        ensures ok { OnOk result (AddsAll F.Fn parser.now self.old (then_text self.old text.now modifier) self.new) }
+        ensures ok { OnOk result
+            (AddsAll F.Fn parser.now self.old (then_text self.old text.now modifier) self.new) }
         ensures names { OnOk result (self.new.given_names ≡ self.old.given_names) }
         ensures number { OnOk result (self.new.next_numeric_name ≡ self.old.next_numeric_name) }
-        ensures err { IfErr result (FailsToAdd F.Fn parser.now self.old (then_text self.old text.now modifier)) }
+        ensures err { IfErr result
+            (FailsToAdd F.Fn parser.now self.old (then_text self.old text.now modifier)) }
     {
         self.add_pending(parser)?;
         if !text.is_empty() {
@@ -116,9 +120,12 @@ impl<'a> PartList<'a> {
         requires named { IsNameGiven (option_text placeholder.now.name) }
         requires knows { KnowsItsNames self.old }
         ensures knows { OnOk result (KnowsItsNames self.new) }
-        ensures ok { OnOk result (AddsAll F.Fn parser.now self.old (then_group self.old before.now placeholder.now after.now modifier) self.new) }
-        ensures number { OnOk result (self.new.next_numeric_name ≡ next_number (option_text placeholder.now.name) self.old.next_numeric_name) }
-        ensures err { IfErr result (FailsToAdd F.Fn parser.now self.old (then_group self.old before.now placeholder.now after.now modifier)) }
+        ensures ok { OnOk result (AddsAll F.Fn parser.now self.old
+            (then_group self.old before.now placeholder.now after.now modifier) self.new) }
+        ensures number { OnOk result (self.new.next_numeric_name
+            ≡ next_number (option_text placeholder.now.name) self.old.next_numeric_name) }
+        ensures err { IfErr result (FailsToAdd F.Fn parser.now self.old
+            (then_group self.old before.now placeholder.now after.now modifier)) }
     {
         self.add_pending(parser)?;
         let name = self.new_name(parser.alloc, placeholder.name)?;
@@ -148,10 +155,14 @@ impl<'a> PartList<'a> {
         requires named { IsNameGiven (option_text name) }
         requires room { self.old.next_numeric_name < usize.MAX }
         ensures name { IfOk result (λ text. text_of text ≡ next_name self.old name.entry) }
-        ensures new { OnOk result (¬ Contains (list_names self.old) (next_name self.old name.entry)) }
-        ensures knows { OnOk result (Knows self.new (list_names self.old ++ next_name self.old name.entry ∷ [])) }
-        ensures number { OnOk result (self.new.next_numeric_name ≡ next_number (option_text name.entry) self.old.next_numeric_name) }
-        ensures same { OnOk result ((self.new.parts ≡ self.old.parts) × (self.new.pending_fixed_value ≡ self.old.pending_fixed_value)) }
+        ensures new { OnOk result
+            (¬ Contains (list_names self.old) (next_name self.old name.entry)) }
+        ensures knows { OnOk result
+            (Knows self.new (list_names self.old ++ next_name self.old name.entry ∷ [])) }
+        ensures number { OnOk result (self.new.next_numeric_name
+            ≡ next_number (option_text name.entry) self.old.next_numeric_name) }
+        ensures same { OnOk result ((self.new.parts ≡ self.old.parts)
+            × (self.new.pending_fixed_value ≡ self.old.pending_fixed_value)) }
         ensures err { IfErr result (MemoryOr (IsDuplicate self.old name.entry)) }
     {
         match name {
@@ -180,7 +191,8 @@ impl<'a> PartList<'a> {
         parser: &PatternParser<'_, F>,
     ) -> Result<(), Error>
         requires { F.IsAlwaysCallable parser.now.encoding_callback }
-        ensures ok { OnOk result (AddsAll F.Fn parser.now self.old (pending_item self.old) self.new) }
+        ensures ok { OnOk result
+            (AddsAll F.Fn parser.now self.old (pending_item self.old) self.new) }
         ensures names { OnOk result (self.new.given_names ≡ self.old.given_names) }
         ensures number { OnOk result (self.new.next_numeric_name ≡ self.old.next_numeric_name) }
         ensures err { IfErr result (FailsToAdd F.Fn parser.now self.old (pending_item self.old)) }

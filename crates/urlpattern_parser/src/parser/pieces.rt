@@ -113,9 +113,11 @@ impl<'a> Reader<'a> {
         next: &mut Next<'a>,
     ) -> Result<(), Error>
         requires { IsAtPlace self.old }
-        ensures next { OnOk result (Consumes self.old self.new (λ tokens rest. IsNext (chars prefix_code_point.now) tokens next.new rest)) }
+        ensures next { OnOk result (Consumes self.old self.new (λ tokens rest.
+            IsNext (chars prefix_code_point.now) tokens next.new rest)) }
         ensures named { OnOk result (IsNextNamed next.new) }
-        ensures less { OnOk result (IsShorter (reader_left self.new) (reader_left self.old) next.new) }
+        ensures less { OnOk result
+            (IsShorter (reader_left self.new) (reader_left self.old) next.new) }
         ensures fault { IfErr result (ReportsFault (reader_text self.old)) }
     {
         match self.token.kind {
@@ -142,7 +144,8 @@ impl<'a> Reader<'a> {
         requires stands { IsAtPlace self.old }
         requires more { self.old.token.kind ≢ kinds.End }
         ensures token { IfOk result (λ token. token ≡ self.old.token) }
-        ensures takes { OnOk result (Consumes self.old self.new (λ tokens rest. tokens ≡ token_view self.old.token ∷ rest)) }
+        ensures takes { OnOk result (Consumes self.old self.new (λ tokens rest.
+            tokens ≡ token_view self.old.token ∷ rest)) }
         ensures less { OnOk result (reader_left self.new < reader_left self.old) }
         ensures fault { IfErr result (ReportsFault (reader_text self.old)) }
     {
@@ -157,7 +160,8 @@ impl<'a> Reader<'a> {
     fn character(&mut self, prefix_code_point: &str, next: &mut Next<'a>) -> Result<(), Error>
         requires stands { IsAtPlace self.old }
         requires character { self.old.token.kind ≡ kinds.Char }
-        ensures next { OnOk result (Consumes self.old self.new (λ tokens rest. IsNext (chars prefix_code_point.now) tokens next.new rest)) }
+        ensures next { OnOk result (Consumes self.old self.new (λ tokens rest.
+            IsNext (chars prefix_code_point.now) tokens next.new rest)) }
         ensures named { OnOk result (IsNextNamed next.new) }
         ensures less { OnOk result (reader_left self.new < reader_left self.old) }
         ensures fault { IfErr result (ReportsFault (reader_text self.old)) }
@@ -195,7 +199,8 @@ impl<'a> Reader<'a> {
     fn bare(&mut self, prefix: &'a str, next: &mut Next<'a>) -> Result<(), Error>
         requires stands { IsAtPlace self.old }
         requires placeholder { IsTrue (is_placeholder self.old.token.kind) }
-        ensures next { OnOk result (Consumes self.old self.new (λ tokens rest. IsNextAfter (chars prefix.now) tokens next.new rest)) }
+        ensures next { OnOk result (Consumes self.old self.new (λ tokens rest.
+            IsNextAfter (chars prefix.now) tokens next.new rest)) }
         ensures named { OnOk result (IsNextNamed next.new) }
         ensures less { OnOk result (reader_left self.new < reader_left self.old) }
         ensures fault { IfErr result (ReportsFault (reader_text self.old)) }
@@ -210,7 +215,8 @@ impl<'a> Reader<'a> {
     fn group(&mut self) -> Result<Next<'a>, Error>
         requires stands { IsAtPlace self.old }
         requires opening { self.old.token.kind ≡ kinds.Open }
-        ensures next { IfOk result (λ next. Consumes self.old self.new (λ tokens rest. (point : List ℕ) → IsNext point tokens next rest)) }
+        ensures next { IfOk result (λ next. Consumes self.old self.new (λ tokens rest.
+            (point : List ℕ) → IsNext point tokens next rest)) }
         ensures named { IfOk result IsNextNamed }
         ensures less { OnOk result (reader_left self.new < reader_left self.old) }
         ensures fault { IfErr result (ReportsFault (reader_text self.old)) }
@@ -234,7 +240,8 @@ impl<'a> Reader<'a> {
     /// Consumes the texts that the tokens begin with, and returns their values, end to end.
     fn texts(&mut self) -> Result<String, Error>
         requires { IsAtPlace self.old }
-        ensures texts { IfOk result (λ text. Consumes self.old self.new (λ tokens rest. BeginsWithTexts tokens (text_of text) rest)) }
+        ensures texts { IfOk result (λ text. Consumes self.old self.new (λ tokens rest.
+            BeginsWithTexts tokens (text_of text) rest)) }
         ensures fault { IfErr result (ReportsFault (reader_text self.old)) }
     {
         let mut text = String::new(self.alloc);
@@ -286,7 +293,8 @@ impl<'a> Reader<'a> {
     fn close(&mut self) -> Result<Option<PartModifier>, Error>
         requires { IsAtPlace self.old }
         ensures closes { IfOk result (λ found. IfSome found (ConsumesClose self.old self.new)) }
-        ensures lacks { IfOk result (λ found. IfNone found (Consumes self.old self.new (λ tokens rest. tokens ≡ rest))) }
+        ensures lacks { IfOk result (λ found.
+            IfNone found (Consumes self.old self.new (λ tokens rest. tokens ≡ rest))) }
         ensures other { IfOk result (λ found. IfNone found (self.new.token.kind ≢ kinds.Close)) }
         ensures fault { IfErr result (ReportsFault (reader_text self.old)) }
     {
@@ -303,7 +311,8 @@ impl<'a> Reader<'a> {
     #[inline(always)]
     fn modifier(&mut self) -> Result<PartModifier, Error>
         requires { IsAtPlace self.old }
-        ensures modifier { IfOk result (λ modifier. Consumes self.old self.new (λ tokens rest. BeginsWithModifier tokens modifier rest)) }
+        ensures modifier { IfOk result (λ modifier. Consumes self.old self.new (λ tokens rest.
+            BeginsWithModifier tokens modifier rest)) }
         ensures fault { IfErr result (ReportsFault (reader_text self.old)) }
     {
         match self.token.kind {

@@ -24,7 +24,9 @@ impl<'a> Stop<'a> {
     ///
     /// The error is the first fault of the text, or that memory ran out.
     pub fn of(alloc: Global, input: &'a str, prefix_code_point: &str) -> Result<Self, Error>
-        ensures stops { IfOk result (λ stop. IsStopOf (chars input.now) (chars prefix_code_point.now) (token_view stop.first) (token_view stop.found)) }
+        ensures stops { IfOk result (λ stop.
+            IsStopOf (chars input.now) (chars prefix_code_point.now) (token_view stop.first)
+            (token_view stop.found)) }
         ensures fault { IfErr result (ReportsFault (chars input.now)) }
     {
         let mut reader = Reader::new(alloc, input)?;

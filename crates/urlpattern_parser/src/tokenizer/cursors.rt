@@ -43,7 +43,8 @@ impl<'a> Cursor<'a> {
         ensures whole { self.new.input.now ≡ self.old.input.now }
         ensures place { OnOk result (IsPlace (cursor_text self.old) (cursor_rest self.new)) }
         ensures token { IfOk result (λ token. GivesToken self.old token self.new) }
-        ensures len { IfOk result (λ token. length self.new.rest.now + tokens_left token.kind ≤ length self.old.rest.now) }
+        ensures len { IfOk result (λ token.
+            length self.new.rest.now + tokens_left token.kind ≤ length self.old.rest.now) }
         ensures fault { IfErr result (ReportsFault (cursor_text self.old)) }
     {
         let place = place_of(self.input, self.rest);
@@ -76,7 +77,8 @@ impl<'a> Cursor<'a> {
         requires { IsPlace (cursor_text self.old) (cursor_rest self.old) }
         ensures whole { self.new.input.now ≡ self.old.input.now }
         ensures place { IsPlace (cursor_text self.old) (cursor_rest self.new) }
-        ensures before { AreCharactersBefore (cursor_rest self.old) (chars result.now) (cursor_rest self.new) }
+        ensures before { AreCharactersBefore (cursor_rest self.old) (chars result.now)
+            (cursor_rest self.new) }
         ensures len { length self.new.rest.now ≤ length self.old.rest.now }
     {
         let mut last = self.rest;
@@ -98,7 +100,8 @@ impl<'a> Cursor<'a> {
     /// The error is the first fault of the text.
     pub(crate) fn read_to_end(&self) -> Result<(), Error>
         requires { IsPlace (cursor_text self.now) (cursor_rest self.now) }
-        ensures tokens { OnOk result ((tokens : List TokenView) × AreTokensAfter (cursor_text self.now) (cursor_rest self.now) tokens) }
+        ensures tokens { OnOk result ((tokens : List TokenView)
+            × AreTokensAfter (cursor_text self.now) (cursor_rest self.now) tokens) }
         ensures fault { IfErr result (ReportsFault (cursor_text self.now)) }
     {
         let mut cursor = *self;

@@ -40,7 +40,8 @@ pub(super) fn next_token<'a>(
 fn invalid_char(text: &str) -> Lexeme<'_>
     requires characters { ¬ (chars text.now ≡ []) }
     requires fault { (fault : FaultView) × IsFaultAt (chars text.now) fault }
-    ensures { IsInvalidChar (chars text.now) result.kind (chars result.value.now) (chars result.rest.now) }
+    ensures { IsInvalidChar (chars text.now) result.kind (chars result.value.now)
+        (chars result.rest.now) }
 {
     let (_, rest) = split_first(text).unwrap();
     Lexeme {

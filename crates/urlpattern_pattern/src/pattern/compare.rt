@@ -53,7 +53,8 @@ impl<R: RegExp> UrlPattern<R> {
     ///
     /// The error is that a pattern has no parts, or that memory ran out.
     pub fn covers(&self, alloc: Global, asked: &Self) -> Result<PatternCovering, CompareError>
-        ensures covering { IfOk result (λ covering. OfBoth self.now asked.now (λ parts others. IsPatternCovering parts others covering)) }
+        ensures covering { IfOk result (λ covering. OfBoth self.now asked.now (λ parts others.
+            IsPatternCovering parts others covering)) }
         ensures missing { IfErr result (LackParts self.now asked.now) }
     {
         let (parts, others) = self.both_parts(asked)?;
@@ -67,7 +68,8 @@ impl<R: RegExp> UrlPattern<R> {
     ///
     /// The error is that a pattern has no parts, or that memory ran out.
     pub fn overlaps(&self, alloc: Global, other: &Self) -> Result<PatternOverlap, CompareError>
-        ensures overlap { IfOk result (λ overlap. OfBoth self.now other.now (λ parts others. IsPatternOverlap parts others overlap)) }
+        ensures overlap { IfOk result (λ overlap. OfBoth self.now other.now (λ parts others.
+            IsPatternOverlap parts others overlap)) }
         ensures missing { IfErr result (LackParts self.now other.now) }
     {
         let (parts, others) = self.both_parts(other)?;
@@ -85,8 +87,11 @@ impl<R: RegExp> UrlPattern<R> {
         right: &Self,
     ) -> Result<Ordering, CompareError>
         ensures order { IfOk result (λ order. OfBoth left.now right.now (λ parts others.
-            order ≡ parts_cmp (at parts.components component).parts.items (at others.components component).parts.items)) }
-        ensures missing { IfErr result (λ error. (error ≡ errors.NoParts) × LackParts left.now right.now error) }
+            order
+            ≡ parts_cmp (at parts.components component).parts.items
+            (at others.components component).parts.items)) }
+        ensures missing { IfErr result (λ error.
+            (error ≡ errors.NoParts) × LackParts left.now right.now error) }
     {
         match left.both_parts(right) {
             Ok((parts, others)) => Ok(PatternParts::compare_component(component, parts, others)),
@@ -102,7 +107,8 @@ impl<R: RegExp> UrlPattern<R> {
         other: &'p Self,
     ) -> Result<(&'p PatternParts, &'p PatternParts), CompareError>
         ensures parts { IfOk result (λ both. HaveParts self.now other.now both.0.now both.1.now) }
-        ensures missing { IfErr result (λ error. (error ≡ errors.NoParts) × LackParts self.now other.now error) }
+        ensures missing { IfErr result (λ error.
+            (error ≡ errors.NoParts) × LackParts self.now other.now error) }
     {
         match (self.parts(), other.parts()) {
             (Some(parts), Some(others)) => Ok((parts, others)),

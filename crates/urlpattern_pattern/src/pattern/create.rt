@@ -56,7 +56,8 @@ impl<R: RegExp> UrlPattern<R> {
         ensures compiled { IfPattern result (IsPatternOfInit R.RegExp init options) }
         ensures kept { IfOk result (KeepsPartsOf R.RegExp init options) }
         ensures parts { IfOk result (λ pattern. IsTrue (is_some pattern.parts)) }
-        ensures by_text { MakesFirstWays R.RegExp → IfPattern result (ReturnsByItsText R.answer init options) }
+        ensures by_text { MakesFirstWays R.RegExp
+            → IfPattern result (ReturnsByItsText R.answer init options) }
         ensures refused { IfErr result (MemoryOr (RejectsInit R.RegExp init options)) }
     {
         Self::parse_with_protocol(alloc, init, None, options)
@@ -83,11 +84,16 @@ impl<R: RegExp> UrlPattern<R> {
         base_url: Option<&str>,
         options: UrlPatternOptions,
     ) -> Result<Self, Error>
-        ensures compiled { IfPattern result (IsPatternOfText R.RegExp (chars pattern.now) (option_copied base_url.entry) options) }
+        ensures compiled { IfPattern result
+            (IsPatternOfText R.RegExp (chars pattern.now) (option_copied base_url.entry) options) }
         ensures parts { IfOk result (λ pattern. IsTrue (is_some pattern.parts)) }
-        ensures kept { IfOk result (KeepsPartsOfText R.RegExp (chars pattern.now) (option_copied base_url.entry) options) }
-        ensures by_text { MakesFirstWays R.RegExp → IfPattern result (ReturnsByTextOf R.RegExp (chars pattern.now) (option_copied base_url.entry) options) }
-        ensures refused { IfErr result (MemoryOr (RejectsPatternOfText R.RegExp (chars pattern.now) (option_copied base_url.entry) options)) }
+        ensures kept { IfOk result
+            (KeepsPartsOfText R.RegExp (chars pattern.now) (option_copied base_url.entry) options) }
+        ensures by_text { MakesFirstWays R.RegExp
+            → IfPattern result
+            (ReturnsByTextOf R.RegExp (chars pattern.now) (option_copied base_url.entry) options) }
+        ensures refused { IfErr result (MemoryOr (RejectsPatternOfText R.RegExp (chars pattern.now)
+            (option_copied base_url.entry) options)) }
     {
         let keeps = options.regex_syntax == RegexSyntax::Rust;
         let (init, known) = init_of_text_keeping::<R>(alloc, pattern, base_url, keeps)?;
@@ -108,7 +114,8 @@ impl<R: RegExp> UrlPattern<R> {
         ensures compiled { IfPattern result (IsPatternOfInit R.RegExp init options) }
         ensures kept { IfOk result (KeepsPartsOf R.RegExp init options) }
         ensures parts { IfOk result (λ pattern. IsTrue (is_some pattern.parts)) }
-        ensures by_text { MakesFirstWays R.RegExp → IfPattern result (ReturnsByItsText R.answer init options) }
+        ensures by_text { MakesFirstWays R.RegExp
+            → IfPattern result (ReturnsByItsText R.answer init options) }
         ensures refused { IfErr result (MemoryOr (RejectsInit R.RegExp init options)) }
     {
         // A `?`, or one `match` for both, would copy the components, which fill kilobytes, once
@@ -137,7 +144,8 @@ impl<R: RegExp> UrlPattern<R> {
         options: UrlPatternOptions,
         input: UrlPatternMatchInput,
     ) -> Result<Option<UrlPatternResult>, Error>
-        ensures executed { IfOk result (λ found. IsExecutedByMeaning R.RegExp init options input (option_map result_view found)) }
+        ensures executed { IfOk result (λ found.
+            IsExecutedByMeaning R.RegExp init options input (option_map result_view found)) }
         ensures refused { IfErr result (MemoryOr (RejectsInit R.RegExp init options)) }
     {
         let pattern = Self::parse(alloc, init, options)?;

@@ -33,9 +33,12 @@ impl<R: RegExp> UrlPattern<R> {
         base_url: Option<&str>,
         options: UrlPatternOptions,
     ) -> Result<Option<Diagnosis>, OutOfMemory>
-        ensures accepted { IfAccepted result (AcceptsPatternOfText R.RegExp (chars pattern.now) (option_copied base_url.entry) options) }
-        ensures refused { IfRejected result (HasErrorOf (RejectsPatternOfText R.RegExp (chars pattern.now) (option_copied base_url.entry) options)) }
-        ensures shows { IfRejected result (ShowsGiven R.RegExp pattern.now (option_copied base_url.entry) options) }
+        ensures accepted { IfAccepted result (AcceptsPatternOfText R.RegExp (chars pattern.now)
+            (option_copied base_url.entry) options) }
+        ensures refused { IfRejected result (HasErrorOf (RejectsPatternOfText R.RegExp
+            (chars pattern.now) (option_copied base_url.entry) options)) }
+        ensures shows { IfRejected result
+            (ShowsGiven R.RegExp pattern.now (option_copied base_url.entry) options) }
         ensures within { IfRejected result IsWithinText }
     {
         diagnose_text::<R>(alloc, pattern, base_url, options)

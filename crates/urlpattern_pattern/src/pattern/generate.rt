@@ -36,8 +36,10 @@ impl<R: RegExp> UrlPattern<R> {
         component: ComponentName,
         groups: &[GivenGroup<'_>],
     ) -> Result<String, GenerateError>
-        ensures generated { IfOk result (λ text. GeneratesText R.answer self.now component (given_groups groups.now) (text_of text)) }
-        ensures refused { IfErr result (RejectsGroups R.answer self.now component (given_groups groups.now)) }
+        ensures generated { IfOk result (λ text.
+            GeneratesText R.answer self.now component (given_groups groups.now) (text_of text)) }
+        ensures refused { IfErr result
+            (RejectsGroups R.answer self.now component (given_groups groups.now)) }
     {
         let Some(parts) = self.parts() else {
             return Err(GenerateError::NoParts);

@@ -44,7 +44,8 @@ impl<R: RegExp> UrlPattern<R> {
     pub fn link(&self, alloc: Global, groups: &[GivenGroup<'_>]) -> Result<Url, NoLink>
         ensures generated { IfOk result (IsLink R.answer self.now (given_groups groups.now)) }
         ensures returns { IfOk result (ReturnsGiven R.answer self.now (given_groups groups.now)) }
-        ensures matched { IfOk result (λ url. HasMatch R.answer (pattern_view self.now) (inputs.Url url)) }
+        ensures matched { IfOk result (λ url.
+            HasMatch R.answer (pattern_view self.now) (inputs.Url url)) }
         ensures refused { IfErr result (RejectsLink R.answer self.now (given_groups groups.now)) }
     {
         let Some(parts) = self.parts() else {
@@ -76,7 +77,8 @@ impl<R: RegExp> UrlPattern<R> {
     ) -> Result<Option<ComponentName>, AllocError>
         requires made { AreMadeOfParts R.RegExp parts.now (pattern_view self.now) }
         requires written { AreWritten parts.now (given_groups groups.now) (cow_texts texts.now) }
-        ensures { IfOk result (IsConfirmedBefore R.answer (pattern_view self.now) parts.now (given_groups groups.now) (cow_texts texts.now)) }
+        ensures { IfOk result (IsConfirmedBefore R.answer (pattern_view self.now) parts.now
+            (given_groups groups.now) (cow_texts texts.now)) }
     {
         for name in ComponentName::all() {
             if !self.is_confirmed(alloc, parts, texts, groups, name)? {
@@ -97,7 +99,9 @@ impl<R: RegExp> UrlPattern<R> {
     ) -> Result<bool, AllocError>
         requires made { AreMadeOfParts R.RegExp parts.now (pattern_view self.now) }
         requires written { AreWritten parts.now (given_groups groups.now) (cow_texts texts.now) }
-        ensures { IfOk result (λ is. DecidesConfirmed is R.answer (pattern_view self.now) parts.now (given_groups groups.now) (cow_texts texts.now) name) }
+        ensures { IfOk result (λ is.
+            DecidesConfirmed is R.answer (pattern_view self.now) parts.now (given_groups groups.now)
+            (cow_texts texts.now) name) }
     {
         let kept = parts.components.get(name);
         let text = texts.get(name).as_str();
@@ -113,8 +117,10 @@ fn written_each<'d>(
     parts: &'d PatternParts,
     groups: &'d [GivenGroup<'d>],
 ) -> Result<Eight<CowStr<'d>>, GenerateError>
-    ensures written { IfOk result (λ texts. AreWritten parts.now (given_groups groups.now) (cow_texts texts)) }
-    ensures refused { IfErr result (IsFirstError (HasPartsText parts.now (given_groups groups.now))) }
+    ensures written { IfOk result (λ texts.
+        AreWritten parts.now (given_groups groups.now) (cow_texts texts)) }
+    ensures refused { IfErr result
+        (IsFirstError (HasPartsText parts.now (given_groups groups.now))) }
 {
     let protocol = written(alloc, parts, ComponentName::Protocol, groups)?;
     let username = written(alloc, parts, ComponentName::Username, groups)?;

@@ -51,7 +51,8 @@ impl<R: RegExp> UrlPattern<R> {
     pub fn test(&self, alloc: Global, input: UrlPatternMatchInput) -> Result<bool, Error>
         ensures matched { IfOk result (TestsInput R.answer (pattern_view self.now) input) }
         ensures memory { OnlyOutOfMemory result }
-        ensures asked { IfErr result (λ _. IfUrl (CallsAnEngine R.answer (pattern_view self.now)) input) }
+        ensures asked { IfErr result (λ _.
+            IfUrl (CallsAnEngine R.answer (pattern_view self.now)) input) }
     {
         match input {
             UrlPatternMatchInput::Url(url) => self.test_url(alloc, &url),
@@ -82,9 +83,11 @@ impl<R: RegExp> UrlPattern<R> {
         alloc: Global,
         input: UrlPatternMatchInput,
     ) -> Result<Option<UrlPatternResult>, Error>
-        ensures matched { IfOk result (FindsInInput result_view R.answer (pattern_view self.now) input) }
+        ensures matched { IfOk result
+            (FindsInInput result_view R.answer (pattern_view self.now) input) }
         ensures memory { OnlyOutOfMemory result }
-        ensures copied { IfErr result (λ _. IfUrl (CopiesMatch R.answer (pattern_view self.now)) input) }
+        ensures copied { IfErr result (λ _.
+            IfUrl (CopiesMatch R.answer (pattern_view self.now)) input) }
     {
         match input {
             UrlPatternMatchInput::Url(url) => self.exec_url(alloc, &url),
@@ -99,9 +102,11 @@ impl<R: RegExp> UrlPattern<R> {
     ///
     /// Only an engine allocates.
     pub fn test_url(&self, alloc: Global, url: &Url) -> Result<bool, Error>
-        ensures matched { IfOk result (TestsInput R.answer (pattern_view self.now) (inputs.Url url.now)) }
+        ensures matched { IfOk result
+            (TestsInput R.answer (pattern_view self.now) (inputs.Url url.now)) }
         ensures memory { OnlyOutOfMemory result }
-        ensures asked { IfErr result (λ _. CallsAnEngine R.answer (pattern_view self.now) (texts_of_url url.now)) }
+        ensures asked { IfErr result (λ _.
+            CallsAnEngine R.answer (pattern_view self.now) (texts_of_url url.now)) }
     {
         Ok(self.is_matched(alloc, &url_texts(url))?)
     }
@@ -111,9 +116,11 @@ impl<R: RegExp> UrlPattern<R> {
     ///
     /// Only an engine and the copy of a match allocate.
     pub fn exec_url(&self, alloc: Global, url: &Url) -> Result<Option<UrlPatternResult>, Error>
-        ensures matched { IfOk result (FindsInInput result_view R.answer (pattern_view self.now) (inputs.Url url.now)) }
+        ensures matched { IfOk result
+            (FindsInInput result_view R.answer (pattern_view self.now) (inputs.Url url.now)) }
         ensures memory { OnlyOutOfMemory result }
-        ensures copied { IfErr result (λ _. CopiesMatch R.answer (pattern_view self.now) (texts_of_url url.now)) }
+        ensures copied { IfErr result (λ _.
+            CopiesMatch R.answer (pattern_view self.now) (texts_of_url url.now)) }
     {
         self.exec_texts(alloc, url_texts(url))
     }
@@ -138,10 +145,14 @@ impl<R: RegExp> UrlPattern<R> {
         alloc: Global,
         url: &'u Url,
     ) -> Result<Option<UrlPatternCaptures<'p, 'u>>, Error>
-        ensures matched { IfOk result (FindsInInput pattern_captures_view R.answer (pattern_view self.now) (inputs.Url url.now)) }
-        ensures groups { IfMatch result (λ found. AreGroupsInOrder R.answer (pattern_view self.now) (texts_of_url url.now) (groups_view found)) }
+        ensures matched { IfOk result (FindsInInput pattern_captures_view R.answer
+            (pattern_view self.now) (inputs.Url url.now)) }
+        ensures groups { IfMatch result (λ found.
+            AreGroupsInOrder R.answer (pattern_view self.now) (texts_of_url url.now)
+            (groups_view found)) }
         ensures memory { OnlyOutOfMemory result }
-        ensures asked { IfErr result (λ _. CallsAnEngine R.answer (pattern_view self.now) (texts_of_url url.now)) }
+        ensures asked { IfErr result (λ _.
+            CallsAnEngine R.answer (pattern_view self.now) (texts_of_url url.now)) }
     {
         Ok(match_of_texts(alloc, self, &url_texts(url))?)
     }
@@ -157,10 +168,14 @@ impl<R: RegExp> UrlPattern<R> {
         alloc: Global,
         input: &'u MatchInput,
     ) -> Result<Option<UrlPatternCaptures<'p, 'u>>, Error>
-        ensures matched { IfOk result (FindsInTexts pattern_captures_view R.answer (pattern_view self.now) (texts_view input.now)) }
-        ensures groups { IfMatch result (λ found. AreGroupsInOrder R.answer (pattern_view self.now) (texts_view input.now) (groups_view found)) }
+        ensures matched { IfOk result (FindsInTexts pattern_captures_view R.answer
+            (pattern_view self.now) (texts_view input.now)) }
+        ensures groups { IfMatch result (λ found.
+            AreGroupsInOrder R.answer (pattern_view self.now) (texts_view input.now)
+            (groups_view found)) }
         ensures memory { OnlyOutOfMemory result }
-        ensures asked { IfErr result (λ _. CallsAnEngine R.answer (pattern_view self.now) (texts_view input.now)) }
+        ensures asked { IfErr result (λ _.
+            CallsAnEngine R.answer (pattern_view self.now) (texts_view input.now)) }
     {
         Ok(match_of_texts(alloc, self, &input_texts(input))?)
     }
@@ -170,9 +185,11 @@ impl<R: RegExp> UrlPattern<R> {
     ///
     /// Only an engine allocates.
     pub fn test_texts(&self, alloc: Global, texts: &Eight<&str>) -> Result<bool, Error>
-        ensures matched { IfOk result (TestsTexts R.answer (pattern_view self.now) (borrowed_texts texts.now)) }
+        ensures matched { IfOk result
+            (TestsTexts R.answer (pattern_view self.now) (borrowed_texts texts.now)) }
         ensures memory { OnlyOutOfMemory result }
-        ensures asked { IfErr result (λ _. CallsAnEngine R.answer (pattern_view self.now) (borrowed_texts texts.now)) }
+        ensures asked { IfErr result (λ _.
+            CallsAnEngine R.answer (pattern_view self.now) (borrowed_texts texts.now)) }
     {
         Ok(self.is_matched(alloc, texts)?)
     }
@@ -196,10 +213,14 @@ impl<R: RegExp> UrlPattern<R> {
         alloc: Global,
         texts: &Eight<&'u str>,
     ) -> Result<Option<UrlPatternCaptures<'p, 'u>>, Error>
-        ensures matched { IfOk result (FindsInTexts pattern_captures_view R.answer (pattern_view self.now) (borrowed_texts texts.now)) }
-        ensures groups { IfMatch result (λ found. AreGroupsInOrder R.answer (pattern_view self.now) (borrowed_texts texts.now) (groups_view found)) }
+        ensures matched { IfOk result (FindsInTexts pattern_captures_view R.answer
+            (pattern_view self.now) (borrowed_texts texts.now)) }
+        ensures groups { IfMatch result (λ found.
+            AreGroupsInOrder R.answer (pattern_view self.now) (borrowed_texts texts.now)
+            (groups_view found)) }
         ensures memory { OnlyOutOfMemory result }
-        ensures asked { IfErr result (λ _. CallsAnEngine R.answer (pattern_view self.now) (borrowed_texts texts.now)) }
+        ensures asked { IfErr result (λ _.
+            CallsAnEngine R.answer (pattern_view self.now) (borrowed_texts texts.now)) }
     {
         Ok(match_of_texts(alloc, self, texts)?)
     }
@@ -211,9 +232,11 @@ impl<R: RegExp> UrlPattern<R> {
         alloc: Global,
         texts: Eight<&str>,
     ) -> Result<Option<UrlPatternResult>, Error>
-        ensures matched { IfOk result (FindsInTexts result_view R.answer (pattern_view self.now) (borrowed_texts texts.entry)) }
+        ensures matched { IfOk result (FindsInTexts result_view R.answer (pattern_view self.now)
+            (borrowed_texts texts.entry)) }
         ensures memory { OnlyOutOfMemory result }
-        ensures copied { IfErr result (λ _. CopiesMatch R.answer (pattern_view self.now) (borrowed_texts texts.entry)) }
+        ensures copied { IfErr result (λ _.
+            CopiesMatch R.answer (pattern_view self.now) (borrowed_texts texts.entry)) }
     {
         match match_of_texts(alloc, self, &texts)? {
             Some(captures) => captures.to_found(alloc),
@@ -223,8 +246,10 @@ impl<R: RegExp> UrlPattern<R> {
 
     /// Whether the pattern matches eight texts.
     fn is_matched(&self, alloc: Global, texts: &Eight<&str>) -> Result<bool, OutOfMemory>
-        ensures matched { IfOk result (TestsTexts R.answer (pattern_view self.now) (borrowed_texts texts.now)) }
-        ensures asked { IfErr result (λ _. CallsAnEngine R.answer (pattern_view self.now) (borrowed_texts texts.now)) }
+        ensures matched { IfOk result
+            (TestsTexts R.answer (pattern_view self.now) (borrowed_texts texts.now)) }
+        ensures asked { IfErr result (λ _.
+            CallsAnEngine R.answer (pattern_view self.now) (borrowed_texts texts.now)) }
     {
         Ok(self.group_captures(alloc, texts)?.is_some())
     }
@@ -235,7 +260,8 @@ impl<R: RegExp> UrlPattern<R> {
         texts: &Eight<&'u str>,
         captures: Eight<GroupCaptures<'u>>,
     ) -> UrlPatternCaptures<'p, 'u>
-        ensures matched { HasCaptures (pattern_view self.now) (borrowed_texts texts.now) captures.entry (pattern_captures_view result) }
+        ensures matched { HasCaptures (pattern_view self.now) (borrowed_texts texts.now)
+            captures.entry (pattern_captures_view result) }
         ensures groups { HasGroups (pattern_view self.now) captures.entry (groups_view result) }
     {
         let names = |name: ComponentName| -> &Vec<String>
@@ -248,9 +274,12 @@ impl<R: RegExp> UrlPattern<R> {
     /// component does not match its text.
     #[inline(always)]
     fn look<'p, 'u>(&'p self, texts: &Eight<&'u str>) -> Option<Eight<Look<'p, 'u, R>>>
-        ensures some { IfSome result (AreLooks R.answer (pattern_view self.now) (borrowed_texts texts.now)) }
-        ensures none { IfNone result (DoesNotMatch R.answer (pattern_view self.now) (borrowed_texts texts.now)) }
-        ensures asked { IfSome result (CallWithCause (pattern_view self.now) (borrowed_texts texts.now)) }
+        ensures some { IfSome result
+            (AreLooks R.answer (pattern_view self.now) (borrowed_texts texts.now)) }
+        ensures none { IfNone result
+            (DoesNotMatch R.answer (pattern_view self.now) (borrowed_texts texts.now)) }
+        ensures asked { IfSome result
+            (CallWithCause (pattern_view self.now) (borrowed_texts texts.now)) }
     {
         // The path rejects most texts, so it is the first.
         Some(Eight {
@@ -273,9 +302,14 @@ impl<R: RegExp> UrlPattern<R> {
         alloc: Global,
         texts: &Eight<&'u str>,
     ) -> Result<Option<Eight<GroupCaptures<'u>>>, OutOfMemory>
-        ensures refused { IfOk result (λ found. IfNone found (DoesNotMatch R.answer (pattern_view self.now) (borrowed_texts texts.now))) }
-        ensures answers { IfOk result (λ found. IfSome found (HasMatcherResults R.answer (pattern_view self.now) (borrowed_texts texts.now))) }
-        ensures asked { IfErr result (λ _. CallsAnEngine R.answer (pattern_view self.now) (borrowed_texts texts.now)) }
+        ensures refused { IfOk result (λ found.
+            IfNone found
+            (DoesNotMatch R.answer (pattern_view self.now) (borrowed_texts texts.now))) }
+        ensures answers { IfOk result (λ found.
+            IfSome found
+            (HasMatcherResults R.answer (pattern_view self.now) (borrowed_texts texts.now))) }
+        ensures asked { IfErr result (λ _.
+            CallsAnEngine R.answer (pattern_view self.now) (borrowed_texts texts.now)) }
     {
         let Some(looks) = self.look(texts) else {
             return Ok(None);
@@ -293,9 +327,13 @@ pub fn match_of_texts<'p, 'u, R: RegExp>(
     pattern: &'p UrlPattern<R>,
     texts: &Eight<&'u str>,
 ) -> Result<Option<UrlPatternCaptures<'p, 'u>>, OutOfMemory>
-    ensures matched { IfOk result (FindsInTexts pattern_captures_view R.answer (pattern_view pattern.now) (borrowed_texts texts.now)) }
-    ensures groups { IfMatch result (λ found. AreGroupsInOrder R.answer (pattern_view pattern.now) (borrowed_texts texts.now) (groups_view found)) }
-    ensures asked { IfErr result (λ _. CallsAnEngine R.answer (pattern_view pattern.now) (borrowed_texts texts.now)) }
+    ensures matched { IfOk result (FindsInTexts pattern_captures_view R.answer
+        (pattern_view pattern.now) (borrowed_texts texts.now)) }
+    ensures groups { IfMatch result (λ found.
+        AreGroupsInOrder R.answer (pattern_view pattern.now) (borrowed_texts texts.now)
+        (groups_view found)) }
+    ensures asked { IfErr result (λ _.
+        CallsAnEngine R.answer (pattern_view pattern.now) (borrowed_texts texts.now)) }
 {
     match pattern.group_captures(alloc, texts)? {
         Some(captures) => Ok(Some(pattern.match_with_names(texts, captures))),
@@ -309,7 +347,8 @@ fn finish_looks<'u, R: RegExp>(
     looks: Eight<Look<'_, 'u, R>>,
 ) -> Result<Option<Eight<GroupCaptures<'u>>>, OutOfMemory>
     ensures some { IfOk result (λ found. IfSome found (AreCaptured R.answer looks.entry)) }
-    ensures none { IfOk result (λ found. IfNone found ((name : Name) × (look_result R.answer (Some (at looks.entry name)) ≡ None))) }
+    ensures none { IfOk result (λ found.
+        IfNone found ((name : Name) × (look_result R.answer (Some (at looks.entry name)) ≡ None))) }
     ensures asked { IfErr result (λ _. (name : Name) × NeedsEngine (at looks.entry name)) }
 {
     match looks.try_map(|look| GroupCaptures::of_look(alloc, look)) {

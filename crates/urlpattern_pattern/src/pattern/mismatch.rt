@@ -30,9 +30,11 @@ impl<R: RegExp> UrlPattern<R> {
     ///
     /// <https://urlpattern.spec.whatwg.org/#url-pattern-match>
     pub fn mismatch(&self, alloc: Global, url: &Url) -> Result<Option<ComponentName>, Error>
-        ensures first { IfOk result (FindsMismatch R.answer (pattern_view self.now) (texts_of_url url.now)) }
+        ensures first { IfOk result
+            (FindsMismatch R.answer (pattern_view self.now) (texts_of_url url.now)) }
         ensures memory { OnlyOutOfMemory result }
-        ensures asked { IfErr result (λ _. CallsInTurn R.answer (pattern_view self.now) (texts_of_url url.now)) }
+        ensures asked { IfErr result (λ _.
+            CallsInTurn R.answer (pattern_view self.now) (texts_of_url url.now)) }
     {
         self.mismatch_of_texts(alloc, &url_texts(url))
     }
@@ -46,9 +48,11 @@ impl<R: RegExp> UrlPattern<R> {
         alloc: Global,
         texts: &Eight<&str>,
     ) -> Result<Option<ComponentName>, Error>
-        ensures first { IfOk result (FindsMismatch R.answer (pattern_view self.now) (borrowed_texts texts.now)) }
+        ensures first { IfOk result
+            (FindsMismatch R.answer (pattern_view self.now) (borrowed_texts texts.now)) }
         ensures memory { OnlyOutOfMemory result }
-        ensures asked { IfErr result (λ _. CallsInTurn R.answer (pattern_view self.now) (borrowed_texts texts.now)) }
+        ensures asked { IfErr result (λ _.
+            CallsInTurn R.answer (pattern_view self.now) (borrowed_texts texts.now)) }
     {
         for name in ComponentName::all() {
             if !self.get(name).matcher.accepts(alloc, texts.get(name))? {

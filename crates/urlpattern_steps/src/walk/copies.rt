@@ -24,7 +24,8 @@ impl<'t> Attempt<'_, 't> {
         text: &'t str,
     ) -> Taken
         requires { IsStateOf ignore_case self.old.failed steps.now (chars text.now) }
-        ensures { MatchesRestIfOk self.old self.new result (walk ignore_case (Step.RepeatedLiteral copies ∷ steps.now) (chars text.now)) }
+        ensures { MatchesRestIfOk self.old self.new result
+            (walk ignore_case (Step.RepeatedLiteral copies ∷ steps.now) (chars text.now)) }
     {
         let first = copies.text.first;
         let literal = first_steps(steps, copies.text.others);
@@ -51,7 +52,8 @@ impl<'t> Attempt<'_, 't> {
         text: &'t str,
     ) -> Taken
         requires { IsStateOf ignore_case self.old.failed others.now (chars text.now) }
-        ensures { MatchesRestIfOk self.old self.new result (walk_copies ignore_case first literal.now others.now (chars text.now)) }
+        ensures { MatchesRestIfOk self.old self.new result
+            (walk_copies ignore_case first literal.now others.now (chars text.now)) }
     {
         let rest = skip_copies(text, first, literal, ignore_case);
         let mut front = before(text, rest);

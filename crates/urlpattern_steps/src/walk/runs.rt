@@ -26,7 +26,8 @@ impl<'t> Attempt<'_, 't> {
     ) -> Taken
         requires state { IsStateOf ignore_case self.old.failed steps.now (chars text.now) }
         requires first { steps.now ≡ Step.LazyRun end ∷ others.now }
-        ensures { MatchesRestIfOk self.old self.new result (walk ignore_case steps.now (chars text.now)) }
+        ensures { MatchesRestIfOk self.old self.new result
+            (walk ignore_case steps.now (chars text.now)) }
     {
         let mut rest = text;
         while let Some((_, remaining)) = next_of_run(&self.failed, ignore_case, end, steps, rest) {
@@ -51,7 +52,8 @@ impl<'t> Attempt<'_, 't> {
     ) -> Taken
         requires state { IsStateOf ignore_case self.old.failed steps.now (chars text.now) }
         requires first { steps.now ≡ Step.DotStar ∷ others.now }
-        ensures { MatchesRestIfOk self.old self.new result (walk ignore_case steps.now (chars text.now)) }
+        ensures { MatchesRestIfOk self.old self.new result
+            (walk ignore_case steps.now (chars text.now)) }
     {
         let mut front = longest_prefix(&self.failed, ignore_case, steps, text);
         loop {
@@ -78,7 +80,8 @@ impl<'t> Attempt<'_, 't> {
         text: &'t str,
     ) -> Taken
         requires { IsStateOf ignore_case self.old.failed steps.now (chars text.now) }
-        ensures { MatchesRestIfOk self.old self.new result (walk ignore_case (Step.GreedyRun run ∷ steps.now) (chars text.now)) }
+        ensures { MatchesRestIfOk self.old self.new result
+            (walk ignore_case (Step.GreedyRun run ∷ steps.now) (chars text.now)) }
     {
         let (mut front, _) = split_at_first(text, run.end, ignore_case);
         while let Some(shorter) = without_last(front) {

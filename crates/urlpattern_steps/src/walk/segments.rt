@@ -25,7 +25,8 @@ impl<'t> Attempt<'_, 't> {
         text: &'t str,
     ) -> Taken
         requires { IsStateOf ignore_case self.old.failed steps.now (chars text.now) }
-        ensures { MatchesRestIfOk self.old self.new result (walk ignore_case (Step.Segments segments ∷ steps.now) (chars text.now)) }
+        ensures { MatchesRestIfOk self.old self.new result
+            (walk ignore_case (Step.Segments segments ∷ steps.now) (chars text.now)) }
     {
         let literal = first_steps(steps, segments.separator.others);
         let others = pass(steps, segments.separator.others);
@@ -51,7 +52,8 @@ impl<'t> Attempt<'_, 't> {
         text: &'t str,
     ) -> Result<Option<usize>, OutOfMemory>
         requires { IsStateOf ignore_case self.old.failed others.now (chars text.now) }
-        ensures cut { IfOk result (λ end. IsEndOfSegments ignore_case segments literal.now others.now text.now end) }
+        ensures cut { IfOk result (λ end.
+            IsEndOfSegments ignore_case segments literal.now others.now text.now end) }
         ensures same { OnOk result (Untouched self.old self.new) }
     {
         let alloc = *self.captures.allocator();
@@ -91,7 +93,8 @@ impl<'t> Attempt<'_, 't> {
         rest: &'t str,
     ) -> Result<Option<usize>, OutOfMemory>
         requires { IsStateOf ignore_case self.old.failed steps.now (chars rest.now) }
-        ensures end { IfOk result (λ end. IsEndHere next here (walk ignore_case steps.now (chars rest.now)) end) }
+        ensures end { IfOk result (λ end.
+            IsEndHere next here (walk ignore_case steps.now (chars rest.now)) end) }
         ensures same { OnOk result (Untouched self.old self.new) }
     {
         if next.is_some() {

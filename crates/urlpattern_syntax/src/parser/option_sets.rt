@@ -57,7 +57,8 @@ impl Options {
     ///
     /// <https://urlpattern.spec.whatwg.org/#escape-a-regexp-string>
     pub fn escape_regexp_string(&self, alloc: Global, input: &str) -> Result<String, Error>
-        ensures escaped { IfOk result (λ text. text_of text ≡ escaped_regexp (options_view self.now) (chars input.now)) }
+        ensures escaped { IfOk result (λ text.
+            text_of text ≡ escaped_regexp (options_view self.now) (chars input.now)) }
         ensures memory { OnlyOutOfMemory result }
     {
         Ok(written(alloc, &Escaped::regexp(input, self))?)
@@ -68,7 +69,8 @@ impl Options {
     ///
     /// <https://urlpattern.spec.whatwg.org/#generate-a-segment-wildcard-regexp>
     pub fn generate_segment_wildcard_regexp(&self, alloc: Global) -> Result<String, Error>
-        ensures wildcard { IfOk result (λ text. text_of text ≡ segment_wildcard (options_view self.now)) }
+        ensures wildcard { IfOk result (λ text.
+            text_of text ≡ segment_wildcard (options_view self.now)) }
         ensures memory { OnlyOutOfMemory result }
     {
         Ok(written(alloc, &SegmentWildcard(self))?)
