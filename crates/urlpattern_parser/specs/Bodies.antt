@@ -9,8 +9,8 @@ use Rattle.urlpattern_syntax.specs.Tokens.{FaultView, IncompleteEscapeCode, IsFa
 abbrev pub IsAfterRegexpStart : (rest left : List ℕ) → Type 0
 IsAfterRegexpStart rest left = (front : List ℕ) × IsRegexpStart front × (rest ≡ front ++ left)
 
--- The first `len` bytes of `left` cannot stand in a custom expression: a character that is not ASCII,
--- alone or after a backslash, or a `(` that no `?` follows.
+-- The first `len` bytes of `left` are not valid in a custom expression: a character that is not
+-- ASCII, alone or after a backslash, or a `(` that no `?` follows.
 abbrev pub IsRejectedStart : (left : List ℕ) → (len : ℕ) → Type 0
 IsRejectedStart left len =
     ((c : ℕ) × (more : List ℕ) × (left ≡ c ∷ more) × (128 ≤ c) × (len ≡ byte_len (c ∷ [])))
