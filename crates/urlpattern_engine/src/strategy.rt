@@ -3,7 +3,7 @@
 //! An expression has m bytes and a text n. Memory is counted without the captures of a match, one
 //! for each group.
 
-ghost use Rattle.std.specs.Prelude.{◌≡◌, ◌≤◌, Err, IfOk, IsSome};
+ghost use Rattle.std.specs.Prelude.{◌≡◌, ◌≤◌, true, Err, IfOk, IsSome};
 ghost use Rattle.std.specs.Str.{chars};
 ghost use Rattle.regex_syntax.specs.Grammar.{read};
 ghost use Rattle.urlpattern_engine.specs.Automatons.{config_for};

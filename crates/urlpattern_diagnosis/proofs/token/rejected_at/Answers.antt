@@ -1,10 +1,15 @@
 use Rattle.urlpattern_diagnosis.proofs.TokenFaultLemmas.{refused_end, rejected_part}
 use Rattle.urlpattern_meaning.proofs.BodyStartTokens.{lexed_or_fault}
-use Rattle.urlpattern_syntax.specs.Tokens.{fault_view}
+use Rattle.std.proofs.Common.{◌++◌}
+use Rattle.std.specs.Prelude.{codes}
+use Rattle.std.specs.Str.{chars}
+use Rattle.urlpattern_syntax.specs.Tokens.{InvalidRegex, fault_view}
+use Rattle.urlpattern_syntax.specs.declared.tokenizer.TokenType.TheVariants.{Regexp}
 use Rattle.urlpattern_diagnosis.proofs.token.rejected_at.Goals as goal
 
 pub returns-in-Ok-clause-end : goal.returns-in-Ok-clause-end
-returns-in-Ok-clause-end c = absurd (lexed_or_fault _ _ _ _ _ c.in-Ok.ensures.body c.requires.faulty.1)
+returns-in-Ok-clause-end c =
+    absurd (lexed_or_fault (codes "(" ++ chars c.args.body.now) Regexp _ _ (InvalidRegex c.requires.faulty.0) c.in-Ok.ensures.body c.requires.faulty.1)
 
 pub returns-in-Err-clause-end : goal.returns-in-Err-clause-end
 returns-in-Err-clause-end c =
