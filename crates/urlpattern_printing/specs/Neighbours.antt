@@ -6,10 +6,10 @@ use Rattle.urlpattern_syntax.specs.{Options.OptionsView, RegexpText.is_empty}
 use Rattle.urlpattern_syntax.specs.declared.parser.Part.{Part}
 use Rattle.urlpattern_syntax.specs.Parts.{PartView, part_view}
 
--- The part, if there is one.
+-- The part before or after another, as clauses see it, or None at an end of the list.
 abbrev pub neighbour : Option (Bor Part) → Option PartView
 neighbour part = option_map (λ there. part_view there.now) part
 
--- The last character of the text is the prefix code point.
+-- Whether the last character of the text is the prefix code point.
 abbrev pub ends_with_prefix : OptionsView → List ℕ → Bool
 ends_with_prefix options text = not (is_empty text) && bytes_eq (last_of text) options.prefix

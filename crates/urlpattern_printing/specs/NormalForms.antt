@@ -11,7 +11,8 @@ use Rattle.urlpattern_syntax.specs.declared.parser.Part.{Part}
 use Rattle.urlpattern_syntax.specs.Parts.{PartView, parts_view}
 use Rattle.urlpattern_syntax.specs.Reading.{Encoding, Reads, Rejects}
 
--- If the parts are printable, the text reads back under any encoding that keeps their texts.
+-- If the parts are printable, the text reads as the joined parts and as nothing else, and prints as
+-- itself, under any list of encoding results that keeps their texts.
 abbrev pub ReadsBackIfKept : (text : List ℕ) → OptionsView → List PartView → Type 0
 ReadsBackIfKept text options parts =
     (answers : EncodingResults) → IsPrintable options parts → Keeps (listed answers) parts
@@ -23,7 +24,8 @@ abbrev pub IsJoinedIfKept : OptionsView → Encoding → List PartView → Vec P
 IsJoinedIfKept options encoding parts normal =
     IsPrintable options parts → KeepsOrFails encoding parts → parts_view normal.items ≡ joined parts
 
--- If the parts are printable, the error is that of one of their texts, or that memory ran out.
+-- If the parts are printable, the error is one that the encoding may return for a text of the
+-- joined parts, or that memory ran out.
 abbrev pub FailsIfPrintable : OptionsView → Encoding → List PartView → Error → Type 0
 FailsIfPrintable options encoding parts error =
     IsPrintable options parts → MemoryOr (FailsText encoding (encoded_texts (joined parts))) error
