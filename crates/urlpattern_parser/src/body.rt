@@ -9,7 +9,7 @@ ghost use Rattle.urlpattern_syntax.specs.declared.tokenizer.TokenType.TheVariant
 use urlpattern_syntax::error::{RegexFault, TokenizerError};
 use urlpattern_syntax::text::{before, split_first};
 
-/// Why a text does not begin with the body of a custom regular expression.
+/// Where and why a text does not begin with the body of a custom regular expression.
 #[derive(Drop)]
 pub struct RefusedBody<'a> {
     /// The rest of the text from the invalid bytes on, and how many bytes are invalid. `None`: the
@@ -19,8 +19,9 @@ pub struct RefusedBody<'a> {
     pub error: TokenizerError,
 }
 
-/// Splits a text into the body of a custom regular expression, which the next unmatched `)` closes,
-/// and the text after that parenthesis.
+/// Splits a text that follows a `(` into the body of a custom regular expression, which the next
+/// unmatched `)` closes, and the text after that parenthesis. The text begins with neither `?` nor
+/// `)`.
 pub fn split_body(text: &str) -> Result<(&str, &str), RefusedBody<'_>>
     requires { ¬ BeginsWith (is_among (codes "?)")) (chars text.now) }
     ensures body { IfOk result (λ found.

@@ -9,7 +9,8 @@ use crate::tokenizer::Token;
 use std::alloc::Global;
 use urlpattern_syntax::error::Error;
 
-/// The place where the pieces of a pattern text end.
+/// The place where the pieces of a pattern text end: its characters, placeholders and groups in
+/// braces.
 #[derive(Debug, Clone, Copy)]
 pub struct Stop<'a> {
     /// The first token that is in no piece: `found`, or the opening brace of a group without
@@ -20,7 +21,7 @@ pub struct Stop<'a> {
 }
 
 impl<'a> Stop<'a> {
-    /// Finds where the pieces of a text end, under this prefix code point.
+    /// Finds where the pieces of the text `input` end, under this prefix code point.
     ///
     /// The error is the first fault of the text, or that memory ran out.
     pub fn of(alloc: Global, input: &'a str, prefix_code_point: &str) -> Result<Self, Error>
