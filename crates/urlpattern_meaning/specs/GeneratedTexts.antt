@@ -1,4 +1,4 @@
--- Regular expressions of parts without custom ones.
+-- Regular expressions of parts none of which is custom.
 use Rattle.std.specs.Prelude.{◌≡◌, ℕ, List}
 use Rattle.urlpattern_meaning.specs.PartMeaning.{AreGenerated}
 use Rattle.urlpattern_syntax.specs.{Options.OptionsView, Parts.PartView, RegexpText.regexp_text}
