@@ -192,7 +192,7 @@ HashAt text tokens position components =
     ⊎ (IsTrue (ends_at tokens position) × (components.hash ≡ None))
 
 -- The search begins at the token `from`, where `depth` groups are open, and ends at the number sign
--- of the hash or at End. The hash is as the text says from there on.
+-- of the hash or at End. The hash follows by `HashAt`.
 abbrev pub SearchFrom : (text : List ℕ) → List TokenView → (from depth : ℕ) → Values → Type 0
 SearchFrom text tokens from depth components =
     (until : ℕ) × EndsAt Search tokens from depth until
@@ -210,7 +210,7 @@ SearchAt text tokens position components =
     ⊎ (IsTrue (ends_at tokens position) × (components.search ≡ None) × (components.hash ≡ None))
 
 -- The pathname begins at the token `from`, where `depth` groups are open, and ends at the sign of
--- the search or of the hash or at End. The search and the hash are as the text says from there on.
+-- the search or of the hash or at End. The search and the hash follow by `SearchAt`.
 abbrev pub PathnameFrom : (text : List ℕ) → List TokenView → (from depth : ℕ) → Values → Type 0
 PathnameFrom text tokens from depth components =
     (until : ℕ) × EndsAt Pathname tokens from depth until
@@ -253,7 +253,7 @@ PortAt text tokens special position components =
     × PathnameAt text tokens special position components)
 
 -- The hostname begins at the token `from`, where `depth` groups are open. The port and the
--- components after it are as the text says from there on.
+-- components after it follow by `PortAt`.
 abbrev pub HostnameFrom : (text : List ℕ) → List TokenView → (special : Bool) → (from depth : ℕ)
     → Values → Type 0
 HostnameFrom text tokens special from depth components =
