@@ -1,4 +1,4 @@
--- The part before or after another in a list, as a clause sees it.
+-- The part before or after another in a list, as clauses see it.
 use denote.Ref.{Bor}
 use Rattle.std.specs.Prelude.{◌&&◌, Bool, bytes_eq, ℕ, List, not, Option, option_map}
 use Rattle.urlpattern_meaning.specs.Printing.{last_of}

@@ -18,8 +18,8 @@ ReadsBackIfKept text options parts =
     (answers : EncodingResults) → IsPrintable options parts → Keeps (listed answers) parts
     → ReadsBack text options (listed answers) parts
 
--- If the parts are printable and the encoding changes none of their texts, `normal` is the parts
--- with neighbouring plain fixed texts joined.
+-- If the parts are printable and the encoding changes none of their texts, `normal` is the joined
+-- parts, in which neighbouring fixed texts without a modifier are one.
 abbrev pub IsJoinedIfKept : OptionsView → Encoding → List PartView → Vec Part Global → Type 0
 IsJoinedIfKept options encoding parts normal =
     IsPrintable options parts → KeepsOrFails encoding parts → parts_view normal.items ≡ joined parts
@@ -30,12 +30,13 @@ abbrev pub FailsIfPrintable : OptionsView → Encoding → List PartView → Err
 FailsIfPrintable options encoding parts error =
     IsPrintable options parts → MemoryOr (FailsText encoding (encoded_texts (joined parts))) error
 
--- The pattern text of the parts reads as `normal`.
+-- Under the options and the encoding, the pattern text of the parts reads as `normal`.
 abbrev pub IsReadFrom : OptionsView → Encoding → List PartView → Vec Part Global → Type 0
 IsReadFrom options encoding parts normal =
     Reads (printed options parts) options encoding (parts_view normal.items)
 
--- The pattern text of the parts is rejected with this error, or memory ran out.
+-- Under the options and the encoding, the pattern text of the parts is rejected with this error, or
+-- the error is that memory ran out.
 abbrev pub RejectsPrinted : OptionsView → Encoding → List PartView → Error → Type 0
 RejectsPrinted options encoding parts error =
     MemoryOr (Rejects (printed options parts) options encoding) error
