@@ -34,17 +34,17 @@ mutual
 
 -- ---- the texts of trees
 
--- The character without its backslash.
+-- The character itself, without a backslash.
 abbrev pub character_of : Character → ℕ
 character_of (Plain c) = c
 character_of (Escaped c) = c
 
--- A character as it is spelled.
+-- The spelling of a character, with a backslash if it has one.
 abbrev pub character_text : Character → List ℕ
 character_text (Plain c) = c ∷ []
 character_text (Escaped c) = codes "\\" ++ c ∷ []
 
--- A quantifier as it is spelled.
+-- The spelling of a quantifier.
 abbrev pub quantifier_text : Quantifier → List ℕ
 quantifier_text Once = []
 quantifier_text Optional = codes "?"
@@ -53,13 +53,13 @@ quantifier_text OneOrMore = codes "+"
 quantifier_text LazyOneOrMore = codes "+?"
 
 abbrev mutual
-  -- The items as they are spelled.
+  -- The spelling of the items.
   pub items_text : Items → List ℕ
   items_text Nothing = []
   items_text (Item atom quantifier items) =
       atom_text atom ++ quantifier_text quantifier ++ items_text items
 
-  -- An atom as it is spelled.
+  -- The spelling of an atom.
   pub atom_text : Atom → List ℕ
   atom_text (Literal character) = character_text character
   atom_text Dot = codes "."

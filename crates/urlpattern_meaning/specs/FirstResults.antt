@@ -8,8 +8,8 @@ use Rattle.urlpattern_meaning.specs.PartMeaning.{AreGenerated, Captures}
 use Rattle.urlpattern_meaning.specs.Ways.{first_way}
 use Rattle.urlpattern_syntax.specs.{Options.OptionsView, Parts.PartView, RegexpText.regexp_text}
 
--- The result is the captures of the first way in which the tree of the parts' regular expression
--- matches the whole text, or None where no way does.
+-- `result` is the captures of the first way in which the tree of the regular expression of the
+-- parts matches the whole text, or None where no way does.
 pub record IsFirstOf (options : OptionsView) (parts : List PartView) (text : List ℕ)
     (result : Option Captures) : Type 0 where
   pub tree : Items

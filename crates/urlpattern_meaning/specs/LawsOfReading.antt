@@ -96,12 +96,14 @@ OutcomesAreOneGivenMemory encoding =
     → HasOutcome text options encoding other
     → outcome ≡ other
 
--- Every text has an outcome, or else the encoding is called with a text for which it has no result.
+-- Every text has an outcome, parts or an error, or else, while it is parsed, the encoding is called
+-- with a text for which it has no result.
 abbrev pub OutcomesLackOnlyResults : Encoding → Type 0
 OutcomesLackOnlyResults encoding = (text : List ℕ) (options : OptionsView) →
     HasSomeOutcome text options encoding ⊎ LacksResult text options encoding
 
--- Every text has an outcome where the encoding has a result for each text that it is called with.
+-- Every text has an outcome, parts or an error, where the encoding has a result for each text that
+-- it is called with while the text is parsed.
 abbrev pub TextsWithResultsHaveOutcomes : Encoding → Type 0
 TextsWithResultsHaveOutcomes encoding = (text : List ℕ) (options : OptionsView) →
     HasRequestedResults text options encoding → HasSomeOutcome text options encoding

@@ -58,8 +58,8 @@ pub record AreStripped (parts : List PartView) (front : Option PartView) (middle
   pub front_removed : IsRemoved front (BeginsPlain parts)
   pub back_removed : IsRemoved back (EndsPlain middle)
 
--- The matcher has an engine for the regular expression of the parts `middle`, between the texts
--- `prefix` and `suffix`.
+-- The matcher has, between the texts `prefix` and `suffix`, an engine's value or error, which
+-- `IsEngine` relates to the regular expression of the parts `middle`.
 abbrev pub IsMadeByEngine : {E : Type 0}
     → (IsEngine : (regexp : List ℕ) → Result E ErrorView → Type 0)
     → OptionsView → (prefix : List ℕ) → List PartView → (suffix : List ℕ) → MatcherView E → Type 0
@@ -179,21 +179,25 @@ HasMiddle matcher text middle =
     × IsSame matcher.ignore_case front matcher.prefix
     × IsSame matcher.ignore_case back matcher.suffix
 
--- The text has prefix and suffix, and the text between them is accepted, with these captures.
+-- The matcher matches the text with these captures: the text has its prefix and its suffix, and the
+-- inner matcher accepts the text between them. `answer` is the result of an engine's value for a
+-- text.
 abbrev pub Matches : {E : Type 0} → (answer : E → List ℕ → Option Captures) → MatcherView E → List ℕ
     → Captures → Type 0
 Matches answer matcher text captures =
     (middle : List ℕ) × HasMiddle matcher text middle
     × Accepts answer matcher.ignore_case matcher.inner middle captures
 
--- The matcher returns the option for the text, where `answer` is the result of an engine's value:
--- captures with which the text matches, or None if the text does not match.
+-- The last argument is a result of the matcher for the text: captures with which it matches the
+-- text, or None if it does not match the text. `answer` is the result of an engine's value for a
+-- text.
 abbrev pub Returns : {E : Type 0} → (answer : E → List ℕ → Option Captures) → MatcherView E → List ℕ
     → Option Captures → Type 0
 Returns answer matcher text (Some captures) = Matches answer matcher text captures
 Returns answer matcher text None = (captures : Captures) → ¬ Matches answer matcher text captures
 
--- The text matches, with some captures.
+-- The matcher matches the text, with some captures. `answer` is the result of an engine's value for
+-- a text.
 abbrev pub IsMatched : {E : Type 0} → (answer : E → List ℕ → Option Captures) → MatcherView E
     → List ℕ → Type 0
 IsMatched answer matcher text = (captures : Captures) × Matches answer matcher text captures
@@ -230,8 +234,8 @@ abbrev pub Agrees : OptionsView → List PartView → List ℕ → Option Captur
 Agrees options parts text (Some captures) = PartsMean options parts text captures
 Agrees options parts text None = (captures : Captures) → ¬ PartsMean options parts text captures
 
--- Each value made from the regular expression of parts, none of them custom, with the flag `u`
--- alone, returns what the parts mean.
+-- Each engine's value that is made (`IsMade`) from the regular expression of parts, none of them
+-- custom, with the flag `u` alone, returns (`answer`) what the parts mean, for every text.
 abbrev pub ValuesAgreeWithParts : {E : Type 0} → (IsMade : E → (regexp flags : List ℕ) → Type 0)
     → (answer : E → List ℕ → Option Captures) → Type 0
 ValuesAgreeWithParts {E} IsMade answer =
@@ -266,7 +270,8 @@ AgreesInMiddle answer options parts inner =
     (text : List ℕ) → IsTrue (all_scalars text)
     → Agrees options middle text (answer engine text)) parts inner
 
--- `Is` holds of each result of the matcher for a text of characters without line feed.
+-- `Is` holds of each text of characters without line feed and each result of the matcher for it.
+-- `answer` is the result of an engine's value for a text.
 abbrev pub EachResultIs : {E : Type 0} → (answer : E → List ℕ → Option Captures) → MatcherView E
     → (Is : (text : List ℕ) → Option Captures → Type 0) → Type 0
 EachResultIs answer matcher Is =

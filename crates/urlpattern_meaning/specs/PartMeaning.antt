@@ -11,8 +11,9 @@ Captures = List (Option (List ℕ))
 
 -- ---- copies of a part
 
--- A wildcard of this kind matches the text: a segment is not empty and has no delimiter (without
--- one, no line feed); a full wildcard is any text without line feed.
+-- A wildcard of this kind matches the text: for a segment, a text that is not empty and does not
+-- contain the delimiter or, under options without a delimiter, a line feed; for a full wildcard,
+-- any text without line feed.
 abbrev pub IsWildcardText : OptionsView → PartType → List ℕ → Type 0
 IsWildcardText options PartType.SegmentWildcard text =
     (text ≢ []) × IsTrue (lacks (unwrap_or options.delimiter line_feed) text)

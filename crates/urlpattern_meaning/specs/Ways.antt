@@ -108,11 +108,11 @@ abbrev mutual
   atom_ways_by ignore_case (Captured items) text = map capturing (ways_by ignore_case items text)
   atom_ways_by ignore_case (Grouped items) text = ways_by ignore_case items text
 
--- The ways of items where case counts.
+-- The ways in which items match a beginning of a text where case counts.
 abbrev pub ways : Items → Choice
 ways items = ways_by false items
 
--- The ways of an atom where case counts.
+-- The ways in which an atom matches a beginning of a text where case counts.
 abbrev pub atom_ways : Atom → Choice
 atom_ways atom = atom_ways_by false atom
 

@@ -1,7 +1,7 @@
 //! Laws of the definitions that contracts name: tokens, parts, regular expressions, matchers and
 //! printed patterns.
 //!
-//! Each function here does nothing; what it promises is a theorem.
+//! Each function of the file does nothing; what it promises is a theorem.
 
 ghost use Rattle.std.specs.Prelude.{◌≡◌, ◌≢◌, ℕ, List, [], ◌++◌, All, AllPairs, None, Some, length};
 ghost use Rattle.std.specs.Char.{is_ascii_digit};
@@ -28,8 +28,8 @@ pub fn plain_ends_are_removed()
     ensures { PlainEndsAreRemoved }
 {}
 
-/// Parts match the same texts, with the same captures, after neighbouring plain fixed texts are
-/// joined into one. A fixed text is plain if it has no modifier.
+/// Parts match the same texts, with the same captures, after neighbouring fixed texts without a
+/// modifier are joined into one.
 pub fn joining_keeps_meaning()
     ensures { (options : OptionsView) (parts : List PartView)
         → MeanTheSame options (joined parts) parts }
@@ -66,9 +66,10 @@ pub fn every_text_has_tokens()
     ensures lenient { (text : List ℕ) → HasLenientTokens text }
 {}
 
-/// The tokens of a text hold all of it but what is skipped between them and the marks of an escape,
-/// a name and a regular expression. Each token begins where its index says, after the token before
-/// it, and its value is there in the text. End is the last token, and no other.
+/// The values of the tokens hold all of a text but the characters that are skipped between tokens,
+/// the backslash of an escape, the colon of a name and the parentheses of a regular expression.
+/// Each token begins where its index says, after the token before it, and its value is a part of
+/// the text. `End` is the last token, and no other.
 pub fn tokens_lose_nothing()
     ensures lay { (text : List ℕ) (tokens : List TokenView) → AreTokens text tokens
         → Lays 0 tokens text }
@@ -134,12 +135,12 @@ pub fn dialect_trees_are_one()
     ensures { (text : List ℕ) → AtMostOne (IsTreeOf text) }
 {}
 
-/// A way is one way in which a tree of the dialect matches a beginning of a text. The ways are
-/// exactly the matches that the meaning of the tree allows. The captures of the first way that
-/// matches the whole text are therefore captures that the tree means, there is no such way only
-/// where the tree does not match the text, and there are as many captures as the tree has groups. A
-/// function that returns the first way follows the regular expression of the tree, so that each one
-/// can be followed.
+/// A way is one way in which a tree of the dialect matches a beginning of a text; the first is the
+/// one that a backtracking engine finds first. The ways are exactly the matches that the meaning of
+/// the tree allows. The first way that matches the whole text therefore captures what the tree
+/// means, is missing only where the tree does not match the text, and has as many captures as the
+/// tree has groups. A function that returns the captures of the first way follows the regular
+/// expression of the tree, so each regular expression of the dialect can be followed.
 pub fn first_ways_are_meant()
     ensures ways { WaysAreMeanings }
     ensures some { OfEachTree (λ tree text captures.
@@ -152,9 +153,9 @@ pub fn first_ways_are_meant()
         → Follows regexp (first_way tree) }
 {}
 
-/// Where case is ignored, a tree matches a text by a first way exactly if the folded tree, with
-/// case kept, matches the folded text by one. The captures of the first, once folded, are equal to
-/// those of the second. Folding replaces each ASCII letter by its lower case.
+/// Where case is ignored, a tree matches a text exactly if the folded tree, with case kept, matches
+/// the folded text, and the captures of the first way of the tree, once folded, are equal to those
+/// of the first way of the folded tree. Folding replaces each ASCII letter by its lower case.
 pub fn first_ways_fold()
     ensures { FirstWaysFold }
 {}
