@@ -54,8 +54,8 @@ continues_name next =
     && (if is_fixed_text next.kind then begins_with is_name_part next.value
     else not (has_custom_name next))
 
--- Whether the part is a name alone, and without braces the start of the next part, None at the end
--- of the list, would be parsed with it.
+-- Whether the part is a name alone without a modifier, and without braces the start of the next
+-- part, None at the end of the list, would be parsed with it.
 abbrev pub absorbs_next : PartView → Option PartView → Bool
 absorbs_next part None = false
 absorbs_next part (Some next) =

@@ -13,8 +13,8 @@ use Rattle.urlpattern_meaning.specs.Printing.{HaveTexts, encoded_texts, has_cust
 
 -- ---- options
 
--- The text is empty or a single character, and that is neither a special character of patterns nor
--- a character of names.
+-- The text may be a prefix code point: it is empty, or a single character that is neither special
+-- in patterns nor part of names.
 abbrev pub IsPrefixPoint : List ℕ → Type 0
 IsPrefixPoint [] = Unit {0}
 IsPrefixPoint (c ∷ []) = ¬ IsTrue (is_among pattern_marks c) × ¬ IsTrue (is_name_part c)
@@ -68,8 +68,8 @@ AreNamed number [] = Unit {0}
 AreNamed number (part ∷ parts) =
     IsNamed number part.kind part.name × AreNamed (following_number number part.kind part) parts
 
--- The parts are as a pattern text reads: the fields and the name of each fit its kind, and no two
--- groups have the same name.
+-- The parts have the form that parsing produces: the fields and the name of each fit its kind, and
+-- no two groups have the same name.
 pub record ArePatternParts (options : OptionsView) (parts : List PartView) : Type 0 where
   pub fields : AllHaveFields options parts
   pub names : AreNamed 0 parts
@@ -144,7 +144,7 @@ abbrev pub IsNotRejected : (text : List ℕ) → OptionsView → Encoding → Li
 IsNotRejected text options encoding parts =
     (error : ErrorView) → ¬ Rejects text options encoding error
 
--- The parts that the text reads as print as the text.
+-- Any parts that the text reads as print as the text.
 abbrev pub PrintsTheSame : (text : List ℕ) → OptionsView → Encoding → List PartView → Type 0
 PrintsTheSame text options encoding parts =
     (others : List PartView) → Reads text options encoding others → printed options others ≡ text
