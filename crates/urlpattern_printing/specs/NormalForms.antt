@@ -11,8 +11,9 @@ use Rattle.urlpattern_syntax.specs.declared.parser.Part.{Part}
 use Rattle.urlpattern_syntax.specs.Parts.{PartView, parts_view}
 use Rattle.urlpattern_syntax.specs.Reading.{Encoding, Reads, Rejects}
 
--- If the parts are printable, the text reads as the joined parts and as nothing else, and prints as
--- itself, under any list of encoding results that keeps their texts.
+-- If the parts are printable, the text reads as the joined parts and as nothing else, and what it
+-- reads as prints as the text, under any list of encoding results that keeps the texts of the
+-- parts.
 abbrev pub ReadsBackIfKept : (text : List ℕ) → OptionsView → List PartView → Type 0
 ReadsBackIfKept text options parts =
     (answers : EncodingResults) → IsPrintable options parts → Keeps (listed answers) parts

@@ -268,8 +268,8 @@ fn has_other_prefix(options: &Options, part: &Part) -> bool
     !part.prefix.is_empty() && part.prefix != options.prefix_code_point
 }
 
-/// Whether `part` is printed as a name alone, such as `:id`, and without braces the start of `next`
-/// would be parsed with it: as more of the name, or as its regular expression.
+/// Whether `part` is a name alone without a modifier, such as `:id`, and without braces the start
+/// of `next` would be parsed with it: as more of the name, or as its regular expression.
 fn absorbs_next(part: &Part, next: Option<&Part>) -> bool
     ensures { result ≡ absorbs_next (part_view part.now) (neighbour next.entry) }
 {
