@@ -6,7 +6,7 @@ use Rattle.urlpattern_components.specs.declared.eight.ComponentName.{ComponentNa
 use Rattle.urlpattern_components.specs.declared.eight.named.NamedValues.{NamedValues}
 use Rattle.urlpattern_components.specs.Eight.{named_values}
 
--- An item of the iterator, the name of a component and a borrowed value, with the value itself.
+-- The component and the value of an item of the iterator, which borrows the value.
 abbrev pub named_value : {A : Type 0} → ComponentName × Bor A → ComponentName × A
 named_value value = (value.0, value.1.now)
 
