@@ -294,9 +294,9 @@ NoAuthority components =
     (components.protocol ≡ None) × (components.username ≡ None) × (components.password ≡ None)
     × (components.hostname ≡ None) × (components.port ≡ None)
 
--- The components of a text that has no protocol, as no colon ends one. The first token decides
--- whether the hash, the search or else the pathname begins. In a search or a pathname as many
--- groups count as open at first as are open at End.
+-- `components` is the split of a text without a protocol, as no colon ends one. By its first token
+-- the text begins with the hash, with the search or else with the pathname. In a search or a
+-- pathname as many groups count as open at first as are open at End.
 pub record IsRelativeSplit (text : List ℕ) (tokens : List TokenView) (components : Values) : Type 0
   where
     pub until : ℕ
@@ -318,9 +318,9 @@ abbrev pub has_slashes : List TokenView → ℕ → Bool
 has_slashes tokens position =
     is_slash_sign tokens (position + 1) && is_slash_sign tokens (position + 2)
 
--- The components of a text whose protocol ends at the token `colon`. After the colon an authority
--- begins, if two slashes follow or the protocol matches a special scheme, otherwise a pathname, and
--- then hostname and port are empty.
+-- `components` is the split of a text whose protocol ends at the token `colon`. After the colon an
+-- authority begins, if two slashes follow or the protocol matches a special scheme, otherwise a
+-- pathname, and then hostname and port are empty.
 pub record IsAbsoluteSplit (text : List ℕ) (tokens : List TokenView) (special : Bool) (colon : ℕ)
     (components : Values) : Type 0 where
   pub is_colon_there : IsTrue (is_colon_sign tokens colon)
@@ -337,8 +337,8 @@ pub record IsAbsoluteSplit (text : List ℕ) (tokens : List TokenView) (special 
       × (components.port ≡ Some [])
       × PathnameFrom text tokens (colon + 1) 0 components)
 
--- The components of a text with these tokens, with a protocol or without one. `IsSpecial` relates
--- the text of a protocol to whether it matches a special scheme.
+-- The components are the split of a text with these tokens, with a protocol or without one.
+-- `IsSpecial` relates the text of a protocol to whether it matches a special scheme.
 abbrev pub IsSplit : (IsSpecial : List ℕ → Bool → Type 0) → (text : List ℕ) → List TokenView
     → Values → Type 0
 IsSplit IsSpecial text tokens components =
