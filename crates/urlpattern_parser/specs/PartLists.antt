@@ -49,12 +49,12 @@ matched_regexp parser matched = placeholder_regexp (parser_options parser) (matc
 abbrev pub list_names : PartList → List (List ℕ)
 list_names list = group_names (part_list_view list).parts
 
--- The list knows that exactly `names` are used: its set has those that the pattern gives, and the
--- others are numbers below its next one.
+-- The list knows `names` as the names that are used: its set has exactly those that the pattern
+-- gives, and its next number and those after it are not among them.
 abbrev pub Knows : PartList → List (List ℕ) → Type 0
 Knows list names = KnowsNames names list.given_names list.next_numeric_name
 
--- The list knows that exactly the names of its groups are used.
+-- The list knows the names of its groups as the names that are used.
 abbrev pub KnowsItsNames : PartList → Type 0
 KnowsItsNames list = Knows list (list_names list)
 

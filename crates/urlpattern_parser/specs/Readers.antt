@@ -147,7 +147,7 @@ part_list_view list = record {
 }
 
 -- `names` are the names that are used: `given` has exactly those that the pattern gives, and no
--- number from `number` on is among them.
+-- number from `number` on, below 2^64, is among them.
 pub record KnowsNames (names : List (List ℕ)) (given : GivenNames) (number : ℕ) : Type 0 where
   pub named : (name : List ℕ) → IsUtf8 name → IsGiven (chars name) → Contains names (chars name)
       ↔ IsTrue (has_name given name)
