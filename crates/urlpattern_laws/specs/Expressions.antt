@@ -16,7 +16,7 @@ use Rattle.urlpattern_syntax.specs.Text.{lacks}
 abbrev pub MatchesWhole : Re → (text : List ℕ) → Type 0
 MatchesWhole pattern text = Matches (encode_utf8_all text) pattern 0 (length (encode_utf8_all text))
 
--- The expression matches the whole text: the grammar reads it by itself, as a pattern that does.
+-- The grammar of `regex` reads the expression by itself, as a pattern that matches the whole text.
 abbrev pub ExpressionMatches : (expression text : List ℕ) → Type 0
 ExpressionMatches expression text =
     IsSomeAnd (read default_config expression) (λ (pattern, names). MatchesWhole pattern.value text)
@@ -32,8 +32,8 @@ abbrev pub is_nothing : List (ℕ × ℕ) → Bool
 is_nothing [] = true
 is_nothing ranges = false
 
--- Whether each step of the pattern matches a character: literals are characters, byte classes are
--- empty, and there are no assertions.
+-- Whether each step of the pattern matches a single character: each literal is a character, byte
+-- classes are empty, and there are no assertions.
 abbrev pub matches_characters : Re → Bool
 matches_characters empty = true
 matches_characters (literal bytes) = is_one_character bytes

@@ -58,7 +58,7 @@ CapturesAreAsNames =
     →
     length captures ≡ length (group_names parts)
 
--- The result has captures exactly if the parts match the text.
+-- `result` is captures, not `None`, exactly if the parts match the text.
 abbrev pub IsSomeIfMatched : OptionsView → List PartView → (text : List ℕ) → Option Captures
     → Type 0
 IsSomeIfMatched options parts text result = IsSome result ↔ PartsMatch options parts text

@@ -42,16 +42,16 @@ AreGroupsOfResult result groups =
 abbrev pub NamesDiffer : List (List ℕ) → Type 0
 NamesDiffer names = AllPairs (λ name other. name ≢ other) names
 
--- What `to_groups` of captures returns has exactly the captured texts, if no two groups of a
--- component have the same name.
+-- The groups that `to_groups` of captures returns are as `AreGroupsOfResult` says: each has its
+-- captured text. Premise: no two groups of a component have the same name.
 abbrev pub GroupsOfCapturesAreGiven : Type 0
 GroupsOfCapturesAreGiven = (found : UrlPatternCaptures) (groups : List BorrowedGroup) →
     map borrowed_group groups ≡ texts_captured (all_groups_view found components) →
     ((component : ComponentName) → NamesDiffer (keys_of (groups_view found component))) →
     AreGroupsOfResult (pattern_captures_view found) (given_groups groups)
 
--- What `to_groups` of a result returns has exactly the captured texts. No two groups of a component
--- have the same name there.
+-- The groups that `to_groups` of a result returns are as `AreGroupsOfResult` says: each has its
+-- captured text. Premise: no two groups of a component have the same name.
 abbrev pub GroupsOfResultsAreGiven : Type 0
 GroupsOfResultsAreGiven = (result : UrlPatternResult) (groups : List BorrowedGroup) →
     map borrowed_group groups ≡ texts_captured (all_listed_groups result components) →

@@ -48,7 +48,7 @@ NeverAcceptsAndRejectsPart {E} engine flags regexp =
     → ¬ IsEngineOf engine false flags regexp (Err error)
 
 -- The engine does not both accept and reject the regular expression of the parts to which a pattern
--- text is parsed, or of some of these parts in a row.
+-- text is parsed, or of any of these parts in a row.
 pub record NeverAcceptsAndRejectsText {E : Type 0} (engine : Engine E) (settings : ParseSettings) :
     Type 0 where
   pub whole : (parts : List PartView) → ReadsAs settings parts →
@@ -130,15 +130,15 @@ InitRejectionsAreOne engine =
 abbrev pub InitsHaveValues : Type 0
 InitsHaveValues = (init : UrlPatternInit) → (values : Values) × (pattern_values init ≡ Ok values)
 
--- Parsing the pattern texts of these values calls `url` only with texts for which it has a result,
--- other than the two errors that `of_texts` leaves aside.
+-- When the pattern texts of these values are parsed, `url` has a result for each text that it is
+-- called with, other than out of memory and a text too long for it.
 abbrev pub UrlHasResults : UrlPatternOptions → Values → Type 0
 UrlHasResults asked values = (hierarchical : Bool) (component : ComponentName) →
     let settings = settings_of asked values hierarchical component in
     HasRequestedResults settings.text settings.options
     (of_texts (canonical_encoding settings.canonical))
 
--- For some parts in a row of those to which a pattern text of these values is parsed, the engine
+-- For any parts in a row, of those to which a pattern text of these values is parsed, the engine
 -- makes a value of their regular expression, or may reject it.
 abbrev pub EngineHasResults : {E : Type 0} → Engine E → UrlPatternOptions → Values → Type 0
 EngineHasResults {E} engine asked values =

@@ -1,6 +1,6 @@
 -- The ways in which a custom expression, or parts with custom ones among them, match the start of a
 -- text, in the order of a backtracking engine, and the captures of the first way that matches the
--- whole text.
+-- whole text. A `Choice` returns the ways to match the start of a text.
 use Rattle.std.specs.Prelude.{ℕ, Bool, true, false, not, ◌&&◌, ◌==◌, List, [], ◌∷◌, ◌++◌, length, map, find, Option, Some, None, option_map, unwrap_or}
 use Rattle.regex_class.specs.Ranges.{in_ranges}
 use Rattle.regex_hir.specs.Re.{Re, empty, literal, byte_in, char_in, look, cat, alt, group, plus}

@@ -4,7 +4,7 @@ use Rattle.std.specs.List.{list_all}
 use Rattle.urlpattern_syntax.specs.Text.{BeginsWith, is_among}
 use Rattle.urlpattern_syntax.specs.Tokens.{IsCut, IsStrictCut, IsTokenOf, Skips, TokenType, TokenView, end_of, is_ignored, marks}
 
--- The reader has reached `rest`: the text before `rest` is cut into strict tokens, and `rest` does
+-- The reader has reached `rest`: `whole` before `rest` is cut into strict tokens, and `rest` does
 -- not begin with a character that is skipped between tokens.
 pub record IsPlace (whole rest : List ℕ) : Type 0 where
   pub front : List TokenView

@@ -28,7 +28,7 @@ pub data Body : Type 0 where
   Plain : ℕ → Body → Body
   Group : Body → Body → Body
 
--- The text of a body, with its backslashes and inner parentheses.
+-- The text that a body stands for, with backslashes and inner parentheses.
 abbrev pub body_text : Body → List ℕ
 body_text Nothing = []
 body_text (Escaped c body) = codes "\\" ++ c ∷ body_text body
@@ -110,7 +110,7 @@ pub data BodyStart : Type 0 where
   Here : Body → BodyStart
   Inside : Body → BodyStart → BodyStart
 
--- The text of the start of a body, with its backslashes and parentheses.
+-- The text that the start of a body stands for, with backslashes and parentheses.
 abbrev pub body_start_text : BodyStart → List ℕ
 body_start_text (Here body) = body_text body
 body_start_text (Inside body front) = body_text body ++ codes "(" ++ body_start_text front
@@ -221,7 +221,7 @@ pub record IsTokenOf (whole text : List ℕ) (token : TokenView) (rest : List �
   pub lexed : IsLexed text token.kind token.value rest
   pub place : BeginsAt whole text token.index
 
--- The text is these tokens of the strict policy, End not among them, and then `left`.
+-- The text is cut into these tokens under the strict policy, without End, and then `left`.
 abbrev pub IsStrictCut : (text : List ℕ) → List TokenView → (left : List ℕ) → Type 0
 IsStrictCut text tokens left = IsCut (IsTokenOf text) text tokens left
 
@@ -229,13 +229,14 @@ IsStrictCut text tokens left = IsCut (IsTokenOf text) text tokens left
 abbrev pub end_of : List ℕ → TokenView
 end_of text = record { kind = End; index = byte_len text; value = [] }
 
--- `tokens` are those of the whole text under the strict policy, with End as the last.
+-- The whole text is cut into these tokens under the strict policy, and End is the last.
 pub record AreTokens (text : List ℕ) (tokens : List TokenView) : Type 0 where
   pub front : List TokenView
   pub cut : IsStrictCut text front []
   pub all : tokens ≡ front ++ end_of text ∷ []
 
--- The text before `index` is tokens, and at `index` no token begins, for the reason `reported`.
+-- The text before `index` is cut into tokens under the strict policy, and at `index` no token
+-- begins, for the reason `reported`.
 pub record IsFault (text : List ℕ) (reported : FaultView) (index : ℕ) : Type 0 where
   pub front : List TokenView
   pub left : List ℕ
@@ -253,7 +254,7 @@ pub record IsInvalidCharOf (whole text : List ℕ) (token : TokenView) (rest : L
   pub is_token : token ≡ record { kind = InvalidChar; index = token.index; value = character ∷ [] }
   pub place : BeginsAt whole text token.index
 
--- `tokens` are those of the whole text under the lenient policy, with End as the last: where no
+-- The whole text is cut into these tokens under the lenient policy, and End is the last: where no
 -- token begins, a single character is an InvalidChar token.
 pub record AreLenientTokens (text : List ℕ) (tokens : List TokenView) : Type 0 where
   pub front : List TokenView
@@ -262,7 +263,7 @@ pub record AreLenientTokens (text : List ℕ) (tokens : List TokenView) : Type 0
       text front []
   pub all : tokens ≡ front ++ end_of text ∷ []
 
--- The tokens are those of the text under the policy.
+-- The whole text is cut into these tokens under the policy, and End is the last.
 abbrev pub AreTokensUnder : TokenizePolicy → (text : List ℕ) → List TokenView → Type 0
 AreTokensUnder TokenizePolicy.Strict text tokens = AreTokens text tokens
 AreTokensUnder TokenizePolicy.Lenient text tokens = AreLenientTokens text tokens

@@ -8,8 +8,8 @@ use Rattle.urlpattern_syntax.specs.Text.{byte_len, chars, option_text, text_of}
 use Rattle.urlpattern_syntax.specs.declared.writing.Comparison.{Comparison}
 use Rattle.urlpattern_syntax.specs.declared.escape.{Escaped.Escaped, Marks.Marks}
 
--- The counter went from `before` to `after`, by the bytes of the piece. A saturated counter says
--- nothing.
+-- The counter went from `before` to `after`, by the bytes of the piece, unless `after` is `MAX`,
+-- where it saturates.
 pub record Counts (before : ℕ) (piece : List ℕ) (after : ℕ) : Type 0 where
   pub count : after < MAX → after ≡ before + byte_len piece
 
@@ -33,7 +33,7 @@ Compares None piece after = after ≡ None
 Compares (Some text) piece (Some rest) = text ≡ piece ++ rest
 Compares (Some text) piece None = (rest : List ℕ) → ¬ (text ≡ piece ++ rest)
 
--- The characters that are escaped with a backslash.
+-- The characters before which these marks put a backslash.
 abbrev pub marks_of : Marks → List ℕ
 marks_of (Marks.Regexp syntax) = escaped_marks syntax
 marks_of Marks.Pattern = pattern_marks
