@@ -70,7 +70,7 @@ pub struct UrlPattern {
 #[derive(Debug, PartialEq, Eq, Drop, Serialize, Deserialize)]
 #[serde(rename_all = "camelCase")]
 pub struct UrlPatternComponent {
-    /// The pattern text, as it is printed.
+    /// The printed pattern text.
     pub pattern_string: String,
     /// The regular expression of the whole component, empty if an engine rejected it.
     pub regexp_string: String,
