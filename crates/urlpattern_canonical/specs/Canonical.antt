@@ -69,8 +69,8 @@ path_of url value = after url (λ old. Ok (set_path old value)) (λ new. new.pat
 abbrev pub without_added_prefix : List ℕ → List ℕ
 without_added_prefix path = if starts_with nat_eq path (codes "/-") then drop 2 path else path
 
--- The path for a value: `/-` is put before a value without an initial slash, and removed from the
--- path if still there.
+-- The path of the dummy URL after it was set to the value. `/-` is put before a value without an
+-- initial slash, and removed from the path if still there.
 abbrev pub pathname_of : List ℕ → Parsed (List ℕ)
 pathname_of value =
     if slice_index value 0 == slash then path_of dummy_url value
@@ -201,7 +201,7 @@ abbrev pub without_first : ℕ → List ℕ → List ℕ
 without_first mark [] = []
 without_first mark (c ∷ text) = if c == mark then text else c ∷ text
 
--- `b'{'`.
+-- The character `{`.
 abbrev pub left_brace : ℕ
 left_brace = slice_index (codes "{") 0
 
