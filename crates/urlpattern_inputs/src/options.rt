@@ -50,6 +50,7 @@ impl UrlPatternOptions {
         Ok(Self::read(value))
     }
 
+    /// Reads options from JSON. `None`: the JSON has another shape.
     #[tactic(auto, unfolding(crate::specs::InputJson::options_read))]
     fn read(value: &Value) -> Option<Self>
         ensures { result ≡ options_read (view value.now) }
@@ -63,7 +64,7 @@ impl UrlPatternOptions {
     }
 }
 
-/// The name of a syntax in JSON.
+/// Returns the name of a syntax in JSON.
 fn syntax_name(syntax: RegexSyntax) -> &'static str
     ensures { result.now ≡ syntax_name syntax }
 {
@@ -73,7 +74,7 @@ fn syntax_name(syntax: RegexSyntax) -> &'static str
     }
 }
 
-/// The syntax with this name, if there is one.
+/// Returns the syntax with this name in JSON. `None`: no syntax has the name.
 fn syntax_of(name: &str) -> Option<RegexSyntax>
     ensures { result ≡ syntax_of name.now }
 {
@@ -86,7 +87,8 @@ fn syntax_of(name: &str) -> Option<RegexSyntax>
     }
 }
 
-/// The syntax of a member; the default if the member is missing.
+/// Reads a syntax from the member `name` of an object; the default if the member is missing.
+/// `None`: the member is not the name of a syntax.
 fn syntax_field(tree: &Value, name: &str) -> Option<RegexSyntax>
     ensures { result ≡ syntax_read (get name.now (view tree.now)) }
 {

@@ -11,7 +11,9 @@ ghost use Rattle.urlpattern_plain.specs.PatternJson.{component_read, component_t
 ghost use Rattle.urlpattern_plain.specs.Values.{PlainComponentView, HasFilter, HasFilters, PlainInnerView, PlainMatcherView, PlainPatternView};
 ghost use Rattle.urlpattern_components.specs.declared.eight.Eight.{Eight};
 
-/// Each value is read back from its JSON. A filter has to be a character, as each `char` is.
+/// Reading the JSON that is written of a value returns an equal value: for options, inits, inputs,
+/// the texts of a match, and plain patterns with their components and matchers. Premise: each
+/// filter is a Unicode scalar value, as each `char` is.
 pub fn reading_undoes_writing()
     ensures options { (options : UrlPatternOptions) → IsReadBack options_tree options_read options }
     ensures init { (values : InitView) → IsReadBack init_tree init_read values }

@@ -30,11 +30,11 @@ pub enum Error {
     BaseUrlRequired,
     /// An init and a separate base URL were both given.
     BaseUrlWithInit,
-    /// No token begins at this byte index of a pattern text.
+    /// No token begins at a place of a pattern text, for this reason. The number is the byte index.
     Tokenizer(TokenizerError, usize),
     /// The tokens of a pattern text do not form a pattern.
     Parser(ParserError),
-    /// A part of a URL is not valid.
+    /// A URL, or the value of a component, is not valid.
     Url(url::ParseError),
     /// The engine rejected a regular expression.
     RegExp(()),
@@ -42,7 +42,7 @@ pub enum Error {
     OutOfMemory,
 }
 
-/// Prints the message, with the place in the pattern text for an error of the tokenizer.
+/// Prints the message; for an error of the tokenizer also the byte index in the pattern text.
 impl fmt::Display for Error {
     ghost output = { λ error. error_text (error_view error) };
 
@@ -116,7 +116,7 @@ pub enum TokenizerError {
     InvalidRegex(RegexFault),
 }
 
-/// Prints the fault.
+/// Prints why no token begins, without the place.
 impl fmt::Display for TokenizerError {
     ghost output = { λ error. Some (fault_text (fault_view error)) };
 
@@ -154,7 +154,7 @@ pub enum RegexFault {
 impl RegexFault {
     ghost use Rattle.urlpattern_syntax.specs.Tokens.{regex_fault_text};
 
-    /// Returns the reason in words.
+    /// Returns the reason in the words of the message of an error.
     pub fn as_str(self) -> &'static str
         ensures { result.now ≡ regex_fault_text self }
     {
@@ -178,7 +178,7 @@ pub enum ParserError {
     DuplicateName(String),
 }
 
-/// Prints the expected and the found token, or the name.
+/// Prints the expected and the found token, or the name that two groups have.
 impl fmt::Display for ParserError {
     ghost output = { λ error. Some (parser_error_text error) };
 
@@ -206,7 +206,7 @@ impl error::Error for ParserError {}
 #[derive(Debug, PartialEq, Eq, Drop)]
 pub struct OutOfMemory;
 
-/// Prints the text of [`Error::OutOfMemory`].
+/// Prints `out of memory`, as [`Error::OutOfMemory`] does.
 impl fmt::Display for OutOfMemory {
     ghost output = { λ error. error_text view.OutOfMemory };
 
@@ -238,7 +238,7 @@ pub enum RegExpError {
     OutOfMemory,
 }
 
-/// Prints the text of the [`Error`] of the same name; for `Pattern`, that of [`Error::RegExp`].
+/// Prints `regexp error` for `Pattern` and `out of memory` for `OutOfMemory`, as [`Error`] does.
 impl fmt::Display for RegExpError {
     ghost output = { λ error. error_text (regexp_error_view error) };
 

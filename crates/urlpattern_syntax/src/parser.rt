@@ -47,14 +47,15 @@ pub enum RegexSyntax {
 /// <https://urlpattern.spec.whatwg.org/#options-header>
 #[derive(Debug, Clone, Drop)]
 pub struct Options {
-    /// The character that ends a segment, which a name alone matches. Without a delimiter a name
-    /// matches any non-empty text.
+    /// The character that ends a segment. A name without a regular expression matches one segment,
+    /// or, without a delimiter, any non-empty text.
     pub delimiter_code_point: Option<char>,
-    /// The character that becomes the prefix of a group directly after it, or an empty text.
+    /// The character that becomes the prefix of a name, a regular expression or an asterisk
+    /// directly after it. Empty: no character does.
     pub prefix_code_point: String,
     /// The syntax of the generated regular expression.
     pub regex_syntax: RegexSyntax,
-    /// Whether case is ignored.
+    /// Whether texts are matched without regard to the case of letters.
     pub ignore_case: bool,
 }
 
@@ -63,17 +64,17 @@ pub struct Options {
 /// <https://urlpattern.spec.whatwg.org/#part-type>
 #[derive(Debug, PartialEq, Eq, Drop)]
 pub enum PartType {
-    /// The part's value.
+    /// The literal text `value` of the part.
     FixedText,
-    /// What a custom regular expression matches.
+    /// What the custom regular expression `value` matches.
     Regexp,
     /// A non-empty text without the delimiter.
     SegmentWildcard,
-    /// Any text.
+    /// Any text, written `.*` in the regular expression.
     FullWildcard,
 }
 
-/// How often a part may occur.
+/// How often a part may occur in a row.
 ///
 /// <https://urlpattern.spec.whatwg.org/#part-modifier>
 #[derive(Debug, Clone, Copy, PartialEq, Eq)]
@@ -89,7 +90,7 @@ pub enum PartModifier {
 }
 
 impl PartModifier {
-    /// Returns the modifier as patterns and regular expressions spell it.
+    /// Returns the sign of the modifier in patterns and regular expressions, empty for `None`.
     #[tactic(auto, using(crate::proofs::TextLemmas::modifier_chars))]
     pub fn as_str(&self) -> &'static str
         ensures bytes { result.now ≡ modifier_text self.now }
@@ -104,7 +105,7 @@ impl PartModifier {
     }
 }
 
-/// Writes the modifier as a pattern spells it.
+/// Writes the sign of the modifier in patterns, nothing for `None`.
 ///
 /// <https://urlpattern.spec.whatwg.org/#convert-a-modifier-to-a-string>
 impl fmt::Display for PartModifier {
@@ -132,11 +133,11 @@ impl fmt::Display for PartModifier {
 pub struct Part {
     /// What the part matches.
     pub kind: PartType,
-    /// The literal of a fixed text, the body of a custom regular expression, otherwise empty.
+    /// The literal text of a fixed text, the text of a custom regular expression, otherwise empty.
     pub value: String,
     /// How often the part may occur.
     pub modifier: PartModifier,
-    /// The name of the group, empty for a fixed text.
+    /// The name of the group, a number if the pattern text gives none; empty for a fixed text.
     pub name: String,
     /// The text before each occurrence, empty for a fixed text.
     pub prefix: String,
@@ -145,7 +146,7 @@ pub struct Part {
 }
 
 impl Part {
-    /// Returns a fixed text. Does not allocate.
+    /// Returns a part that matches the literal text `value`. Does not allocate.
     pub fn fixed(alloc: Global, value: String, modifier: PartModifier) -> Self
         ensures { part_view result ≡ fixed_text (text_of value) modifier }
     {

@@ -34,7 +34,7 @@ impl Canonicalizer {
         })
     }
 
-    /// Returns the URL on which a value is set.
+    /// Returns a URL on which a value can be set: a copy of the kept one, or `DUMMY_URL`, parsed.
     pub(super) fn dummy(&self) -> Result<Url, Error>
         ensures ok { IfOk result (λ url. dummy_url ≡ Ok url) }
         ensures memory { OnlyOutOfMemory result }
@@ -45,7 +45,8 @@ impl Canonicalizer {
         }
     }
 
-    /// Returns the URL on which values are set, with this path.
+    /// Returns a URL on which `path` was set. The value that `path` was made of has `bytes` bytes,
+    /// by which an overflow is reported.
     pub(super) fn dummy_with_path(&self, path: &str, bytes: usize) -> Result<Url, Error>
         ensures { MatchResult result (λ url. path_of dummy_url path.now ≡ Ok url.path)
             (MemoryOr (Reports (path_of dummy_url path.now) bytes)) }
@@ -56,7 +57,7 @@ impl Canonicalizer {
     }
 }
 
-/// Parses the URL on which opaque paths are set.
+/// Parses `OPAQUE_URL`, on which opaque paths are set.
 pub(super) fn parse_opaque(alloc: Global) -> Result<Url, Error>
     ensures ok { IfOk result (λ url. opaque_url ≡ Ok url) }
     ensures memory { OnlyOutOfMemory result }
@@ -64,7 +65,7 @@ pub(super) fn parse_opaque(alloc: Global) -> Result<Url, Error>
     parse(alloc, OPAQUE_URL, 0)
 }
 
-/// Parses the URL on which a value is set to make it canonical.
+/// Parses `DUMMY_URL`, on which a value is set to make it canonical.
 fn parse_dummy(alloc: Global) -> Result<Url, Error>
     ensures ok { IfOk result (λ url. dummy_url ≡ Ok url) }
     ensures memory { OnlyOutOfMemory result }
@@ -72,7 +73,7 @@ fn parse_dummy(alloc: Global) -> Result<Url, Error>
     parse(alloc, DUMMY_URL, 0)
 }
 
-/// Parses a URL of the scheme, for a value of at most `bytes` bytes.
+/// Parses the URL `{scheme}://dummy.test`, on which a value of at most `bytes` bytes is set.
 pub(super) fn parse_under(alloc: Global, scheme: &str, bytes: usize) -> Result<Url, Error>
     ensures ok { IfOk result (λ url. dummy_of_scheme scheme.now ≡ Ok url) }
     ensures err { IfErr result (MemoryOr (Reports (dummy_of_scheme scheme.now) bytes)) }
@@ -81,7 +82,8 @@ pub(super) fn parse_under(alloc: Global, scheme: &str, bytes: usize) -> Result<U
     parse(alloc, &text, bytes)
 }
 
-/// Parses a URL, for a value of at most `bytes` bytes.
+/// Parses the text of a URL on which a value is set. An overflow is reported by `bytes`, the length
+/// of the value.
 fn parse(alloc: Global, text: &str, bytes: usize) -> Result<Url, Error>
     ensures ok { IfOk result (λ url. parse_url None text.now ≡ Ok url) }
     ensures err { IfErr result (MemoryOr (Reports (parse_url None text.now) bytes)) }

@@ -1,4 +1,4 @@
-//! The standard's options, and the regular expression texts that depend on options.
+//! The standard's sets of options, and the texts of regular expressions that depend on options.
 ghost use Rattle.std.specs.Prelude.{◌≡◌, IfOk};
 ghost use Rattle.std.specs.Str.{chars};
 ghost use Rattle.urlpattern_syntax.specs.{Errors.OnlyOutOfMemory, Text.text_of};
@@ -26,7 +26,8 @@ impl Options {
         }
     }
 
-    /// Returns the options of a hostname, whose segments end at a dot.
+    /// Returns the options of a hostname: a dot is the delimiter, and there is no prefix code
+    /// point.
     ///
     /// <https://urlpattern.spec.whatwg.org/#hostname-options>
     pub fn hostname(alloc: Global) -> Self
@@ -38,7 +39,7 @@ impl Options {
         }
     }
 
-    /// Returns the options of a pathname, whose segments begin and end at a slash.
+    /// Returns the options of a pathname: a slash is the delimiter and the prefix code point.
     ///
     /// <https://urlpattern.spec.whatwg.org/#pathname-options>
     pub fn pathname(alloc: Global) -> Result<Self, Error>
@@ -53,7 +54,8 @@ impl Options {
         })
     }
 
-    /// Escapes a text for a regular expression, with a backslash before each special character.
+    /// Returns the text with a backslash before each character that is special in a regular
+    /// expression of this syntax.
     ///
     /// <https://urlpattern.spec.whatwg.org/#escape-a-regexp-string>
     pub fn escape_regexp_string(&self, alloc: Global, input: &str) -> Result<String, Error>
@@ -64,8 +66,8 @@ impl Options {
         Ok(written(alloc, &Escaped::regexp(input, self))?)
     }
 
-    /// Returns the regular expression of a segment: one or more characters other than the
-    /// delimiter.
+    /// Returns the regular expression of a segment wildcard: one or more characters other than the
+    /// delimiter, or `.+?` without a delimiter.
     ///
     /// <https://urlpattern.spec.whatwg.org/#generate-a-segment-wildcard-regexp>
     pub fn generate_segment_wildcard_regexp(&self, alloc: Global) -> Result<String, Error>
