@@ -14,7 +14,9 @@ use urlpattern_syntax::text::before;
 
 impl<'t> Attempt<'_, 't> {
     /// Whether a repeated literal and the steps after it match the whole text. The greatest number
-    /// of copies is tried first. On a match the captures are added.
+    /// of copies is tried first. On a match the captures are added, otherwise none.
+    ///
+    /// `steps` begin with the literal steps that have the other characters of the literal.
     #[cycle(following)]
     pub(super) fn match_copies(
         &mut self,
@@ -39,9 +41,10 @@ impl<'t> Attempt<'_, 't> {
         }
     }
 
-    /// Whether any number of copies of a literal and the other steps match the whole text. The
-    /// greatest number is tried first. On a match the captures are added. The literal is `first`
-    /// and the characters of the literal steps.
+    /// Whether any number of copies of a literal, followed by `others`, match the whole text. The
+    /// greatest number is tried first. On a match the captures are added, otherwise none.
+    ///
+    /// The literal is `first`, then the character of each step in `literal`.
     #[cycle(following)]
     fn match_any_copies(
         &mut self,
