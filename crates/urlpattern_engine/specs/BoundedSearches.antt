@@ -11,7 +11,7 @@ use Rattle.urlpattern_engine.specs.declared.bounded_search.StateMove.TheVariants
 use Rattle.urlpattern_engine.specs.declared.ahead.ByteBounds.{ByteBounds}
 use Rattle.urlpattern_engine.specs.declared.bounded_search.BoundedSearch.{BoundedSearch}
 
--- The number is that of a state of the automaton that is searched.
+-- The automaton that is searched has a state with this number.
 abbrev pub IsState : BoundedSearch → ℕ → Type 0
 IsState trial id = id < vec_len trial.nfa.now.states
 
@@ -40,8 +40,8 @@ next_in trial state at =
 abbrev pub run_in : BoundedSearch → (id at : ℕ) → Option Trace
 run_in trial id at = run trial.nfa.now trial.bytes.now (length trial.bytes.now) id at
 
--- The preferred match from state `id` at position `at`, with its cells, where `cells` are those
--- before. None: no match.
+-- The preferred match from state `id` at position `at`, with its cells: `cells`, as the match
+-- overwrites them. None: no match.
 abbrev pub found_from : BoundedSearch → (cells : List ℕ) → (id at : ℕ) → Option Found
 found_from trial cells id at = found_from_trace 0 cells (run_in trial id at)
 
@@ -49,8 +49,7 @@ found_from trial cells id at = found_from_trace 0 cells (run_in trial id at)
 abbrev pub IsFoundEnd : Option Found → (cells : List ℕ) → (end : Option ℕ) → Type 0
 IsFoundEnd found cells end = found_from_span (option_map (λ e. (0, e)) end) cells ≡ found
 
--- A search from the state `next` at position `place`, where `cells` are those before, finds
--- `found`.
+-- A search from the state `next` at position `place`, with these cells at first, finds `found`.
 pub record GoesOn (trial : BoundedSearch) (found : Option Found) (cells : List ℕ) (next place : ℕ) :
     Type 0 where
   pub is_state : IsState trial next
@@ -58,7 +57,7 @@ pub record GoesOn (trial : BoundedSearch) (found : Option Found) (cells : List �
   pub same : found_from trial cells next place ≡ found
 
 -- A search from the state `first` at position `place`, or from `second` if `first` has no match,
--- finds `found`.
+-- with these cells at first, finds `found`.
 pub record Chooses (trial : BoundedSearch) (found : Option Found) (cells : List ℕ)
     (first second place : ℕ) : Type 0 where
   pub is_first : IsState trial first
@@ -68,7 +67,7 @@ pub record Chooses (trial : BoundedSearch) (found : Option Found) (cells : List 
       (option_or (run_in trial first place) (run_in trial second place))
       ≡ found
 
--- A search that makes this move, with these cells, finds `found`.
+-- A search that makes this move, with these cells after it, finds `found`.
 abbrev pub FollowsMove : BoundedSearch → Option Found → (cells : List ℕ) → StateMove → Type 0
 FollowsMove trial found cells (Continue next place) = GoesOn trial found cells next place
 FollowsMove trial found cells (ContinueByRest next place) = GoesOn trial found cells next place

@@ -22,7 +22,7 @@ pub record IsEcmaRegexpOf (regexp flags : List ℕ) (ecma : EcmaRegexp) : Type 0
 abbrev pub ecma_regexp_result : EcmaRegexp → List ℕ → Option Captures
 ecma_regexp_result ecma text = option_and_then (λ regex. regex_result regex text) ecma.2
 
--- What the contracts of the trait `RegExp` name for `EcmaRegexp`, which may reject a text only with
+-- The ghosts of the trait `RegExp` for `EcmaRegexp`: the engine may reject a text only with
 -- `force_eval`.
 abbrev pub ecma_engine : Engine EcmaRegexp
 ecma_engine = record {

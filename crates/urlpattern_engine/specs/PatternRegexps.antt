@@ -64,8 +64,8 @@ pub record IsPatternRegexpOf (regexp flags : List ℕ) (value : PatternRegexp) :
   pub by_flags : value.ignore_case ≡ ignores_case flags
   pub of_text : IsExpressionOf value.ignore_case regexp value.strategy
 
--- What the contracts of the trait `RegExp` name for `PatternRegexp`, which ignores case if the
--- flags have an `i`, and rejects no generated expression, and others only for a fault.
+-- The ghosts of the trait `RegExp` for `PatternRegexp`: the engine ignores case if the flags have
+-- an `i`, and rejects no generated expression, and others only for a fault.
 abbrev pub pattern_engine : Engine PatternRegexp
 pattern_engine = record {
   syntax_of = Rust;

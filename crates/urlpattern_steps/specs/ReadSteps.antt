@@ -72,8 +72,8 @@ AllowsEmptyRun is_greedy ZeroOrMore may_be_empty = may_be_empty ≡ true
 AllowsEmptyRun is_greedy OneOrMore may_be_empty = may_be_empty ≡ is_greedy
 AllowsEmptyRun is_greedy quantifier may_be_empty = ⊥
 
--- The step expresses the atom, which is a literal character, a captured run or a captured repeat of
--- a run.
+-- The step is the one for this atom: a literal character, a captured run or a captured repeat of a
+-- run.
 abbrev pub IsStepOf : Step → Atom → Type 0
 IsStepOf (Literal c) atom =
     (character : Character) × (character_of character ≡ c) × (atom ≡ dialect.Literal character)
@@ -89,7 +89,7 @@ IsStepOf (GreedyRun run) atom =
 IsStepOf (RepeatedLiteral copies) atom = ⊥
 IsStepOf (Segments segments) atom = ⊥
 
--- The text is the spelling of an atom that the step expresses.
+-- The text is the spelling of an atom that has this step.
 abbrev pub SpellsStep : Step → List ℕ → Type 0
 SpellsStep step text = (atom : Atom) × IsAtom atom × IsStepOf step atom × (text ≡ atom_text atom)
 
@@ -192,8 +192,8 @@ MakeUp steps text =
     × AreLiterals others
     × (text.others ≡ length others)
 
--- The steps `own` spell a literal, and the steps `group` match copies of it: any number if
--- `allows_zero`, otherwise one or more.
+-- The steps `own` spell a literal, and the steps `group` are for a greedy repeat of that literal:
+-- any number of copies if `allows_zero`, otherwise one or more.
 abbrev pub AreCopySteps : (allows_zero : Bool) → (own group : List Step) → Type 0
 AreCopySteps allows_zero own group =
     (c : ℕ) × (others : List Step) × (own ≡ Literal c ∷ others) × AreLiterals others

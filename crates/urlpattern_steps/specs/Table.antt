@@ -20,13 +20,13 @@ literal_string_of (RepeatedLiteral copies) = Some copies.text
 literal_string_of (Segments segments) = Some segments.separator
 literal_string_of step = None
 
--- The number of following steps that have the other characters of a literal.
+-- The number of following steps that have the characters of a literal after the first.
 abbrev pub own_count : Option LiteralString → ℕ
 own_count (Some literal_string) = literal_string.others
 own_count None = 0
 
--- The steps in `others`, which come after a step, without those that have the other characters of
--- its literal.
+-- The steps in `others`, which come after a step, without those that have the characters of its
+-- literal after the first.
 abbrev pub following : Step → List Step → List Step
 following step others = drop (own_count (literal_string_of step)) others
 

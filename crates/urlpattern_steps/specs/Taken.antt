@@ -15,7 +15,7 @@ use Rattle.urlpattern_steps.specs.Walk.{Continuation, captured_prefix, literal_t
 use Rattle.urlpattern_syntax.specs.Text.{option_text}
 
 -- The number is the length in bytes of a prefix of the text for which the continuation returns
--- `found`. None: `found` is None.
+-- `found`, which is Some. None: `found` is None.
 abbrev pub IsCutFor : Continuation → (text : List ℕ) → Option ℕ → (found : Option Captures) → Type 0
 IsCutFor gives text None found = found ≡ None
 IsCutFor gives text (Some n) found =
@@ -54,7 +54,8 @@ IsEndHere (Some n) here found end = end ≡ Some n
 IsEndHere None here found None = found ≡ None
 IsEndHere None here found (Some n) = (n ≡ here) × ¬ (found ≡ None)
 
--- A list of captures that borrow from the text. None: the group does not match.
+-- A list of captures that borrow from the text. A capture is None if its optional group does not
+-- match.
 abbrev pub Kept : Type 0
 Kept = List (Option (Bor (List ℕ)))
 
@@ -110,25 +111,26 @@ pub record MatchesInTurn (old new : Attempt) (is_taken : Bool) (found : Option C
     pub more : is_taken ≡ false → Extends old.captures.items new.captures.items
     pub whole : new.failed ≡ old.failed
 
--- The captures `old` with those of `steps` in `text` are the captures `new` with those of the steps
--- `left` in `rest`, or neither match.
+-- `old` followed by the captures of `steps` in `text` is `new` followed by the captures of the
+-- steps `left` in `rest`; or neither list of steps matches.
 abbrev pub LeavesWalk : (ignore_case : Bool) (old new : KeptVec) → (steps : List Step)
     → (text : List ℕ) → (left : List Step) → (rest : List ℕ) → Type 0
 LeavesWalk ignore_case old new steps text left rest =
     with_captures old.items (walk ignore_case steps (chars text))
     ≡ with_captures new.items (walk ignore_case left (chars rest))
 
--- If `left` is the rest of the text, the captures `old` with those of the step and the others in
--- the text are the captures `new` with those of the steps after the step and its literal in the
--- rest.
+-- If `left` is a rest of `text`, `old` followed by the captures of the step and the others in
+-- `text` is `new` followed by the captures of the steps after the step and its literal in that
+-- rest; or neither list of steps matches.
 abbrev pub LeavesFollowing : (ignore_case : Bool) (old new : KeptVec) → Step
     → (others : List Step) → (text : List ℕ) → (left : Option (Bor (List ℕ))) → Type 0
 LeavesFollowing ignore_case old new step others text left =
     IfSome left (λ rest.
     LeavesWalk ignore_case old new (step ∷ others) text (following step others) rest.now)
 
--- If the rows have the row of the others, the captures `old` with those of the optional group and
--- the others are the captures `new` with those of the steps `left`, all in `text`.
+-- If the rows have the row of the others, `old` followed by the captures of the optional group and
+-- the others is `new` followed by the captures of the steps `left`, all in `text`; or neither list
+-- of steps matches.
 abbrev pub LeavesChosen : (rows : List (Vec Bool Global)) (old new : KeptVec) → Group
     → (others : List Step) → (text : List ℕ) → (left : List Step) → Type 0
 LeavesChosen rows old new group others text left =

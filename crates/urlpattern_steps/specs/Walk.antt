@@ -94,22 +94,24 @@ after_text ignore_case (c ∷ characters) gives front (other ∷ text) =
     if is_same_character ignore_case other c
     then after_text ignore_case characters gives (front ++ other ∷ []) text else None
 
--- A greedy repeat of at most `n` rounds: the result of a further round, or else of `gives`.
+-- A greedy repeat of at most `n` rounds, each matched by `round`: the result of a further round, or
+-- else of `gives`, which comes after the last.
 abbrev pub rounds : (round : Continuation → Continuation) → (n : ℕ) → Continuation → Continuation
 rounds round zero gives front text = gives front text
 rounds round (suc n) gives front text =
     option_or (round (rounds round n gives) front text) (gives front text)
 
--- A greedy repeat of any number of rounds, at most one for each character, since each round matches
--- one or more.
+-- A greedy repeat of any number of rounds, each matched by `round`: at most one for each character,
+-- since a round matches one or more.
 abbrev pub any_rounds : (round : Continuation → Continuation) → Continuation → Continuation
 any_rounds round gives front text = rounds round (length text) gives front text
 
--- A greedy repeat of one or more rounds.
+-- A greedy repeat of one or more rounds, each matched by `round`.
 abbrev pub some_rounds : (round : Continuation → Continuation) → Continuation → Continuation
 some_rounds round gives front text = round (any_rounds round gives) front text
 
--- A greedy repeat of any number of rounds if `allows_zero`, otherwise of one or more.
+-- A greedy repeat of any number of rounds, each matched by `round`, if `allows_zero`, otherwise of
+-- one or more.
 abbrev pub repeated : (allows_zero : Bool) → (round : Continuation → Continuation) → Continuation
     → Continuation
 repeated allows_zero round = if allows_zero then any_rounds round else some_rounds round
@@ -171,7 +173,7 @@ IsEntryForRest ignore_case characters text table entry =
     (rest : List ℕ) → BeginsAs ignore_case characters text rest → length table ≡ length text
     → entry ≡ get_or table (length rest) None
 
--- The text of a literal, whose other characters are in the first of the steps.
+-- The text of a literal whose characters after the first are in the first of the steps.
 abbrev pub literal_string_text : LiteralString → List Step → List ℕ
 literal_string_text literal_string steps =
     literal_text literal_string.first (take literal_string.others steps)

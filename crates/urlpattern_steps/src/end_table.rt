@@ -47,7 +47,8 @@ fn row_of_none(alloc: Global, text: &str) -> Result<Vec<bool>, OutOfMemory>
     Ok(row)
 }
 
-/// Returns the row of `step` followed by `others`. `rows` has the row of each suffix of `others`.
+/// Returns for each suffix of `text`, from the shortest, whether `step` followed by `others`
+/// matches the suffix. `rows` has a row of that kind for each suffix of `others`.
 fn row_of(
     alloc: Global,
     step: Step,
@@ -68,7 +69,8 @@ fn row_of(
     Ok(matched_prefix(alloc, step, others, ignore_case, after, text)?.row)
 }
 
-/// Returns the row of the suffixes that `one` or `other` says are matched, as long as `one`.
+/// Returns the row of two alternatives: whether a suffix is matched by `one` or by `other`. As long
+/// as `one`.
 fn either(alloc: Global, one: &[bool], other: &[bool]) -> Result<Vec<bool>, OutOfMemory>
     ensures len { IfOk result (λ row. length row.items ≡ length one.now) }
     ensures bits { IfOk result (λ row.
@@ -81,14 +83,15 @@ fn either(alloc: Global, one: &[bool], other: &[bool]) -> Result<Vec<bool>, OutO
     Ok(row)
 }
 
-/// Whether `one` or `other` says that the suffix of `count` characters is matched.
+/// Whether the row `one` or the row `other` says that the suffix of `count` characters is matched.
 fn is_in_either(one: &[bool], other: &[bool], count: usize) -> bool
     ensures { result ≡ has one.now count || has other.now count }
 {
     has(one, count) || has(other, count)
 }
 
-/// Returns the row of the steps, found by their number. Empty if there is no row for that number.
+/// Returns the row of the steps, which says what suffixes of the text they match, by the number of
+/// the steps. Empty if there is no row for that number.
 pub fn row_for<'r>(rows: &'r [Vec<bool>], steps: &[Step]) -> &'r [bool]
     ensures { result.now ≡ row_at rows.now (length steps.now) }
 {

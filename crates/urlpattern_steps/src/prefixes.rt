@@ -83,7 +83,7 @@ fn literal_string_of(step: Step) -> Option<LiteralString>
     }
 }
 
-/// The number of steps after `step` that have the other characters of its literal.
+/// The number of steps after `step` that have the characters of its literal after the first.
 fn own_count(step: Step) -> usize
     ensures { result ≡ own_count (literal_string_of step) }
 {
@@ -93,15 +93,16 @@ fn own_count(step: Step) -> usize
     }
 }
 
-/// The steps in `others`, which come after `step`, that have the other characters of its literal.
+/// The steps in `others`, which come after `step`, that have the characters of its literal after
+/// the first.
 fn own_steps(step: Step, others: &[Step]) -> &[Step]
     ensures { result.now ≡ take (own_count (literal_string_of step)) others.now }
 {
     first_steps(others, own_count(step))
 }
 
-/// The steps in `others`, which come after `step`, without those that have the other characters of
-/// its literal.
+/// The steps in `others`, which come after `step`, without those that have the characters of its
+/// literal after the first.
 pub fn following(step: Step, others: &[Step]) -> &[Step]
     ensures { result.now ≡ following step others.now }
 {
@@ -154,15 +155,16 @@ fn entry_after(
     }
 }
 
-/// Returns `here`, if `row` says that the suffix of `rest` characters is matched. Otherwise `None`.
+/// Returns `here`, an end in bytes, if the row says that the suffix of `rest` characters is
+/// matched. Otherwise `None`.
 fn end_here(row: &[bool], rest: usize, here: usize) -> Option<usize>
     ensures { result ≡ (if has row.now rest then Some here else None) }
 {
     if has(row, rest) { Some(here) } else { None }
 }
 
-/// Whether `row` says that the suffix of `count` characters is matched. `false` if `row` is
-/// shorter.
+/// Whether the row says that the suffix of `count` characters is matched. `false` if the row is too
+/// short.
 pub fn has(row: &[bool], count: usize) -> bool
     ensures { result ≡ has row.now count }
 {
@@ -172,8 +174,8 @@ pub fn has(row: &[bool], count: usize) -> bool
     }
 }
 
-/// Where the prefix that a step matches ends, in bytes, seen from one place in the text, by how
-/// much of the step is matched before the place.
+/// Where the prefix that a step matches ends, in bytes, seen from one place in the text, for each
+/// state in which the step may be at the place.
 #[derive(Clone, Copy)]
 struct Ends {
     /// The end, if a literal of the step ends at the place.
@@ -185,8 +187,8 @@ struct Ends {
 }
 
 /// Chooses the ends, seen from one place in the text. `next` is the end if the literal of the step
-/// follows, `here` the place itself if the steps after the step match the rest, and `onward` the
-/// end if a run consumes the next character.
+/// follows, `here` the place itself if the steps after `step` match the rest, and `onward` the end
+/// if a run consumes the next character.
 fn ends_of(step: Step, next: Option<usize>, here: Option<usize>, onward: Option<usize>) -> Ends
     ensures begun { result.begun ≡ begun_of step next here onward }
     ensures later { result.later ≡ later_of step next here onward }

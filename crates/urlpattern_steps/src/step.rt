@@ -34,7 +34,7 @@ pub struct Group {
 pub struct LiteralString {
     /// The first character.
     pub first: char,
-    /// The number of literal steps with the other characters, one for each.
+    /// The number of literal steps with the characters after the first, one for each.
     pub others: usize,
 }
 

@@ -11,7 +11,8 @@ use crate::step::{Run, Step};
 use crate::text_cuts::after;
 use urlpattern_syntax::text::split_first;
 
-/// A token of an expression: a part that makes one step, or that opens or closes a group.
+/// A token of an expression: a piece of its text that makes one step, or that opens or closes a
+/// group.
 #[derive(Clone, Copy)]
 pub enum StepToken {
     /// `(?:`
@@ -74,8 +75,8 @@ fn read_group_quantifier(text: &str) -> (GroupQuantifier, &str)
     }
 }
 
-/// Returns the token that begins with `(`, and the rest. `text` is what follows the `(`. `None`: no
-/// token begins so.
+/// Returns the token that begins with `(`, and the rest. `text` is what follows the `(`. `None`:
+/// the text from the `(` on begins with no token.
 fn read_bracket(text: &str) -> Option<(StepToken, &str)>
     ensures token { IfSome result (λ read.
         BeginsWithRegexpToken (codes "(" ++ chars text.now) read.0 (chars read.1.now)) }

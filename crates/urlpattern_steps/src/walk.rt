@@ -59,7 +59,8 @@ pub fn walk<'t>(
 }
 
 impl<'t> Attempt<'_, 't> {
-    /// Whether the steps match the whole text. On a match their captures are added, otherwise none.
+    /// Whether the steps match the whole text. On a match their captures are added to
+    /// `self.captures`, otherwise none.
     #[cycle(following)]
     fn match_rest(&mut self, ignore_case: bool, steps: &[Step], text: &'t str) -> Taken
         requires { IsStateOf ignore_case self.old.failed steps.now (chars text.now) }
@@ -74,8 +75,8 @@ impl<'t> Attempt<'_, 't> {
         Ok(false)
     }
 
-    /// Whether the steps match the whole text. On a match their captures are added, otherwise
-    /// perhaps some of them.
+    /// Whether the steps match the whole text. On a match their captures are added to
+    /// `self.captures`, otherwise perhaps some of them.
     ///
     /// The steps up to the first with a choice are matched in a loop, without a call for each.
     #[cycle(following)]
@@ -124,7 +125,7 @@ impl<'t> Attempt<'_, 't> {
     }
 
     /// Whether `steps`, which are `step` and `others`, match the whole text. On a match their
-    /// captures are added, otherwise perhaps some of them.
+    /// captures are added to `self.captures`, otherwise perhaps some of them.
     ///
     /// A state that is memoized as failed is not tried again; a state that fails is memoized.
     #[cycle(following)]
@@ -152,7 +153,7 @@ impl<'t> Attempt<'_, 't> {
     }
 
     /// Whether `steps`, which are `step` and `others`, match the whole text. On a match their
-    /// captures are added, otherwise perhaps some of them.
+    /// captures are added to `self.captures`, otherwise perhaps some of them.
     ///
     /// The ways in which `step` can match a prefix are tried in order of preference.
     #[cycle(following)]
@@ -188,9 +189,9 @@ impl<'t> Attempt<'_, 't> {
         }
     }
 
-    /// Whether `others`, which begin with the steps of an optional group, match the whole text, or
-    /// else the steps after the group do. Without the group its captures are `None`. On a match the
-    /// captures are added, otherwise perhaps some of them.
+    /// Whether `others`, which begins with the steps of an optional group, matches the whole text,
+    /// or else the steps after the group do, with `None` for each capture of the group. On a match
+    /// the captures are added to `self.captures`, otherwise perhaps some of them.
     #[cycle(following)]
     fn match_optional_group(
         &mut self,
@@ -212,7 +213,7 @@ impl<'t> Attempt<'_, 't> {
     }
 
     /// Whether the steps match the whole of `rest`, which follows the captured prefix `front`. On a
-    /// match `front` and the captures of the steps are added, otherwise none.
+    /// match `front` and the captures of the steps are added to `self.captures`, otherwise nothing.
     #[cycle(following)]
     fn match_after_capture(
         &mut self,

@@ -14,9 +14,11 @@ use urlpattern_syntax::text::before;
 
 impl<'t> Attempt<'_, 't> {
     /// Whether a repeated literal and the steps after it match the whole text. The greatest number
-    /// of copies is tried first. On a match the captures are added, otherwise none.
+    /// of copies is tried first. On a match the captures are added to `self.captures`, otherwise
+    /// none.
     ///
-    /// `steps` begin with the literal steps that have the other characters of the literal.
+    /// `steps` begins with the literal steps that have the characters of the literal after the
+    /// first.
     #[cycle(following)]
     pub(super) fn match_copies(
         &mut self,
@@ -41,8 +43,9 @@ impl<'t> Attempt<'_, 't> {
         }
     }
 
-    /// Whether any number of copies of a literal, followed by `others`, match the whole text. The
-    /// greatest number is tried first. On a match the captures are added, otherwise none.
+    /// Whether any number of copies of a literal, followed by `others`, matches the whole text. The
+    /// greatest number is tried first. On a match the captures are added to `self.captures`,
+    /// otherwise none.
     ///
     /// The literal is `first`, then the character of each step in `literal`.
     #[cycle(following)]

@@ -13,9 +13,9 @@ use crate::walk::{Attempt, Taken};
 use urlpattern_syntax::text::before;
 
 impl<'t> Attempt<'_, 't> {
-    /// Whether `steps`, which are a lazy run without `end` and `others`, match the whole text. The
-    /// shortest run is tried first. On a match the run and the captures of `others` are added,
-    /// otherwise none.
+    /// Whether `steps`, a lazy run without `end` followed by `others`, matches the whole text. The
+    /// shortest run is tried first. On a match the run and the captures of `others` are added to
+    /// `self.captures`, otherwise nothing.
     #[cycle(following)]
     pub(super) fn match_shortest_run(
         &mut self,
@@ -41,8 +41,9 @@ impl<'t> Attempt<'_, 't> {
         Ok(false)
     }
 
-    /// Whether `steps`, which are a `DotStar` and `others`, match the whole text. The longest run
-    /// is tried first. On a match the run and the captures of `others` are added, otherwise none.
+    /// Whether `steps`, a `DotStar` followed by `others`, matches the whole text. The longest run
+    /// is tried first. On a match the run and the captures of `others` are added to
+    /// `self.captures`, otherwise nothing.
     #[cycle(following)]
     pub(super) fn match_longest_run(
         &mut self,
@@ -71,7 +72,8 @@ impl<'t> Attempt<'_, 't> {
     }
 
     /// Whether `run`, followed by `steps`, matches the whole text. The longest run is tried first.
-    /// On a match the run and the captures of the steps are added, otherwise none.
+    /// On a match the run and the captures of the steps are added to `self.captures`, otherwise
+    /// nothing.
     #[cycle(following)]
     pub(super) fn match_greedy_run(
         &mut self,

@@ -15,10 +15,11 @@ use urlpattern_syntax::error::OutOfMemory;
 
 impl<'t> Attempt<'_, 't> {
     /// Whether runs joined by a separator, and the steps after them, match the whole text. On a
-    /// match one capture for all of the preferred runs and the captures of the steps are added,
-    /// otherwise none.
+    /// match the preferred runs, as one capture, and the captures of the steps are added to
+    /// `self.captures`, otherwise nothing.
     ///
-    /// `steps` begin with the literal steps that have the other characters of the separator.
+    /// `steps` begins with the literal steps that have the characters of the separator after the
+    /// first.
     #[cycle(following)]
     pub(super) fn match_segments(
         &mut self,
@@ -43,7 +44,7 @@ impl<'t> Attempt<'_, 't> {
     }
 
     /// Returns the length in bytes of the preferred separated runs at the start of `text` after
-    /// which `others` match the rest. `None`: no match. No capture is added.
+    /// which `others` matches the rest. `None`: no match. No capture is added.
     ///
     /// The separator is its first character, then the character of each step in `literal`. The ends
     /// are found from the end of the text to its start.
