@@ -18,8 +18,8 @@ Allowed texts text = IsTextWithout texts.mark texts.may_be_empty text
 abbrev pub AreSomeWith : (Is : List ℕ → Type 0) → (between text : List ℕ) → Type 0
 AreSomeWith Is between text = (n : ℕ) × AreTextsWith Is between n text
 
--- `text` is split at the first occurrence of the character `mark` into `front` and `behind`, all
--- three as bytes.
+-- `text` is split at the first occurrence of the character `mark`: `front` is before it, `behind`
+-- after it. All three are bytes.
 pub record IsCutAtFirst (mark : ℕ) (text front behind : List ℕ) : Type 0 where
   pub cut : chars text ≡ chars front ++ mark ∷ chars behind
   pub is_first : IsTrue (lacks mark (chars front))

@@ -15,23 +15,23 @@ use Rattle.urlpattern_syntax.specs.Parts.{PartView}
 
 -- ---- what a matcher finds
 
--- The matcher finds in the text the captures that are requested of the groups of the parts.
+-- The matcher finds in the text the requested captures of the parts' groups: the canonical form of
+-- a group's value, or for a group without a value its `default_capture`.
 abbrev pub FindsRequested : {E : Type 0} → (answer : E → List ℕ → Option Captures) → MatcherView E
     → WriteSettings → List PartView → (text : List ℕ) → Type 0
 FindsRequested answer matcher settings parts text =
     (captures : Captures) × AreRequested settings parts captures
     × Returns answer matcher text (Some captures)
 
--- The matcher finds in the text other captures than those requested of the groups of the parts, or
--- does not match the text.
+-- The matcher finds in the text other captures than those requested of the parts' groups, or does
+-- not match the text.
 abbrev pub FindsOther : {E : Type 0} → (answer : E → List ℕ → Option Captures) → MatcherView E
     → WriteSettings → List PartView → (text : List ℕ) → Type 0
 FindsOther answer matcher settings parts text =
     (found : Option Captures) × Returns answer matcher text found
     × ((captures : Captures) → AreRequested settings parts captures → found ≢ Some captures)
 
--- `is` is whether the matcher finds in the text the captures that are requested of the groups of
--- the parts.
+-- `is` is whether the matcher finds in the text the captures requested of the parts' groups.
 abbrev pub DecidesFound : {E : Type 0} → Bool
     → (answer : E → List ℕ → Option Captures) → MatcherView E → WriteSettings → List PartView
     → (text : List ℕ) → Type 0

@@ -42,8 +42,8 @@ MayCapture options part capture =
 
 -- ---- lists of captures: one for each group, in order
 
--- The captures of the parts that follow, after a part of this kind: a fixed text has no capture,
--- and a group has the first.
+-- The captures that remain for the parts after one of this kind: a group has the first, a fixed
+-- text none.
 abbrev pub captures_after : PartType → Captures → Captures
 captures_after PartType.FixedText captures = captures
 captures_after kind [] = []

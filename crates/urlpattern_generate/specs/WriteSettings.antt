@@ -68,7 +68,7 @@ canonical_for Pathname hierarchical is_ipv6 text =
 canonical_for Search hierarchical is_ipv6 text = canonical_search text
 canonical_for Hash hierarchical is_ipv6 text = canonical_hash text
 
--- The delimiter is a slash, as that of a path of segments.
+-- The delimiter is a slash, as in a path of segments.
 abbrev pub is_slash_delimiter : (delimiter : Option ℕ) → Bool
 is_slash_delimiter None = false
 is_slash_delimiter (Some c) = c == slash

@@ -17,8 +17,8 @@ use Rattle.urlpattern_syntax.specs.declared.parser.PartType.{PartType}
 use Rattle.urlpattern_syntax.specs.Parts.{PartView}
 use Rattle.urlpattern_syntax.specs.Text.{text_of}
 
--- The text is written from the parts with the captures that are requested of their groups, and the
--- groups may have these captures.
+-- The text is written from the parts with the requested captures, which their groups may have: the
+-- canonical form of a group's value, or for a group without a value its `default_capture`.
 pub record IsWritten (settings : WriteSettings) (parts : List PartView) (text : List ℕ) : Type 0
   where
     pub captures : Captures
@@ -54,7 +54,7 @@ RejectsPart component settings part (NotCaptured of name) =
 RejectsPart component settings part OutOfMemory = Unit {0}
 RejectsPart component settings part error = ⊥
 
--- The error is that memory ran out, or that of the first part that cannot be written.
+-- The error says why a part cannot be written, the first that cannot, or that memory ran out.
 abbrev pub CannotWrite : ComponentName → WriteSettings → List PartView → GenerateError → Type 0
 CannotWrite component settings parts error =
     (error ≡ OutOfMemory)

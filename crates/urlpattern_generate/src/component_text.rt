@@ -27,7 +27,7 @@ impl<'d> Substitution<'d> {
     /// value, or for a group without a value its `default_capture`. The text is borrowed if
     /// possible.
     ///
-    /// The error is that of the first part that cannot be written, or that memory ran out.
+    /// The error says why a part cannot be written, the first that cannot, or that memory ran out.
     #[inline(always)]
     pub(crate) fn text(&self) -> Result<CowStr<'d>, GenerateError>
         ensures written { IfOk result (λ text.
@@ -45,8 +45,8 @@ impl<'d> Substitution<'d> {
         }
     }
 
-    /// Returns the text of the component, if it can be borrowed: that of no parts or of a single
-    /// part. `None`: the text has to be built.
+    /// Returns the text of the component, if it can be borrowed: there are no parts, or a single
+    /// part that allows it. `None`: the text has to be built.
     #[inline(always)]
     fn borrowed_text(&self) -> Option<&'d str>
         ensures { IfSome result (λ text.
@@ -93,9 +93,10 @@ impl<'d> Substitution<'d> {
         }
     }
 
-    /// Builds the text of the parts with the requested captures.
+    /// Builds the text of the parts with the requested captures: the canonical form of a group's
+    /// value, or for a group without a value its `default_capture`.
     ///
-    /// The error is that of the first part that cannot be written, or that memory ran out.
+    /// The error says why a part cannot be written, the first that cannot, or that memory ran out.
     #[inline(never)]
     fn build_text(&self) -> Result<String, GenerateError>
         ensures written { IfOk result (λ text.
@@ -113,7 +114,8 @@ impl<'d> Substitution<'d> {
         Ok(text)
     }
 
-    /// Appends the text of a part with the requested capture, if the part is a group.
+    /// Appends the text of a part. A group is to capture the canonical form of its value, or
+    /// without a value its `default_capture`.
     ///
     /// The error says why the part cannot be written, or that memory ran out.
     #[inline(always)]

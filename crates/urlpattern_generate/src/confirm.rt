@@ -22,8 +22,8 @@ use urlpattern_syntax::parser::{Part, PartType};
 
 impl Substitution<'_> {
     /// Whether a matcher that was made of the parts finds in `text`, which was written from the
-    /// parts, the captures that are requested of the groups. A matcher that always finds what was
-    /// written is not run.
+    /// parts, the requested captures: the canonical form of a group's value, or for a group without
+    /// a value its `default_capture`. A matcher that always finds what was written is not run.
     #[inline(always)]
     pub(crate) fn confirms<R: RegExp>(
         &self,
@@ -46,8 +46,8 @@ impl Substitution<'_> {
         self.finds(matcher, text)
     }
 
-    /// Whether a matcher finds in a text the captures that are requested of the groups, by running
-    /// it.
+    /// Whether a matcher, when run, finds in a text the requested captures: the canonical form of a
+    /// group's value, or for a group without a value its `default_capture`.
     #[inline(never)]
     fn finds<R: RegExp>(&self, matcher: &Matcher<R>, text: &str) -> Result<bool, AllocError>
         ensures { IfOk result (λ is.
@@ -63,8 +63,8 @@ impl Substitution<'_> {
         }
     }
 
-    /// Whether the captures found are those that are requested of the groups of the parts, in
-    /// order.
+    /// Whether the captures `found` are the requested ones, for each group of the parts in order:
+    /// the canonical form of its value, or without a value its `default_capture`.
     fn are_requested(&self, found: &[Option<&str>]) -> Result<bool, AllocError>
         ensures { IfOk result (λ are.
             IsTrue are

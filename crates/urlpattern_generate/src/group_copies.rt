@@ -144,8 +144,8 @@ impl CopyTexts {
     }
 }
 
-/// Splits a text at the first occurrence of a character, which neither piece has. `None`: the text
-/// lacks the character.
+/// Returns the text before the first occurrence of a character, and the text after that occurrence.
+/// `None`: the text lacks the character.
 fn split_at_first(text: &str, mark: char) -> Option<(&str, &str)>
     ensures cut { IfSome result (λ cut. IsCutAtFirst mark text.now cut.0.now cut.1.now) }
     ensures none { IfNone result (IsTrue (lacks mark (chars text.now))) }

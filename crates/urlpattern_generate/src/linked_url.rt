@@ -68,7 +68,8 @@ fn read(alloc: Global, line: &str) -> Result<Url, NoLink>
 }
 
 /// Returns the component at fault, if the URL has another text for some component: the pathname, if
-/// it runs into the host, and otherwise the first. `None`: the URL has all of the texts.
+/// it differs and runs into the host, and otherwise the first that differs. `None`: the URL has all
+/// of the texts.
 fn other_text(url: &Url, texts: &Eight<&str>) -> Option<ComponentName>
     ensures same { IfNone result (texts_of_url url.now ≡ texts_seen texts.now) }
     ensures other { IfSome result (IsAtFault url.now (texts_seen texts.now)) }

@@ -86,7 +86,7 @@ impl Substitution<'_> {
         }
     }
 
-    /// Whether the delimiter of the component is a slash, as that of a path of segments.
+    /// Whether the delimiter of the component is a slash, as in a path of segments.
     fn is_hierarchical(&self) -> bool
         ensures { result ≡ is_slash_delimiter (settings_of_writer self.now).options.delimiter }
     {
