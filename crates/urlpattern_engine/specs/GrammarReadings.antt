@@ -29,7 +29,7 @@ ValuesReturnAsRead {E} engine AreSuch =
     (text : List ℕ) → IsTrue (all_scalars text)
     → engine.answer value text ≡ re_result pattern.value (length names) text)
 
--- Two values made of the regular expression of the same parts return the same for each text of
+-- Two values made of the regular expression of the same parts return equal results for each text of
 -- characters, if case is kept or no part is custom.
 abbrev pub ExpressionsReturnAlike : {E : Type 0} → Engine E → Type 0
 ExpressionsReturnAlike {E} engine =

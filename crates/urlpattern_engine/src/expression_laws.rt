@@ -25,8 +25,8 @@ pub fn pattern_regexps_answer_the_first_way()
     ensures by_flags { ValuesReturnByFlags pattern_engine }
 {}
 
-/// A value made without the flag `i` and a `regex::Regex` made of the same expression return the
-/// same for each text of characters.
+/// A value made without the flag `i` and a `regex::Regex` made of the same expression return equal
+/// results for each text of characters.
 pub fn pattern_regexps_answer_as_regex_does()
     ensures { ValuesReturnAlike pattern_engine regex_engine KeepsCase }
 {}
@@ -39,9 +39,9 @@ pub fn pattern_regexps_answer_what_the_grammar_reads()
     ensures regex { ValuesReturnAsRead regex_engine (λ flags. ⊤) }
 {}
 
-/// Two values made of the regular expression of the same parts, custom or not, return the same for
-/// each text of characters, if case is kept. If case is ignored, they do unless a part is custom.
-/// Two values of `regex::Regex` do too.
+/// Two values made of the regular expression of the same parts, custom or not, return equal results
+/// for each text of characters, if case is kept. If case is ignored, they do unless a part is
+/// custom. Two values of `regex::Regex` do too.
 pub fn values_of_one_expression_answer_alike()
     ensures own { ExpressionsReturnAlike pattern_engine }
     ensures regex { ExpressionsReturnAlike regex_engine }
@@ -60,7 +60,7 @@ pub fn pattern_regexps_take_each_generated_text()
 /// returns for each text of characters without line feed the first match of the tree of the parts
 /// in backtracking order: a meaning of the parts, or `None` if they have none. Case is kept.
 ///
-/// No premise on the engine is needed. All matchers of the same parts return the same.
+/// No premise on the engine is needed. All matchers of the same parts return equal results.
 pub fn matchers_by_pattern_regexp_answer_the_first_way()
     ensures first { EachReturnsFirst pattern_engine (λ options flags inner.
         FlagsAgree options flags) }

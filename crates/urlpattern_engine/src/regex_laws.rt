@@ -22,7 +22,7 @@ pub fn regex_answers_the_first_way()
 /// the parts, or `None` if they have none. Case is kept.
 ///
 /// The only premise on the engine is that it accepted the text where one was needed. All matchers
-/// of the same parts return the same.
+/// of the same parts return equal results.
 pub fn matchers_by_regex_answer_the_first_way()
     ensures first { EachReturnsFirst regex_engine (λ options flags. AcceptedText (λ regex. ⊤)) }
     ensures one { AllReturnAlike regex_engine (λ options flags. AcceptedText (λ regex. ⊤)) }

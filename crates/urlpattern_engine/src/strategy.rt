@@ -28,9 +28,9 @@ use urlpattern_steps::step::Step;
 use urlpattern_steps::stops::begin_only_with;
 use urlpattern_syntax::error::{OutOfMemory, RegExpError};
 
-/// A strategy, with what it keeps of its expression.
+/// How an expression is matched, and what is kept of the expression to match it.
 ///
-/// [`Strategy::to_match`] and [`Strategy::to_keep`] choose it.
+/// [`Strategy::to_match`] and [`Strategy::to_keep`] choose the strategy.
 #[derive(Drop)]
 pub(crate) enum Strategy {
     /// Matches by steps that are parsed once.
@@ -63,7 +63,7 @@ pub(crate) enum Strategy {
 
 /// How steps match a text.
 ///
-/// [`StepSearch::of`] chooses it.
+/// [`StepSearch::of`] chooses the search.
 #[derive(Clone, Copy)]
 pub(crate) enum StepSearch {
     /// Backtracks, and memoizes no failed state.
@@ -92,7 +92,7 @@ pub(crate) enum StepSearch {
 
 /// How an automaton matches a text.
 ///
-/// [`AutomatonSearch::of`] chooses it.
+/// [`AutomatonSearch::of`] chooses the search.
 #[derive(Clone, Copy)]
 pub(crate) enum AutomatonSearch {
     /// Backtracks over the states, without a visited set.

@@ -85,8 +85,8 @@ pub fn split_at_first(text: &str, c: char, ignore_case: bool) -> (&str, &str)
     (before(text, rest), rest)
 }
 
-/// Returns the text from the first character on that `is_same` finds equal to `c`. Empty if there
-/// is no such character.
+/// Returns the text from the first character on that `is_same` finds equal to `c`. Empty if the
+/// text has none.
 fn skip_to_first(text: &str, c: char, ignore_case: bool) -> &str
     ensures { chars result.now ≡ from_first ignore_case c (chars text.now) }
 {
