@@ -133,8 +133,8 @@ pub fn is_capture(step: Step) -> bool
 }
 
 /// Returns the entry for the rest of `text` after a literal: the first character of
-/// `literal_string`, then the character of each step in `literal`. `None`: there is no literal,
-/// `text` does not begin with it, or the entry is `None`.
+/// `literal_string`, then the character of each literal step in `literal`. `None`: there is no
+/// literal, `text` does not begin with it, or the entry is `None`.
 ///
 /// `entries` has an entry for each suffix that is shorter than `text`, from the shortest.
 fn entry_after(

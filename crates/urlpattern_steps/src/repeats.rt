@@ -23,7 +23,7 @@ pub fn first_steps(steps: &[Step], count: usize) -> &[Step]
     steps.get(..count).unwrap_or(steps)
 }
 
-/// Returns the rest of `text` after a literal: `first`, then the character of each step in
+/// Returns the rest of `text` after a literal: `first`, then the character of each literal step in
 /// `literal`. Characters are compared by `is_same`. `None`: `text` does not begin with the literal.
 #[inline(always)]
 pub fn after_literals<'t>(
@@ -53,7 +53,7 @@ pub fn after_literals<'t>(
 }
 
 /// Returns the rest of `text` after all copies of a literal at its start: `first`, then the
-/// character of each step in `literal`. Characters are compared by `is_same`.
+/// character of each literal step in `literal`. Characters are compared by `is_same`.
 pub fn skip_copies<'t>(text: &'t str, first: char, literal: &[Step], ignore_case: bool) -> &'t str
     ensures front { BeginsWithCopies ignore_case (literal_text first literal.now) (chars text.now)
         (chars result.now) }
@@ -67,8 +67,8 @@ pub fn skip_copies<'t>(text: &'t str, first: char, literal: &[Step], ignore_case
     rest
 }
 
-/// Returns `text` without its last characters, as many as a literal has: one, and one for each step
-/// in `literal`. `None`: `text` has fewer characters.
+/// Returns `text` without its last characters, as many as a literal has: one, and one for each
+/// literal step in `literal`. `None`: `text` has fewer characters.
 pub fn without_copy<'t>(text: &'t str, literal: &[Step]) -> Option<&'t str>
     ensures few { IfNone result (length (chars text.now) < suc (length (literals literal.now))) }
     ensures cut { IfSome result (λ front.
@@ -107,7 +107,7 @@ fn literal_count(literal: &[Step]) -> usize
 }
 
 /// Returns the entry of `table` for the rest of `text` after a literal: `first`, then the character
-/// of each step in `literal`, compared by `is_same`. `None`: `text` does not begin with the
+/// of each literal step in `literal`, compared by `is_same`. `None`: `text` does not begin with the
 /// literal, or the entry is `None`.
 ///
 /// `table` has an entry for each suffix that is shorter than `text`, the empty one first.

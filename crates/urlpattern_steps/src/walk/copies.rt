@@ -47,7 +47,7 @@ impl<'t> Attempt<'_, 't> {
     /// greatest number is tried first. On a match the captures are added to `self.captures`,
     /// otherwise none.
     ///
-    /// The literal is `first`, then the character of each step in `literal`.
+    /// The literal is `first`, then the character of each literal step in `literal`.
     #[cycle(following)]
     fn match_any_copies(
         &mut self,

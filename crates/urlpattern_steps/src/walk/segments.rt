@@ -46,8 +46,8 @@ impl<'t> Attempt<'_, 't> {
     /// Returns the length in bytes of the preferred separated runs at the start of `text` after
     /// which `others` matches the rest. `None`: no match. No capture is added.
     ///
-    /// The separator is its first character, then the character of each step in `literal`. The ends
-    /// are found from the end of the text to its start.
+    /// The separator is its first character, then the character of each literal step in `literal`.
+    /// The ends are found from the end of the text to its start.
     #[cycle(following)]
     fn end_of_segments(
         &mut self,
