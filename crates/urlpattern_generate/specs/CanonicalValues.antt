@@ -7,39 +7,41 @@ use Rattle.urlpattern_components.specs.declared.eight.ComponentName.{ComponentNa
 use Rattle.urlpattern_components.specs.declared.eight.ComponentName.TheVariants.{Hostname, Pathname, Port, Search, Hash}
 use Rattle.urlpattern_syntax.specs.Text.{is_among}
 
--- No path, search or hash percent-encodes the character.
+-- The character is an ASCII letter, a digit or one of the marks that no path, search or hash
+-- percent-encodes.
 abbrev pub is_kept_character : ℕ → Bool
 is_kept_character c = is_ascii_alphanumeric c || is_among (codes "-._~/!$%&()*+,:;=@") c
 
--- The character, a dot or a percent sign, may begin a dot segment.
+-- The character, a dot or the percent sign of `%2e`, may begin a dot segment.
 abbrev pub is_dot_mark : ℕ → Bool
 is_dot_mark c = is_among (codes ".%") c
 
--- Each character is kept, and no segment after a slash can be a dot segment. `begins`: the text
--- follows a slash.
+-- No character is one that a path percent-encodes, and no segment after a slash can be a dot
+-- segment. `begins` is whether the text follows a slash.
 abbrev pub is_kept_path : (begins : Bool) → List ℕ → Bool
 is_kept_path begins [] = true
 is_kept_path begins (c ∷ text) =
     (is_kept_character c && not (begins && is_dot_mark c)) && is_kept_path (c == slash) text
 
--- A lowercase letter or a hyphen.
+-- The character is a lowercase letter or a hyphen.
 abbrev pub is_label_character : ℕ → Bool
 is_label_character c = is_ascii_lowercase c || is_among (codes "-") c
 
--- A character of a label, or a dot.
+-- The character is a lowercase letter, a hyphen or a dot.
 abbrev pub is_host_character : ℕ → Bool
 is_host_character c = is_label_character c || c == dot
 
--- Each character is one of a host, and the last is not a dot. `dotted`: the text follows a dot.
+-- Each character is a lowercase letter, a hyphen or a dot, and the last is not a dot. `dotted` is
+-- whether the text follows a dot.
 abbrev pub is_kept_host : (dotted : Bool) → List ℕ → Bool
 is_kept_host dotted [] = not dotted
 is_kept_host dotted (c ∷ text) = is_host_character c && is_kept_host (c == dot) text
 
--- Each character is kept, and the first is not a slash.
+-- No character is one that an opaque path percent-encodes, and the first is not a slash.
 abbrev pub is_kept_opaque : List ℕ → Bool
 is_kept_opaque value = not (slice_index value 0 == slash) && list_all is_kept_character value
 
--- At most four digits, the first of which is not 0.
+-- The port has at most four digits, the first of which is not 0.
 abbrev pub is_kept_port : List ℕ → Bool
 is_kept_port value =
     not (slice_index value 0 == digit_zero)

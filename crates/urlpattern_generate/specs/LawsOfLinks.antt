@@ -10,21 +10,22 @@ abbrev pub HavePlainTexts : List PartView → Type 0
 HavePlainTexts parts =
     All (λ part. part.kind ≡ PartType.FixedText → part.modifier ≡ PartModifier.None) parts
 
--- The parts mean the text that is written from them, with the captures that it was written with.
+-- If no part is custom, parts match each text that is written from them with captures that their
+-- groups may have, and match with these captures.
 abbrev pub WrittenTextsAreMeant : Type 0
 WrittenTextsAreMeant =
     (options : OptionsView) (parts : List PartView) (captures : Captures) → AreGenerated parts →
     MayCaptureAll options parts captures
     → PartsMean options parts (text_of_parts parts captures) captures
 
--- Captures that the parts have in some text may be captured.
+-- If parts match a text with some captures, their groups may have these captures.
 abbrev pub MeantCapturesMayBeCaptured : Type 0
 MeantCapturesMayBeCaptured =
     (options : OptionsView) (parts : List PartView) (text : List ℕ) (captures : Captures) →
     PartsMean options parts text captures → MayCaptureAll options parts captures
 
--- If no fixed text has a modifier, the text that is written with the captures of a text is that
--- text.
+-- If no fixed text has a modifier, and parts match a text with some captures, the text that is
+-- written with these captures is that text.
 abbrev pub MatchingIsReadBackwards : Type 0
 MatchingIsReadBackwards =
     (options : OptionsView) (parts : List PartView) (text : List ℕ) (captures : Captures) →

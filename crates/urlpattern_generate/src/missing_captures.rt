@@ -10,7 +10,8 @@ ghost use Rattle.urlpattern_syntax.specs.Text.{begins_with, option_text, text_of
 use urlpattern_printing::is_bare;
 use urlpattern_syntax::parser::{Part, PartModifier, PartType};
 
-/// The capture of a group without a value.
+/// The capture that is requested of a group without a value. `None`: the group is to be left out,
+/// or has to have a value.
 pub(crate) fn default_capture(part: &Part) -> Option<&'static str>
     ensures { option_text result ≡ default_capture (part_view part.now) }
 {
@@ -21,14 +22,14 @@ pub(crate) fn default_capture(part: &Part) -> Option<&'static str>
     }
 }
 
-/// The empty text, or `None`.
+/// The empty text if `is`, otherwise `None`.
 fn empty_if(is: bool) -> Option<&'static str>
     ensures { option_text result ≡ empty_if is }
 {
     if is { Some("") } else { None }
 }
 
-/// Whether a group is an unnamed wildcard, which is named by a number.
+/// Whether a group is an unnamed wildcard, which has a number as its name.
 fn is_nameless(part: &Part) -> bool
     ensures { result ≡ is_nameless part.now.kind (text_of part.now.name) }
 {

@@ -12,7 +12,8 @@ use crate::group_copies::{may_be_missing, may_capture};
 use std::alloc::AllocError;
 use urlpattern_syntax::parser::{Options, Part, PartModifier};
 
-/// Appends a fixed text, in as few copies as its modifier allows.
+/// Appends the text of a part that is a fixed text: once, or not at all if its modifier allows zero
+/// copies.
 pub fn push_fixed(text: &mut String, part: &Part) -> Result<(), AllocError>
     ensures { OnOk result
         (GetsText text.old text.new (fewest_copies part.now.modifier (text_of part.now.value))) }
@@ -26,8 +27,11 @@ pub fn push_fixed(text: &mut String, part: &Part) -> Result<(), AllocError>
     }
 }
 
-/// Appends the text of a group that captures `capture`, if it may, and returns whether it may.
-/// `None`: the group does not participate. A custom regular expression is not matched.
+/// Appends the text of a group with this capture, between its prefix and suffix, and returns
+/// whether the group may have the capture. `None`: the group does not participate, and nothing is
+/// appended. `false`: nothing is appended.
+///
+/// A custom regular expression is not matched, so its group may capture any text.
 pub fn push_group(
     text: &mut String,
     options: &Options,
@@ -51,7 +55,7 @@ pub fn push_group(
     Ok(true)
 }
 
-/// Appends a text between the prefix and the suffix of a part.
+/// Appends a text, `between` the prefix and the suffix of a part.
 fn push_between(text: &mut String, part: &Part, between: &str) -> Result<(), AllocError>
     ensures { OnOk result (GetsText text.old text.new
         (text_of part.now.prefix ++ chars between.now ++ text_of part.now.suffix)) }

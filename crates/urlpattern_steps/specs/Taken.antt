@@ -14,8 +14,8 @@ use Rattle.urlpattern_steps.specs.declared.walk.Attempt.{Attempt}
 use Rattle.urlpattern_steps.specs.Walk.{Continuation, captured_prefix, literal_text, segmented, single_run, walk}
 use Rattle.urlpattern_syntax.specs.Text.{option_text}
 
--- The length in bytes of a prefix for which the continuation has the captures found. None: none are
--- found.
+-- The number is the length in bytes of a prefix of the text for which the continuation returns
+-- `found`, which is Some. None: `found` is None.
 abbrev pub IsCutFor : Continuation → (text : List ℕ) → Option ℕ → (found : Option Captures) → Type 0
 IsCutFor gives text None found = found ≡ None
 IsCutFor gives text (Some n) found =
@@ -26,16 +26,18 @@ IsCutFor gives text (Some n) found =
     × (found ≡ gives (chars front) (chars rest))
     × ¬ (found ≡ None)
 
--- The length in bytes of the prefix that a step matches and after which the following steps match
--- the rest.
+-- `end` is the length in bytes of the preferred prefix of the text that the step matches and after
+-- which the following steps match the rest. None: there is no match.
 abbrev pub IsEndOfPrefix : (ignore_case : Bool) → Step → (others : List Step) → (text : List ℕ)
     → Option ℕ → Type 0
 IsEndOfPrefix ignore_case step others text end =
     IsCutFor (given ignore_case step others) text end
     (walk ignore_case (step ∷ others) (chars text))
 
--- The length in bytes of the preferred separated runs after which the other steps match the rest.
--- The separator is that of the literal steps.
+-- `end` is the length in bytes of the preferred separated runs at the start of the text after which
+-- the other steps match the rest. None: there is no match.
+--
+-- The separator is its first character and those of the literal steps.
 abbrev pub IsEndOfSegments : (ignore_case : Bool) → Segments
     → (literal others : List Step) → (text : List ℕ) → (end : Option ℕ) → Type 0
 IsEndOfSegments ignore_case segments literal others text end =
@@ -44,27 +46,29 @@ IsEndOfSegments ignore_case segments literal others text end =
     (single_run ignore_case segments.is_greedy segments.end)
     (captured_prefix (walk ignore_case others)) [] (chars text))
 
--- The end of separated runs, one of which may end here: where the runs after it end, or else here,
--- if the steps match the rest.
+-- `end` is the end of separated runs, one of which may end at `here`: `next`, the end if more runs
+-- follow, or else `here`, if captures are found in the rest. None: neither.
 abbrev pub IsEndHere : (next : Option ℕ) → (here : ℕ) → (found : Option Captures) → (end : Option ℕ)
     → Type 0
 IsEndHere (Some n) here found end = end ≡ Some n
 IsEndHere None here found None = found ≡ None
 IsEndHere None here found (Some n) = (n ≡ here) × ¬ (found ≡ None)
 
--- Captures that borrow from the text.
+-- A list of captures that borrow from the text. A capture is None if its optional group does not
+-- match.
 abbrev pub Kept : Type 0
 Kept = List (Option (Bor (List ℕ)))
 
--- The old captures, followed by those found.
+-- The captures `old`, followed by the captures found. None: none were found.
 abbrev pub with_captures : Kept → Option Captures → Option Captures
 with_captures old found = option_map (λ others. map option_text old ++ others) found
 
--- No capture was removed.
+-- `new` has the captures `old` first.
 abbrev pub Extends : (old new : Kept) → Type 0
 Extends old new = (added : Kept) × (new ≡ old ++ added)
 
--- The captures, if there are any, were added, and `is_taken` is whether there are.
+-- If there are captures, `is_taken` is true and `new` has them after `old`; otherwise `is_taken` is
+-- false.
 abbrev pub AreAdded : (old new : Kept) → (is_taken : Bool) → Option Captures → Type 0
 AreAdded old new is_taken captures =
     (if is_taken then Some (map option_text new) else None)
@@ -74,52 +78,59 @@ AreAdded old new is_taken captures =
 abbrev pub KeptVec : Type 0
 KeptVec = Vec (Option (Bor (List ℕ))) Global
 
--- The captures, if there are any, were added to a vector.
+-- If there are captures, `is_taken` is true and the vector `new` has them after those of `old`;
+-- otherwise `is_taken` is false.
 abbrev pub Adds : (old new : KeptVec) → (is_taken : Bool) → Option Captures → Type 0
 Adds old new is_taken captures = AreAdded old.items new.items is_taken captures
 
--- No capture was added, and the match is unchanged.
+-- The captures and the match are unchanged between `old` and `new`.
 pub record Untouched (old new : Attempt) : Type 0 where
   pub same : new.captures.items ≡ old.captures.items
   pub whole : new.failed ≡ old.failed
 
--- Steps were tried: on a match their captures were added, otherwise nothing.
+-- `is_taken` is whether captures were found. If so, they were added to the captures, otherwise
+-- nothing was.
 pub record MatchesRest (old new : Attempt) (is_taken : Bool) (found : Option Captures) : Type 0
   where
     pub adds : Adds old.captures new.captures is_taken found
     pub same : is_taken ≡ false → new.captures.items ≡ old.captures.items
     pub whole : new.failed ≡ old.failed
 
--- Unless memory ran out, steps were tried with this outcome.
+-- If `answered` is Ok, its value is whether captures were found, which were then added to the
+-- captures; otherwise nothing was.
 abbrev pub MatchesRestIfOk : {E : Type 0} → (old new : Attempt)
     → (answered : Result Bool E) → (found : Option Captures) → Type 0
 MatchesRestIfOk old new answered found =
     IfOk answered (λ is_taken. MatchesRest old new is_taken found)
 
--- Steps were tried: on a match their captures were added, otherwise perhaps some captures.
+-- `is_taken` is whether captures were found. If so, they were added to the captures, otherwise some
+-- captures may have been.
 pub record MatchesInTurn (old new : Attempt) (is_taken : Bool) (found : Option Captures) : Type 0
   where
     pub adds : Adds old.captures new.captures is_taken found
     pub more : is_taken ≡ false → Extends old.captures.items new.captures.items
     pub whole : new.failed ≡ old.failed
 
--- The remaining steps have, with the captures before them, the same captures in the rest as the
--- steps in the text.
+-- `old` followed by the captures of `steps` in `text` is `new` followed by the captures of the
+-- steps `left` in `rest`; or neither list of steps matches.
 abbrev pub LeavesWalk : (ignore_case : Bool) (old new : KeptVec) → (steps : List Step)
     → (text : List ℕ) → (left : List Step) → (rest : List ℕ) → Type 0
 LeavesWalk ignore_case old new steps text left rest =
     with_captures old.items (walk ignore_case steps (chars text))
     ≡ with_captures new.items (walk ignore_case left (chars rest))
 
--- After the prefix that the first step matches, if it matches one, the steps after those of this
--- step remain.
+-- If `left` is a rest of `text`, `old` followed by the captures of the step and the others in
+-- `text` is `new` followed by the captures of the steps after the step and its literal in that
+-- rest; or neither list of steps matches.
 abbrev pub LeavesFollowing : (ignore_case : Bool) (old new : KeptVec) → Step
     → (others : List Step) → (text : List ℕ) → (left : Option (Bor (List ℕ))) → Type 0
 LeavesFollowing ignore_case old new step others text left =
     IfSome left (λ rest.
     LeavesWalk ignore_case old new (step ∷ others) text (following step others) rest.now)
 
--- The steps that remain of an optional group and the others, by the row of the others.
+-- If the rows have the row of the others, `old` followed by the captures of the optional group and
+-- the others is `new` followed by the captures of the steps `left`, all in `text`; or neither list
+-- of steps matches.
 abbrev pub LeavesChosen : (rows : List (Vec Bool Global)) (old new : KeptVec) → Group
     → (others : List Step) → (text : List ℕ) → (left : List Step) → Type 0
 LeavesChosen rows old new group others text left =

@@ -11,7 +11,9 @@ use std::alloc::Global;
 use urlpattern_syntax::error::OutOfMemory;
 use urlpattern_syntax::text::split_first;
 
-/// Returns the rows, from the row of no steps to the row of all.
+/// Returns the row of each suffix of the steps, from the row of no steps to the row of all.
+///
+/// A row says for each suffix of `text`, from the shortest, whether its steps match the suffix.
 pub fn rows_of(
     alloc: Global,
     steps: &[Step],
@@ -32,7 +34,7 @@ pub fn rows_of(
     Ok(rows)
 }
 
-/// Returns the row of no steps, which match only the empty suffix.
+/// Returns the row of no steps, which match only the empty suffix of `text`.
 fn row_of_none(alloc: Global, text: &str) -> Result<Vec<bool>, OutOfMemory>
     ensures { IfOk result (λ row.
         (ignore_case : Bool) → IsRow ignore_case (chars text.now) [] row.items) }
@@ -45,7 +47,8 @@ fn row_of_none(alloc: Global, text: &str) -> Result<Vec<bool>, OutOfMemory>
     Ok(row)
 }
 
-/// Returns the row of `step` and `others`, from the rows of `others`.
+/// Returns for each suffix of `text`, from the shortest, whether `step` followed by `others`
+/// matches the suffix. `rows` has a row of that kind for each suffix of `others`.
 fn row_of(
     alloc: Global,
     step: Step,
@@ -66,7 +69,8 @@ fn row_of(
     Ok(matched_prefix(alloc, step, others, ignore_case, after, text)?.row)
 }
 
-/// Returns the union of two rows.
+/// Returns the row of two alternatives: whether a suffix is matched by `one` or by `other`. As long
+/// as `one`.
 fn either(alloc: Global, one: &[bool], other: &[bool]) -> Result<Vec<bool>, OutOfMemory>
     ensures len { IfOk result (λ row. length row.items ≡ length one.now) }
     ensures bits { IfOk result (λ row.
@@ -79,14 +83,15 @@ fn either(alloc: Global, one: &[bool], other: &[bool]) -> Result<Vec<bool>, OutO
     Ok(row)
 }
 
-/// Whether a row has the suffix of `count` characters.
+/// Whether the row `one` or the row `other` says that the suffix of `count` characters is matched.
 fn is_in_either(one: &[bool], other: &[bool], count: usize) -> bool
     ensures { result ≡ has one.now count || has other.now count }
 {
     has(one, count) || has(other, count)
 }
 
-/// The row of these steps.
+/// Returns the row of the steps, which says what suffixes of the text they match, by the number of
+/// the steps. Empty if there is no row for that number.
 pub fn row_for<'r>(rows: &'r [Vec<bool>], steps: &[Step]) -> &'r [bool]
     ensures { result.now ≡ row_at rows.now (length steps.now) }
 {
@@ -96,7 +101,8 @@ pub fn row_for<'r>(rows: &'r [Vec<bool>], steps: &[Step]) -> &'r [bool]
     }
 }
 
-/// Whether the steps match the text, a suffix of the whole, by their row.
+/// Whether the steps match `text`, looked up in the row of the steps for a text that ends in
+/// `text`.
 pub fn is_taken(rows: &[Vec<bool>], steps: &[Step], text: &str) -> bool
     ensures { IsMatchedByRows rows.now steps.now (chars text.now) result }
 {

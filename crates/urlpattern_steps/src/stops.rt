@@ -6,8 +6,8 @@ ghost use Rattle.urlpattern_steps.specs.Walk.{BeginOnlyWith};
 use crate::repeats::pass;
 use crate::step::Step;
 
-/// Whether each nonempty text that the steps match is known to begin with `end`. `false` decides
-/// nothing.
+/// Whether each nonempty text that the steps match is known to begin with `end` (in either case, if
+/// case is ignored). `false`: unknown.
 pub fn begin_only_with(steps: &[Step], end: char) -> bool
     ensures { IsTrue result → BeginOnlyWith end steps.now }
 {
@@ -38,7 +38,7 @@ pub fn begin_only_with(steps: &[Step], end: char) -> bool
     true
 }
 
-/// Whether the first step is the literal `c`.
+/// Whether the first step is the literal `c`. `false` if there are no steps.
 fn begin_with(steps: &[Step], c: char) -> bool
     ensures { IsTrue result → BeginOnlyWith c steps.now }
 {

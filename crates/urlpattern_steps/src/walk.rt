@@ -24,16 +24,17 @@ use urlpattern_syntax::error::OutOfMemory;
 struct Attempt<'s, 't> {
     /// The captures so far.
     captures: Vec<Option<&'t str>>,
-    /// The failed states.
+    /// The memoized failed states.
     failed: FailedStates<'s, 't>,
 }
 
-/// Whether steps match a whole text.
+/// Whether steps match a whole text, or that memory ran out.
 type Taken = Result<bool, OutOfMemory>;
 
-/// Returns the captures of the steps, if they match the whole text. `None`: no match.
+/// Returns the captures of the steps, if they match the whole text. A capture in an optional group
+/// that does not match is `None`. `None` instead of captures: no match.
 ///
-/// If the match is memoized, no choice is tried twice in one state.
+/// If `is_memoized`, no choice is tried twice in one state.
 #[inline]
 pub fn walk<'t>(
     alloc: Global,
@@ -58,7 +59,8 @@ pub fn walk<'t>(
 }
 
 impl<'t> Attempt<'_, 't> {
-    /// Whether the steps match the whole text. On a match their captures are added.
+    /// Whether the steps match the whole text. On a match their captures are added to
+    /// `self.captures`, otherwise none.
     #[cycle(following)]
     fn match_rest(&mut self, ignore_case: bool, steps: &[Step], text: &'t str) -> Taken
         requires { IsStateOf ignore_case self.old.failed steps.now (chars text.now) }
@@ -73,8 +75,10 @@ impl<'t> Attempt<'_, 't> {
         Ok(false)
     }
 
-    /// Whether the steps match the whole text. On a match their captures are added, otherwise
-    /// perhaps some of them.
+    /// Whether the steps match the whole text. On a match their captures are added to
+    /// `self.captures`, otherwise perhaps some of them.
+    ///
+    /// The steps up to the first with a choice are matched in a loop, without a call for each.
     #[cycle(following)]
     fn match_in_turn(&mut self, ignore_case: bool, steps: &[Step], text: &'t str) -> Taken
         requires { IsStateOf ignore_case self.old.failed steps.now (chars text.now) }
@@ -120,10 +124,10 @@ impl<'t> Attempt<'_, 't> {
         Ok(rest.is_empty())
     }
 
-    /// Whether the steps match the whole text. On a match their captures are added, otherwise
-    /// perhaps some of them.
+    /// Whether `steps`, which are `step` and `others`, match the whole text. On a match their
+    /// captures are added to `self.captures`, otherwise perhaps some of them.
     ///
-    /// A failed state is memoized, and not tried again.
+    /// A state that is memoized as failed is not tried again; a state that fails is memoized.
     #[cycle(following)]
     fn match_memoized(
         &mut self,
@@ -148,10 +152,10 @@ impl<'t> Attempt<'_, 't> {
         Ok(false)
     }
 
-    /// Whether the steps match the whole text. On a match their captures are added, otherwise
-    /// perhaps some of them.
+    /// Whether `steps`, which are `step` and `others`, match the whole text. On a match their
+    /// captures are added to `self.captures`, otherwise perhaps some of them.
     ///
-    /// The matches of the first step are tried in turn.
+    /// The ways in which `step` can match a prefix are tried in order of preference.
     #[cycle(following)]
     fn match_first_step(
         &mut self,
@@ -185,8 +189,9 @@ impl<'t> Attempt<'_, 't> {
         }
     }
 
-    /// Whether the steps match the whole text with an optional group, or else without. On a match
-    /// their captures are added, otherwise perhaps some of them.
+    /// Whether `others`, which begins with the steps of an optional group, matches the whole text,
+    /// or else the steps after the group do, with `None` for each capture of the group. On a match
+    /// the captures are added to `self.captures`, otherwise perhaps some of them.
     #[cycle(following)]
     fn match_optional_group(
         &mut self,
@@ -207,8 +212,8 @@ impl<'t> Attempt<'_, 't> {
         self.match_in_turn(ignore_case, pass(others, group.steps), text)
     }
 
-    /// Whether the steps match the whole rest of a text. On a match `front` and their captures are
-    /// added.
+    /// Whether the steps match the whole of `rest`, which follows the captured prefix `front`. On a
+    /// match `front` and the captures of the steps are added to `self.captures`, otherwise nothing.
     #[cycle(following)]
     fn match_after_capture(
         &mut self,
@@ -230,7 +235,7 @@ impl<'t> Attempt<'_, 't> {
     }
 }
 
-/// Adds `count` captures that are `None`.
+/// Adds `count` captures that are `None`, for a group that does not match.
 pub fn push_unmatched(captures: &mut Vec<Option<&str>>, count: usize) -> Result<(), OutOfMemory>
     ensures { OnOk result (captures.new.items ≡ captures.old.items ++ replicate count None) }
 {

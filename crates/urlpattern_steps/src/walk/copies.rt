@@ -14,7 +14,11 @@ use urlpattern_syntax::text::before;
 
 impl<'t> Attempt<'_, 't> {
     /// Whether a repeated literal and the steps after it match the whole text. The greatest number
-    /// of copies is tried first. On a match the captures are added.
+    /// of copies is tried first. On a match the captures are added to `self.captures`, otherwise
+    /// none.
+    ///
+    /// `steps` begins with the literal steps that have the characters of the literal after the
+    /// first.
     #[cycle(following)]
     pub(super) fn match_copies(
         &mut self,
@@ -39,9 +43,11 @@ impl<'t> Attempt<'_, 't> {
         }
     }
 
-    /// Whether any number of copies of a literal and the other steps match the whole text. The
-    /// greatest number is tried first. On a match the captures are added. The literal is `first`
-    /// and the characters of the literal steps.
+    /// Whether any number of copies of a literal, followed by `others`, matches the whole text. The
+    /// greatest number is tried first. On a match the captures are added to `self.captures`,
+    /// otherwise none.
+    ///
+    /// The literal is `first`, then the character of each literal step in `literal`.
     #[cycle(following)]
     fn match_any_copies(
         &mut self,

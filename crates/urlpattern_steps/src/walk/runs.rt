@@ -13,8 +13,9 @@ use crate::walk::{Attempt, Taken};
 use urlpattern_syntax::text::before;
 
 impl<'t> Attempt<'_, 't> {
-    /// Whether the steps match the whole text, the first a nonempty run without `end`. The shortest
-    /// run is tried first. On a match the captures are added.
+    /// Whether `steps`, a lazy run without `end` followed by `others`, matches the whole text. The
+    /// shortest run is tried first. On a match the run and the captures of `others` are added to
+    /// `self.captures`, otherwise nothing.
     #[cycle(following)]
     pub(super) fn match_shortest_run(
         &mut self,
@@ -40,8 +41,9 @@ impl<'t> Attempt<'_, 't> {
         Ok(false)
     }
 
-    /// Whether the steps match the whole text, the first a run without a line feed. The longest run
-    /// is tried first. On a match the captures are added.
+    /// Whether `steps`, a `DotStar` followed by `others`, matches the whole text. The longest run
+    /// is tried first. On a match the run and the captures of `others` are added to
+    /// `self.captures`, otherwise nothing.
     #[cycle(following)]
     pub(super) fn match_longest_run(
         &mut self,
@@ -69,8 +71,9 @@ impl<'t> Attempt<'_, 't> {
         }
     }
 
-    /// Whether a run of characters and the steps match the whole text. The longest run is tried
-    /// first. On a match the run and the captures of the steps are added.
+    /// Whether `run`, followed by `steps`, matches the whole text. The longest run is tried first.
+    /// On a match the run and the captures of the steps are added to `self.captures`, otherwise
+    /// nothing.
     #[cycle(following)]
     pub(super) fn match_greedy_run(
         &mut self,

@@ -15,7 +15,11 @@ use urlpattern_syntax::error::OutOfMemory;
 
 impl<'t> Attempt<'_, 't> {
     /// Whether runs joined by a separator, and the steps after them, match the whole text. On a
-    /// match one capture for all of the preferred runs and the captures of the steps are added.
+    /// match the preferred runs, as one capture, and the captures of the steps are added to
+    /// `self.captures`, otherwise nothing.
+    ///
+    /// `steps` begins with the literal steps that have the characters of the separator after the
+    /// first.
     #[cycle(following)]
     pub(super) fn match_segments(
         &mut self,
@@ -39,9 +43,11 @@ impl<'t> Attempt<'_, 't> {
         }
     }
 
-    /// The length in bytes of the preferred separated runs after which the other steps match the
-    /// rest. `None`: there are none. The separator is its first character and the characters of the
-    /// literal steps.
+    /// Returns the length in bytes of the preferred separated runs at the start of `text` after
+    /// which `others` matches the rest. `None`: no match. No capture is added.
+    ///
+    /// The separator is its first character, then the character of each literal step in `literal`.
+    /// The ends are found from the end of the text to its start.
     #[cycle(following)]
     fn end_of_segments(
         &mut self,
@@ -81,8 +87,9 @@ impl<'t> Attempt<'_, 't> {
         }
     }
 
-    /// The end of separated runs, one of which may end here: `next`, where the runs after it end,
-    /// or else `here`, if the steps match the rest.
+    /// Returns the end in bytes of separated runs, one of which may end at `here`, before `rest`:
+    /// `next`, the end if a separator and more runs follow, or else `here`, if the steps match
+    /// `rest`. `None`: `next` is `None`, and the steps do not match `rest`.
     #[cycle(following)]
     fn end_here(
         &mut self,
