@@ -101,7 +101,7 @@ impl<R: Drop> Drop for ComponentWithParts<R> {
     }
 }
 
-/// Prints the pattern string.
+/// Prints the normalized pattern string.
 impl<R> fmt::Display for Component<R> {
     ghost output = { λ component. Some (string_bytes component.pattern_string) };
 
