@@ -46,9 +46,9 @@ impl From<AllocError> for CompareError {
 }
 
 impl<R: RegExp> UrlPattern<R> {
-    /// Returns whether this pattern covers `asked`: whether this pattern's parts match any eight
-    /// texts, one for each component, that the parts of `asked` match. Texts with a line feed are
-    /// left out.
+    /// Returns whether this pattern covers `asked`: whether this pattern's parts match each
+    /// combination of eight texts, one for each component, that the parts of `asked` match. Texts
+    /// with a line feed are left out.
     ///
     /// Compares the parts of the two patterns as `PatternParts::covers` does.
     ///
@@ -64,7 +64,7 @@ impl<R: RegExp> UrlPattern<R> {
     }
 
     /// Returns whether this pattern and `other` overlap: whether eight texts without line feeds,
-    /// one for each component, exist that the parts of this pattern and those of `other` match.
+    /// one for each component, exist that the parts of both patterns match, and which.
     ///
     /// Compares the parts of the two patterns as `PatternParts::overlaps` does.
     ///
