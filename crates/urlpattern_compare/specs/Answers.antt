@@ -24,7 +24,7 @@ use Rattle.urlpattern_syntax.specs.declared.parser.Part.{Part}
 use Rattle.urlpattern_syntax.specs.declared.parser.PartType.{PartType}
 use Rattle.urlpattern_syntax.specs.Text.{lacks, line_feed}
 
--- A search of the automata of two lists of parts reaches too many pairs.
+-- A search of the automata of two lists of parts reaches more pairs than `MOST_PAIRS`.
 abbrev pub IsSearchLong : OptionsView → List PartView → OptionsView → List PartView → Type 0
 IsSearchLong options parts other_options others =
     (one other : PartsAutomaton) × (made_view one ≡ made options parts)
@@ -126,7 +126,8 @@ IsSoughtOf options parts other_options others =
     IsSought (options_view options) (parts_view parts) (options_view other_options)
     (parts_view others)
 
--- What a search found as an `Answer`: that a search exceeded its bound is a `Reason`.
+-- What a search found, as an `Answer`. A search that exceeded its bound is `Unknown`, for the
+-- reason `TooMany`.
 abbrev pub answer_of : Found → Answer
 answer_of (founds.Text text) = answers.Text text
 answer_of founds.Nothing = answers.Nothing

@@ -54,8 +54,8 @@ IsUnknownBy component reasons.CustomExpression = ¬ AreGenerated (parts_view com
 IsUnknownBy component reasons.IgnoredCase = component.options.ignore_case ≡ true
 IsUnknownBy component reasons.TooMany = ⊥
 
--- `reason` is a reason why it is not known how the two components compare: of one of them, or too
--- much work.
+-- `reason` is a reason why it is not known how the two components compare: a part is custom or case
+-- is ignored in one of them, or the work is too much.
 abbrev pub IsReasonFor : (component other : ComponentParts) → Reason → Type 0
 IsReasonFor component other =
     IsReason (options_view other.options) (parts_view other.parts.items)
@@ -145,8 +145,8 @@ abbrev pub IsComponentCovered : (component asked : ComponentParts) → Type 0
 IsComponentCovered component asked =
     MatchesEveryLine component ⊎ (MeansAllOf component asked ⊎ AreSame component asked)
 
--- `reason` is a reason why it is not known whether the component covers the asked one, and the two
--- are not equal.
+-- `reason` is a reason why it is not known whether the component covers the asked one. The two are
+-- not equal in the sense of `AreSame`.
 abbrev pub IsReasonToDoubt : (component asked : ComponentParts) → Reason → Type 0
 IsReasonToDoubt component asked reason =
     IsReasonFor component asked reason × ¬ AreSame component asked
@@ -265,9 +265,9 @@ first_or (firsts.Unknown earlier why) name coverings.Covered = firsts.Unknown ea
 first_or (firsts.Unknown earlier why) name (coverings.NotCovered text) = firsts.At name text
 first_or (firsts.Unknown earlier why) name (coverings.Unknown reason) = firsts.Unknown name reason
 
--- The result of `text_with`: a text that the component `name` of the asked pattern matches,
--- provided that the component `parted` matches `text`, and `text` itself for the component
--- `parted`; or why there is none.
+-- What the result of `text_with` says. Ok: the component `name` of the asked pattern matches the
+-- text, provided that the component `parted` matches `text`; for `parted` itself, the text is
+-- `text`. An error: why no text is known, or that memory ran out.
 abbrev pub IsTextWith : (asked : PatternParts) → (parted : ComponentName)
     → (text : List ℕ) → ComponentName → Result (String Global) Lack → Type 0
 IsTextWith asked parted text name (Ok found) =
@@ -276,8 +276,8 @@ IsTextWith asked parted text name (Ok found) =
     × (name ≡ parted → text_of found ≡ text)
 IsTextWith asked parted text name (Err lack) = LacksExample asked lack
 
--- The result of `common_text`: a text that the component `name` of both patterns matches, or why
--- there is none.
+-- What the result of `common_text` says. Ok: the component `name` of both patterns matches the
+-- text. An error: why no text is known, or that memory ran out.
 abbrev pub IsCommonText : (pattern other : PatternParts) → ComponentName
     → Result (String Global) Lack → Type 0
 IsCommonText pattern other name (Ok text) =
@@ -322,8 +322,8 @@ IsFirstCovering patterns asked found =
     MatchOption found (All (IsNotKnownToCover asked) patterns) (λ index.
     CoversAt patterns asked index × All (IsNotKnownToCover asked) (take index patterns))
 
--- `found` has the index of a pattern, and the index of the first earlier pattern that is known to
--- cover that pattern.
+-- `found.by` is the index of the first pattern that is known to cover the pattern at the index
+-- `found.pattern`, and is less than that index.
 abbrev pub IsShadowed : List PatternParts → Shadowed → Type 0
 IsShadowed patterns found =
     (found.by < found.pattern)
@@ -335,14 +335,13 @@ abbrev pub AreInOrder : List Shadowed → Type 0
 AreInOrder [] = Unit {0}
 AreInOrder (one ∷ others) = All (λ other. one.pattern < other.pattern) others × AreInOrder others
 
--- `found` has the pattern at `index`, or no earlier pattern is known to cover that pattern,
--- `asked`.
+-- `found` lists `asked`, the pattern at `index`, or no earlier pattern is known to cover `asked`.
 abbrev pub IsListed : List PatternParts → List Shadowed → (index : ℕ) → PatternParts → Type 0
 IsListed patterns found index asked =
     ((by : ℕ) × Contains found (record { pattern = index; by = by }))
     ⊎ All (IsNotKnownToCover asked) (take index patterns)
 
--- `found` has each pattern that an earlier pattern is known to cover.
+-- `found` lists each pattern that an earlier pattern is known to cover.
 abbrev pub ListsEachShadowed : List PatternParts → List Shadowed → Type 0
 ListsEachShadowed patterns found =
     (index : ℕ) (asked : PatternParts) → slice_get patterns index ≡ Some asked

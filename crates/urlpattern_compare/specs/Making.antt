@@ -96,6 +96,7 @@ made options [] = record { edges = []; starts = 0 ∷ []; count = 1 }
 made options (part ∷ parts) =
     with_copies (made options parts) part.modifier (reverse (cells_of options part.kind part))
 
--- The automaton of the parts has too many states: one for each cell, and one more.
+-- The automaton of the parts has more than `MOST_STATES` states. An automaton has a state for each
+-- cell, and one more.
 abbrev pub HasManyStates : OptionsView → List PartView → Type 0
 HasManyStates options parts = MOST_STATES < (made options parts).count

@@ -20,7 +20,7 @@ is_in flags state = slice_index_or flags state false
 abbrev pub LeadsIn : List Edge → (flags : List Bool) → (text : List ℕ) → Type 0
 LeadsIn edges flags text = (state : ℕ) × IsTrue (is_in flags state) × Leads edges state text
 
--- The set with the states added.
+-- The set `flags` with the states added.
 abbrev pub with_states : (flags : List Bool) → (states : List ℕ) → List Bool
 with_states flags [] = flags
 with_states flags (state ∷ states) = with_states (slice_set flags state true) states

@@ -128,7 +128,8 @@ fn find_meant(
     Ok(answer_of(found))
 }
 
-/// Returns what a search found as an `Answer`: that a search exceeded its bound is a `Reason`.
+/// Returns what a search found, as an `Answer`. A search that exceeded its bound is `Unknown`, for
+/// the reason `TooMany`.
 fn answer_of(found: Found) -> Answer
     ensures { result ≡ answer_of found }
 {

@@ -46,7 +46,7 @@ pub(crate) fn make(
 
 impl PartsAutomaton {
     /// Makes the automaton of `parts`. `None`: the automaton would have more than [`MOST_STATES`]
-    /// states; an automaton with at most twice as many may be made all the same.
+    /// states. Automata with up to twice as many states may be made.
     ///
     /// The automaton accepts the texts that the parts match, if no part is a custom regular
     /// expression.

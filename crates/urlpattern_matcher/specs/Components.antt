@@ -32,7 +32,7 @@ component_view component = record {
   has_regexp_group = component.has_regexp_group;
 }
 
--- The pattern text, or an asterisk if there is none.
+-- The pattern text of a component: the given pattern, or an asterisk if there is none.
 abbrev pub pattern_text : Option (Bor (List ℕ)) → List ℕ
 pattern_text None = codes "*"
 pattern_text (Some pattern) = chars pattern.now

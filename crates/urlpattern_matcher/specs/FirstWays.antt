@@ -86,7 +86,8 @@ pub record IsAcceptedBy {E : Type 0} (engine : Engine E) (Accepted : Acceptance 
   pub took : Accepted options flags matcher.inner
 
 -- For each text of characters without line feed, the matcher returns the captures of the first way
--- of the tree of `parts`, with which the parts mean the text, or None if they do not mean it.
+-- of the tree of the regular expression of `parts`, with which the parts mean the text, or None if
+-- they do not mean it.
 abbrev pub ReturnsFirstWays : {E : Type 0} → (answer : E → List ℕ → Option Captures) → OptionsView
     → List PartView → MatcherView E → Type 0
 ReturnsFirstWays answer options parts matcher =

@@ -63,7 +63,7 @@ pub enum InnerMatcher<R> {
     },
     /// A text that an engine matches, with its captures. No text matches if an error is kept.
     RegExp {
-        /// The engine's value, or why there is none.
+        /// The engine's value, or the error with which the engine rejected the expression.
         regexp: Result<R, Error>,
     },
 }

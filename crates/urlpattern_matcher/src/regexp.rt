@@ -86,8 +86,9 @@ pub trait RegExp: Sized + Drop {
         ensures { chars result.now ≡ text_made_of self.now };
 
     /// Whether each value that was made of the regular expression of parts, none of them custom,
-    /// with the flag `u` alone, is known to return what the parts mean. An engine for which nothing
-    /// is known keeps the default, `false`.
+    /// with the flag `u` alone, is known to return what the parts mean: captures with which the
+    /// parts can match the text, one after the other, or `None` if they cannot. An engine for which
+    /// nothing is known keeps the default, `false`.
     fn agrees_with_parts() -> bool
         ensures { IsTrue result → ValuesAgreeWithParts IsMade answer }
     {

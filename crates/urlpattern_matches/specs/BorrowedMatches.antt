@@ -100,7 +100,7 @@ all_listed_groups result components =
     flat_map (λ component.
     named_groups component (listed_groups (at (results_of result) component).groups)) components
 
--- No two groups of the component have the same name.
+-- No two groups of the component have equal names.
 abbrev pub HasDistinctGroups : UrlPatternResult → ComponentName → Type 0
 HasDistinctGroups result component = IsUnique string_eq (at (results_of result) component).groups
 

@@ -82,7 +82,7 @@ pub(crate) fn empty_result(alloc: Global) -> UrlPatternResult
     }
 }
 
-/// A copy has the same texts and the same groups.
+/// A copy has equal texts and equal groups.
 impl Clone for UrlPatternResult {
     ghost is_clone = { λ result copy.
         (name : Name) → IsCopy (at (results_of result) name) (at (results_of copy) name) };
@@ -144,7 +144,7 @@ impl UrlPatternResult {
     }
 }
 
-/// A copy has the same text and the same groups.
+/// A copy has an equal text and equal groups.
 impl Clone for UrlPatternComponentResult {
     ghost is_clone = { IsCopy };
 

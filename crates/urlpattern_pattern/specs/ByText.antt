@@ -34,9 +34,9 @@ pub record HasMeaning (settings : ParseSettings) : Type 0 where
 
 -- ---- first ways
 
--- `captures` are those of the first way in which the parts of the pattern text of `settings` match
--- the whole of `text`, or None if there is no way. The parts mean `text` with these captures; None:
--- the parts do not mean `text`.
+-- `captures` are the captures of the first way in which the parts of the pattern text of `settings`
+-- match the whole of `text`, or None if no way exists. The parts mean `text` with these captures;
+-- None: the parts do not mean `text`.
 pub record IsFirstWay (settings : ParseSettings) (text : List ℕ) (captures : Option Captures) : Type
     0 where
   pub parts : List PartView

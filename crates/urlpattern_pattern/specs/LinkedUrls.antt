@@ -1,5 +1,5 @@
 -- The URL that `link` writes from the parts of a pattern, so that its groups capture given texts,
--- and why there is none.
+-- and the reasons why no such URL exists.
 use Rattle.std.specs.Prelude.{◌≡◌, ◌++◌, All, ℕ, Bool, IsTrue, List, ◌∷◌, MatchBool, MatchOption, MatchResult, bytes_eq, Option, Some, None, Result, Ok}
 use Rattle.std.specs.List.{list_any}
 use Rattle.std.specs.declared.alloc.Global.{Global}
@@ -40,7 +40,7 @@ IsConfirmed answer pattern parts groups texts component =
     FindsRequested answer (pattern component).matcher (settings_in parts groups component)
     (parts_in parts component) (at texts component)
 
--- The matcher of `component` captures in its text something else than `groups` requests, or does
+-- The matcher of `component` captures in its text something other than `groups` requests, or does
 -- not match the text.
 abbrev pub IsOther : {E : Type 0} → (answer : E → List ℕ → Option Captures) → PatternView E
     → PatternParts → List GivenView → Texts → ComponentName → Type 0
@@ -49,7 +49,7 @@ IsOther answer pattern parts groups texts component =
     (parts_in parts component) (at texts component)
 
 -- `is` is true if the matcher of `component` captures in its text what `groups` requests, and false
--- if it captures something else or does not match.
+-- if the matcher captures other texts or does not match.
 abbrev pub DecidesConfirmed : {E : Type 0} → Bool
     → (answer : E → List ℕ → Option Captures) → PatternView E → PatternParts → List GivenView
     → Texts → ComponentName → Type 0
@@ -127,7 +127,7 @@ IsReadOtherwise answer pattern parts groups component =
     × IsConfirmedBefore answer pattern parts groups (texts_of_url url) (Some component)
 
 -- `error` says why a pattern with the parts `parts` has no link: the first component without a
--- text, that no URL has the texts, the first component that captures something else than `groups`
+-- text, that no URL has the texts, the first component that captures other texts than `groups`
 -- requests, or that memory ran out.
 abbrev pub RejectsLinkOf : {E : Type 0} → (answer : E → List ℕ → Option Captures) → PatternView E
     → PatternParts → List GivenView → NoLink → Type 0

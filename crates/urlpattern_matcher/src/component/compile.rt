@@ -26,8 +26,9 @@ impl<R: RegExp> Component<R> {
     /// regular expression, an engine of ECMAScript's syntax has to compile the expression at once.
     ///
     /// If the pattern has no custom regular expression and case is kept, the component's matcher
-    /// returns what the parts of the pattern mean, provided that an engine that it calls follows
-    /// its regular expression.
+    /// returns what the parts *mean*, for texts without line feeds: captures with which the parts
+    /// can match the text, one after the other, or `None` if they cannot. An engine that the
+    /// matcher calls has to follow its regular expression.
     ///
     /// The error is that the pattern text is rejected, which may be an error of the callback, or
     /// that memory ran out.

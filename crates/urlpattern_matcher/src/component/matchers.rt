@@ -21,8 +21,9 @@ use urlpattern_syntax::writing::written;
 /// list become its prefix and its suffix. `flags` are the flags for an engine.
 ///
 /// An expression that the engine rejects is kept in the matcher as an error. If no part has a
-/// custom regular expression and case is kept, the matcher returns what the parts mean, provided
-/// that an engine that it calls follows its regular expression.
+/// custom regular expression and case is kept, the matcher returns what the parts *mean*, for texts
+/// without line feeds: captures with which the parts can match the text, one after the other, or
+/// `None` if they cannot. An engine that the matcher calls has to follow its regular expression.
 pub fn generate_matcher<R: RegExp>(
     alloc: Global,
     part_list: &[Part],

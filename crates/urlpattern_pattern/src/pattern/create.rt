@@ -27,7 +27,7 @@ impl<R: RegExp> UrlPattern<R> {
     /// Compiles a pattern from an init: from its own texts, and from those that it inherits from
     /// its base URL.
     ///
-    /// The error is that of the first component that is rejected, or that memory ran out. The
+    /// The error is an error of the first component that is rejected, or that memory ran out. The
     /// protocol is compiled first, then the hostname, the pathname, and the others in the order of
     /// a URL. A component is rejected for its text, for a fixed text in it that `url` rejects, or
     /// for its regular expression, by the engine.

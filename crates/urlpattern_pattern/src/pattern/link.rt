@@ -28,9 +28,9 @@ impl<R: RegExp> UrlPattern<R> {
     /// together. A component that the pattern leaves open is therefore empty, unless `groups` gives
     /// its wildcard a text, by the wildcard's number.
     ///
-    /// The error is that of the first component that has no text with its groups, that no URL has
-    /// the texts of the components, that a component captures other texts than those that `groups`
-    /// gives, that the pattern was put together by hand, or that memory ran out.
+    /// The error says why the first component that has no text has none, that no URL has the texts
+    /// of the components, that a component captures other texts than those that `groups` gives,
+    /// that the pattern was put together by hand, or that memory ran out.
     ///
     /// With a pattern that was compiled from `https://example.com/users/:id`:
     ///
@@ -114,7 +114,7 @@ impl<R: RegExp> UrlPattern<R> {
 
 /// Returns the text of each component, written from its parts with the texts that `groups` gives.
 ///
-/// The error is that of the first component that has no text.
+/// The error says why the first component that has no text has none, or that memory ran out.
 fn written_each<'d>(
     alloc: Global,
     parts: &'d PatternParts,
