@@ -2,7 +2,7 @@
 //! overlap.
 //!
 //! A [`PatternParts`] has the parts of a pattern's eight components. [`PatternParts::covers`] and
-//! [`PatternParts::overlaps`] compare what two patterns mean, [`first_covering`] and
+//! [`PatternParts::overlaps`] compare which texts two patterns match, [`first_covering`] and
 //! [`unreachable`] search a list, and [`compare_parts`] orders parts by how specific they are.
 //!
 //! [`covers`] and [`overlaps`] compare the parts of one component. Each list of parts is turned

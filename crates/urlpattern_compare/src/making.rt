@@ -15,7 +15,8 @@ use urlpattern_syntax::parser::{Options, Part, PartModifier};
 /// wildcard, two for each segment wildcard, and one more.
 pub const MOST_STATES: usize = 10_000;
 
-/// Makes the automaton of parts. `None`: it would have more than [`MOST_STATES`] states.
+/// Makes the automaton of `parts`, from the last part to the first. `None`: the automaton would
+/// have more than [`MOST_STATES`] states.
 pub(crate) fn make(
     alloc: Global,
     options: &Options,
@@ -44,8 +45,8 @@ pub(crate) fn make(
 }
 
 impl PartsAutomaton {
-    /// Makes the automaton of parts. `None`: it would have more than [`MOST_STATES`] states; an
-    /// automaton with at most twice as many may be made all the same.
+    /// Makes the automaton of `parts`. `None`: the automaton would have more than [`MOST_STATES`]
+    /// states. Automata with up to twice as many states may be made.
     ///
     /// The automaton accepts the texts that the parts match, if no part is a custom regular
     /// expression.
@@ -63,7 +64,8 @@ impl PartsAutomaton {
         make(alloc, options, parts)
     }
 
-    /// Prepends copies of the cells, as many as the modifier permits.
+    /// Prepends `cells`, which are in reverse order, so that they are read as many times as
+    /// `modifier` permits.
     fn add_copies(
         &mut self,
         alloc: Global,
@@ -84,7 +86,9 @@ impl PartsAutomaton {
         self.starts.extend_from_slice(&missing)
     }
 
-    /// Lets the cells that are prepended next repeat.
+    /// If `again` is set, adds the start states that `cells`, which are prepended next, will have,
+    /// so that the cells may be read again. Nothing is added if no cell reads exactly one
+    /// character.
     fn add_again(&mut self, alloc: Global, again: bool, cells: &[Cell]) -> Result<(), AllocError>
         requires { self.old.states + length cells.now ≤ usize.MAX }
         ensures { OnOk result
@@ -97,7 +101,7 @@ impl PartsAutomaton {
         Ok(())
     }
 
-    /// Prepends cells, which are in reverse order.
+    /// Prepends `cells`, which are in reverse order.
     fn add_cells(&mut self, cells: &[Cell]) -> Result<(), AllocError>
         requires { self.old.states + length cells.now ≤ usize.MAX }
         ensures { OnOk result (made_view self.new ≡ with_cells (made_view self.old) cells.now) }
@@ -111,7 +115,7 @@ impl PartsAutomaton {
         Ok(())
     }
 
-    /// Prepends a cell of one character.
+    /// Prepends a cell of one character that passes `test`: a new state becomes the only start.
     fn add_one(&mut self, test: Test) -> Result<(), AllocError>
         requires { self.old.states < usize.MAX }
         ensures { OnOk result
@@ -124,7 +128,8 @@ impl PartsAutomaton {
         Ok(())
     }
 
-    /// Prepends a cell of any number of characters.
+    /// Prepends a cell of any number of characters that pass `test`: a new state, with an edge to
+    /// itself, becomes a further start.
     fn add_many(&mut self, test: Test) -> Result<(), AllocError>
         requires { self.old.states < usize.MAX }
         ensures { OnOk result
@@ -136,7 +141,8 @@ impl PartsAutomaton {
         Ok(())
     }
 
-    /// Adds edges from a new state to the starts.
+    /// Adds an edge from the next state that will be made to each start, by characters that pass
+    /// `test`.
     fn add_edges(&mut self, test: Test) -> Result<(), AllocError>
         ensures edges { OnOk result (self.new.edges.items
             ≡ self.old.edges.items ++ edges_to self.old.states test self.old.starts.items) }
@@ -147,7 +153,7 @@ impl PartsAutomaton {
     }
 }
 
-/// Adds edges from a state to others.
+/// Adds an edge from `from` to each of `others`, by characters that pass `test`.
 fn add_edges(
     edges: &mut Vec<Edge>,
     from: usize,
@@ -166,8 +172,8 @@ fn add_edges(
     Ok(())
 }
 
-/// Returns the start states of cells, which are in reverse order, if this number of states was made
-/// before.
+/// Returns the new start states that `cells`, which are in reverse order, have once they are
+/// prepended to an automaton of `states` states.
 fn heads(alloc: Global, states: usize, cells: &[Cell]) -> Result<Vec<usize>, AllocError>
     requires { states + length cells.now ≤ usize.MAX }
     ensures { IfOk result (λ starts. starts.items ≡ heads [] states cells.now) }
@@ -184,14 +190,14 @@ fn heads(alloc: Global, states: usize, cells: &[Cell]) -> Result<Vec<usize>, All
     Ok(starts)
 }
 
-/// Whether a part may repeat.
+/// Whether a part with this modifier may repeat.
 fn repeats(modifier: PartModifier) -> bool
     ensures { result ≡ repeats modifier }
 {
     matches!(modifier, PartModifier::ZeroOrMore | PartModifier::OneOrMore)
 }
 
-/// Whether a part may be left out.
+/// Whether a part with this modifier may be left out.
 fn may_miss(modifier: PartModifier) -> bool
     ensures { result ≡ may_miss modifier }
 {

@@ -8,7 +8,7 @@ ghost use Rattle.urlpattern_compare.specs.Automata.{named, passes};
 pub enum Test {
     /// Only this character passes.
     Only(char),
-    /// Every other character passes.
+    /// Every character but this passes.
     AnyBut(char),
 }
 
@@ -44,7 +44,7 @@ pub struct Edge {
     pub to: usize,
 }
 
-/// An automaton, which accepts the texts that lead from a start state to state 0.
+/// An automaton, which accepts a text if the text leads from a start state to state 0.
 #[derive(Debug, Drop)]
 pub struct PartsAutomaton {
     /// The edges.

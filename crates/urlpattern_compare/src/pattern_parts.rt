@@ -40,7 +40,8 @@ impl Drop for PatternParts {
     }
 }
 
-/// Eight texts that one pattern matches and the other does not.
+/// Eight texts, one for each component, that show that a pattern does not cover another, the asked
+/// one: the asked pattern matches them, and the pattern does not.
 ///
 /// The text that the asked pattern means and the other does not:
 ///
@@ -50,13 +51,13 @@ impl Drop for PatternParts {
 /// ```
 #[derive(Debug, Drop)]
 pub struct Parting {
-    /// A component whose text the one pattern does not match.
+    /// A component whose text the pattern does not match.
     pub component: ComponentName,
     /// The texts, which the asked pattern matches.
     pub texts: Eight<String>,
 }
 
-/// Whether a pattern covers another.
+/// Whether a pattern covers another, the asked one.
 ///
 /// ```rust covering
 /// match covering {
@@ -71,11 +72,12 @@ pub struct Parting {
 /// ```
 #[derive(Debug, Drop)]
 pub enum PatternCovering {
-    /// The pattern matches whatever the asked one matches.
+    /// The pattern matches each combination of eight texts without line feeds that the asked one
+    /// matches.
     Covered,
     /// The asked pattern matches these texts, and the pattern does not.
     NotCovered(Parting),
-    /// Not known, because of this component.
+    /// Not known, because of this component, for this reason.
     Unknown(ComponentName, Reason),
 }
 
@@ -90,31 +92,32 @@ pub enum PatternCovering {
 /// ```
 #[derive(Debug, Drop)]
 pub enum PatternOverlap {
-    /// No eight texts match both patterns.
+    /// No eight texts exist that both patterns match.
     Apart,
-    /// Eight texts that match both patterns.
+    /// Eight texts that both patterns match.
     Common(Eight<String>),
-    /// Not known, because of this component.
+    /// Not known, because of this component, for this reason.
     Unknown(ComponentName, Reason),
 }
 
-/// The first component in which two patterns differ.
+/// The first component of a pattern that does not cover the component of the asked pattern.
 #[derive(Debug, Drop)]
 pub(crate) enum First {
-    /// No component.
+    /// Every component covers that of the asked pattern.
     Nowhere,
-    /// The component, and a text.
+    /// The component, and the characters of a text that only the asked pattern's component matches.
     At(ComponentName, Vec<char>),
-    /// No component as far as is known. Of this component nothing is known.
+    /// No component is known not to cover that of the asked pattern. Whether this component does is
+    /// not known, for this reason.
     Unknown(ComponentName, Reason),
 }
 
-/// Why a component has no text.
+/// Why no text is found that a component, of one pattern or of two, matches.
 #[derive(Debug, Drop)]
 pub(crate) enum Lack {
-    /// No text of this component exists.
+    /// No text exists that this component matches.
     Nothing(ComponentName),
-    /// Not known, because of this component.
+    /// Not known, because of this component, for this reason.
     Unknown(ComponentName, Reason),
     /// Memory ran out.
     OutOfMemory,
@@ -133,7 +136,9 @@ impl From<AllocError> for Lack {
 impl First {
     ghost use Rattle.urlpattern_compare.specs.Comparing.{first_or};
 
-    /// Returns what was found so far, or else what is known of the next component.
+    /// Adds the component `name` to what was found so far; `covering` says whether that component
+    /// covers the asked pattern's. The first component that does not cover is kept; without one,
+    /// the last of which nothing is known.
     fn or(self, name: ComponentName, covering: Covering) -> First
         ensures { result ≡ first_or self name covering }
     {
@@ -150,8 +155,9 @@ impl PatternParts {
     ghost use Rattle.urlpattern_compare.specs.Order.{parts_cmp};
     ghost use Rattle.urlpattern_compare.specs.Comparing.{IsCommonText, IsFirst, IsMeantBy, IsOnlyIn, IsPatternCovering, IsPatternOverlap, IsTextWith, LacksExample, MeansEach};
 
-    /// Returns whether this pattern covers `asked`: whether its parts match every eight texts that
-    /// the parts of `asked` match. Texts with a line feed are left out.
+    /// Returns whether this pattern covers `asked`: whether this pattern's parts match each
+    /// combination of eight texts, one for each component, that the parts of `asked` match. Texts
+    /// with a line feed are left out.
     ///
     /// Components are compared one by one. A component that matches each text, with case kept,
     /// covers any other. A component covers equal parts under equal options, whatever the names,
@@ -169,8 +175,8 @@ impl PatternParts {
         }
     }
 
-    /// Returns whether the parts of both patterns match some eight texts without line feeds, and
-    /// which.
+    /// Returns whether eight texts without line feeds, one for each component, exist that the parts
+    /// of this pattern and those of `other` match, and which.
     ///
     /// Nothing is known of components with custom regular expressions or with case ignored, nor
     /// where the work exceeds its bound.
@@ -188,8 +194,8 @@ impl PatternParts {
         }
     }
 
-    /// Compares one component of two patterns, as [`compare_parts`] does: the more specific is the
-    /// greater.
+    /// Compares the component `component` of two patterns, as [`compare_parts`] does: the more
+    /// specific is the greater.
     ///
     /// The more specific pattern need not be covered, nor the covered one more specific: `/a{/b}?`
     /// is greater than `/:x`, and matches the text `/a/b`, which `/:x` does not match.
@@ -203,7 +209,7 @@ impl PatternParts {
         compare_parts(&left.parts, &right.parts)
     }
 
-    /// Returns the first component in which the patterns differ.
+    /// Returns the first component of this pattern that does not cover the component of `asked`.
     fn first_parting(&self, alloc: Global, asked: &Self) -> Result<First, AllocError>
         ensures { IfOk result (IsFirst self.now asked.now) }
     {
@@ -216,7 +222,9 @@ impl PatternParts {
         Ok(first)
     }
 
-    /// Returns the result for patterns that differ in this component, by this text.
+    /// Returns whether this pattern covers `asked`, where `component` of `asked` matches `text`,
+    /// and that of this pattern does not. If some component of `asked` matches no text, `asked` is
+    /// covered.
     fn parted(
         &self,
         alloc: Global,
@@ -237,7 +245,9 @@ impl PatternParts {
         }
     }
 
-    /// Returns eight texts that the pattern matches, with this text for a component.
+    /// Returns eight texts that the pattern matches; that of `component` is `text`, which
+    /// `component` matches. The error says which component matches no text, or of which no text is
+    /// known.
     fn texts_with(
         &self,
         alloc: Global,
@@ -255,8 +265,8 @@ impl PatternParts {
         Eight::try_from_fn(value)
     }
 
-    /// Returns a text of a component that the pattern matches: the given text for the component in
-    /// which patterns differ.
+    /// Returns a text that the component `name` matches: `text` if `name` is `parted`, and an
+    /// example for any other component.
     fn text_with(
         &self,
         alloc: Global,
@@ -276,7 +286,7 @@ impl PatternParts {
         }
     }
 
-    /// Returns a text of a component that both patterns match.
+    /// Returns a text that the component `name` of this pattern and that of `other` match.
     fn common_text(&self, alloc: Global, other: &Self, name: ComponentName) -> Result<String, Lack>
         ensures { IsCommonText self.now other.now name result }
     {

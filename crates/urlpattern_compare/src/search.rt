@@ -13,18 +13,19 @@ use std::alloc::{AllocError, Global};
 /// What a search found.
 #[derive(Debug, Drop)]
 pub enum Found {
-    /// A text.
+    /// The characters of a text that was sought.
     Text(Vec<char>),
-    /// No text exists.
+    /// No text that was sought exists.
     Nothing,
-    /// The search exceeded its bound.
+    /// The search reached more than [`MOST_PAIRS`] pairs, and was given up.
     TooMany,
 }
 
-/// The number of pairs after which a search is given up.
+/// The number of pairs of a state and a set of states that a search may reach.
 pub const MOST_PAIRS: usize = 10_000;
 
-/// A state of one automaton and a set of states of another, to which a text leads.
+/// Where two automata are after a text: a state to which the text leads one of them, and the set of
+/// all states to which it leads the other.
 #[derive(Debug, Drop)]
 pub(crate) struct Pair {
     pub(crate) state: usize,
@@ -66,7 +67,7 @@ impl PartsAutomaton {
     }
 }
 
-/// Returns the pairs before the first character.
+/// Returns the pairs of the empty text: each start of `one`, with the set of the starts of `other`.
 fn first_pairs(
     alloc: Global,
     one: &PartsAutomaton,
@@ -94,7 +95,7 @@ fn first_pairs(
     Ok(pairs)
 }
 
-/// Adds the pairs that a pair leads to by one of the characters.
+/// Adds to `pairs` the new pairs that `pair` leads to by one of the characters `classes`.
 fn follow(
     alloc: Global,
     one: &PartsAutomaton,
@@ -118,7 +119,8 @@ fn follow(
     Ok(())
 }
 
-/// Adds the pairs that a pair leads to by the character, unless it is a line feed.
+/// Adds to `pairs` the new pairs that `pair` leads to by the character `c`. Adds nothing for a line
+/// feed.
 fn follow_by(
     alloc: Global,
     one: &PartsAutomaton,
@@ -146,7 +148,8 @@ fn follow_by(
     Ok(())
 }
 
-/// Adds the pair that an edge leads to by the character, if it does and the pair is new.
+/// Adds to `pairs` the pair that `edge` leads to from `pair` by the character `c`, with `states` as
+/// its set. Adds nothing if the edge does not lead from there by `c`, or the pair is not new.
 fn follow_edge(
     alloc: Global,
     edge: Edge,
@@ -188,7 +191,7 @@ fn copy_of(alloc: Global, pair: &Pair) -> Result<Pair, AllocError>
     })
 }
 
-/// Whether a pair with this state and these states is among the pairs.
+/// Whether a pair of `state` and the set `states` is among `pairs`.
 fn is_seen(pairs: &[Pair], state: usize, states: &[bool]) -> bool
     ensures { IsTrue result ↔ IsSeen pairs.now state states.now }
 {

@@ -30,7 +30,8 @@ use urlpattern_syntax::error::Error;
 pub struct Component<R> {
     /// The normalized pattern string, generated from the parts.
     pub pattern_string: String,
-    /// The engine's value of the regular expression, or why there is none.
+    /// The engine's value of the regular expression, or the error with which the engine rejected
+    /// the expression.
     pub regexp: Result<R, Error>,
     /// The names of the groups, in order.
     pub group_name_list: Vec<String>,
@@ -101,7 +102,7 @@ impl<R: Drop> Drop for ComponentWithParts<R> {
     }
 }
 
-/// Prints the pattern string.
+/// Prints the normalized pattern string.
 impl<R> fmt::Display for Component<R> {
     ghost output = { λ component. Some (string_bytes component.pattern_string) };
 

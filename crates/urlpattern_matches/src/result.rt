@@ -66,7 +66,7 @@ pub struct UrlPatternComponentResult {
     pub groups: HashMap<String, Option<String>>,
 }
 
-/// Returns the result of empty texts without groups. Does not allocate.
+/// Returns a result in which each text is empty and no component has groups. Does not allocate.
 pub(crate) fn empty_result(alloc: Global) -> UrlPatternResult
     ensures { IsWithoutGroups result }
 {
@@ -82,7 +82,7 @@ pub(crate) fn empty_result(alloc: Global) -> UrlPatternResult
     }
 }
 
-/// A copy has the same texts and the same groups.
+/// A copy has equal texts and equal groups.
 impl Clone for UrlPatternResult {
     ghost is_clone = { λ result copy.
         (name : Name) → IsCopy (at (results_of result) name) (at (results_of copy) name) };
@@ -94,14 +94,14 @@ impl Clone for UrlPatternResult {
 }
 
 impl UrlPatternResult {
-    /// Returns the result of these components.
+    /// Returns the result with the results of these components.
     pub fn from_eight(components: Eight<UrlPatternComponentResult>) -> Self
         ensures { results_of result ≡ components }
     {
         with_fields!(Self, components)
     }
 
-    /// Returns the results of the components.
+    /// Returns the results of the components, by value.
     pub fn into_eight(self) -> Eight<UrlPatternComponentResult>
         ensures { result ≡ results_of self }
     {
@@ -115,8 +115,8 @@ impl UrlPatternResult {
         field_of!(self, component)
     }
 
-    /// Returns what the group of a name captured. `None`: there is no such group, or it took no
-    /// part.
+    /// Returns what the group `name` of a component captured. `None`: the component has no such
+    /// group, or the group took no part.
     pub fn get(&self, component: ComponentName, name: &str) -> Option<&str>
         ensures { option_text result
             ≡ captured_text (result_view self.now component) (chars name.now) }
@@ -144,7 +144,7 @@ impl UrlPatternResult {
     }
 }
 
-/// A copy has the same text and the same groups.
+/// A copy has an equal text and equal groups.
 impl Clone for UrlPatternComponentResult {
     ghost is_clone = { IsCopy };
 
@@ -156,7 +156,7 @@ impl Clone for UrlPatternComponentResult {
 }
 
 impl UrlPatternComponentResult {
-    /// Returns what the group of a name captured. `None`: there is no such group, or it took no
+    /// Returns what the group `name` captured. `None`: there is no such group, or the group took no
     /// part.
     pub fn get(&self, name: &str) -> Option<&str>
         ensures { option_text result
@@ -180,7 +180,7 @@ impl UrlPatternComponentResult {
         Ok(names)
     }
 
-    /// Returns the result of an empty text without groups. Does not allocate.
+    /// Returns a result with an empty text and without groups. Does not allocate.
     fn empty(alloc: Global) -> Self
         ensures { HasNoGroups result.groups }
     {
@@ -190,7 +190,8 @@ impl UrlPatternComponentResult {
         }
     }
 
-    /// Copies a text, and what the groups with these names capture of it.
+    /// Sets the text of a result without groups to a copy of `text`, and adds copies of the groups
+    /// with these names and captures, which are in one order. The last of equal names counts.
     pub(crate) fn fill(
         &mut self,
         alloc: Global,
@@ -208,7 +209,7 @@ impl UrlPatternComponentResult {
     }
 }
 
-/// Adds the groups of a component that took part.
+/// Appends to `taken` the groups of `groups` that took part: component, name and capture.
 fn add_participating<'r>(
     taken: &mut Vec<(ComponentName, &'r str, &'r str)>,
     component: ComponentName,
@@ -226,7 +227,7 @@ fn add_participating<'r>(
     Ok(())
 }
 
-/// Returns the names of groups.
+/// Returns the names of the groups, in any order.
 fn names_of(alloc: Global, groups: &Groups) -> Result<Vec<&str>, AllocError>
     ensures all { IfOk result (λ names.
         borrowed_bytes names.items ≡ map (λ name. string_bytes name) (keys groups.now)) }
@@ -239,7 +240,8 @@ fn names_of(alloc: Global, groups: &Groups) -> Result<Vec<&str>, AllocError>
     Ok(names)
 }
 
-/// Returns what the group of a name captured. `None`: there is no such group, or it took no part.
+/// Returns what the group `name` captured. `None`: there is no such group, or the group took no
+/// part.
 fn capture_of<'a>(groups: &'a Groups, name: &str) -> Option<&'a str>
     ensures { option_copied result ≡ captured_bytes (get_by_text groups.now name.now) }
 {

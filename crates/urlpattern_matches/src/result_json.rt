@@ -18,7 +18,8 @@ use urlpattern_inputs::json_writing::put_text;
 use urlpattern_syntax::Error;
 
 impl UrlPatternResult {
-    /// Returns the JSON of the result: an object with the result of each component, as an object.
+    /// Returns the JSON of the result: an object whose members, by the names of the components, are
+    /// the JSON of the components' results.
     pub fn to_json_value(&self, alloc: Global) -> Result<Value, Error>
         ensures tree { IfOk result (λ tree.
             IsResultTree (plain_results_view self.now) (view tree)) }
@@ -36,8 +37,8 @@ impl UrlPatternResult {
         Ok(Value::Object(members))
     }
 
-    /// Reads a result from JSON: an object with the result of each component. Other keys are
-    /// ignored. `None`: the JSON has another shape.
+    /// Reads a result from JSON: an object with a member for each component, by the component's
+    /// name. Other keys are ignored. `None`: the JSON has another shape.
     pub fn from_json_value(alloc: Global, value: &Value) -> Result<Option<Self>, Error>
         ensures read { IfOk result (λ found.
             option_map plain_results_view found ≡ result_read (view value.now)) }
@@ -52,7 +53,7 @@ impl UrlPatternResult {
 }
 
 impl UrlPatternCaptures<'_, '_> {
-    /// Returns the JSON of the match, which is that of the result that `to_result` returns.
+    /// Returns the JSON of the match: the JSON of the result that `to_result` returns.
     pub fn to_json_value(&self, alloc: Global) -> Result<Value, Error>
         ensures tree { IfOk result (λ tree. IsTreeOfCaptures self.now (view tree)) }
         ensures memory { OnlyOutOfMemory result }
@@ -92,6 +93,8 @@ impl UrlPatternComponentResult {
         read_or_none(Self::read(alloc, value))
     }
 
+    /// Reads a result from JSON, as `from_json_value` does. The error `Shape` says that the JSON
+    /// has another shape.
     #[tactic(auto, unfolding(crate::specs::ResultJson::component_result_read))]
     fn read(alloc: Global, value: &Value) -> Result<Self, Unread>
         ensures { ReturnsRead plain_result_view result (component_result_read (view value.now)) }
@@ -102,7 +105,7 @@ impl UrlPatternComponentResult {
     }
 }
 
-/// Adds the result of a component to an object.
+/// Adds a member to an object: the JSON of a component's result, at the key `name`.
 fn put_component(
     members: &mut Map<String, Value>,
     alloc: Global,
@@ -117,7 +120,7 @@ fn put_component(
     Ok(serde_json::put(members, alloc, name, tree)?)
 }
 
-/// Reads the result of a component from a member.
+/// Reads the result of a component from the member `name` of the object `tree`.
 fn component_field(
     alloc: Global,
     tree: &Value,
@@ -129,7 +132,8 @@ fn component_field(
     UrlPatternComponentResult::read(alloc, member(tree, name)?)
 }
 
-/// Returns an object with the capture of each group.
+/// Returns a JSON object with a member for each group: the capture, or null if the group took no
+/// part.
 fn groups_tree(alloc: Global, groups: &Groups) -> Result<Value, AllocError>
     ensures { IfOk result (λ tree. groups_read (view tree) ≡ Some (groups_by_name groups.now)) }
 {
@@ -140,7 +144,7 @@ fn groups_tree(alloc: Global, groups: &Groups) -> Result<Value, AllocError>
     Ok(Value::Object(members))
 }
 
-/// Returns a capture as a text, or as null if the group took no part.
+/// Returns a capture as a JSON text, or as null if the group took no part.
 fn captured_tree(alloc: Global, capture: &Option<String>) -> Result<Value, AllocError>
     ensures { IfOk result (λ tree.
         captured_read (view tree) ≡ Some (option_map string_bytes capture.now)) }
@@ -151,14 +155,14 @@ fn captured_tree(alloc: Global, capture: &Option<String>) -> Result<Value, Alloc
     }
 }
 
-/// Reads groups from a member.
+/// Reads groups from the member `name` of the object `tree`.
 fn groups_field(alloc: Global, tree: &Value, name: &str) -> Result<Groups, Unread>
     ensures { ReturnsRead groups_by_name result (member_read groups_read name.now (view tree.now)) }
 {
     read_groups(alloc, member(tree, name)?)
 }
 
-/// Reads groups from an object whose members are texts and nulls.
+/// Reads groups from a JSON object: each member is a capture, or null if the group took no part.
 #[tactic(auto, unfolding(crate::specs::ResultJson::groups_read))]
 fn read_groups(alloc: Global, tree: &Value) -> Result<Groups, Unread>
     ensures { ReturnsRead groups_by_name result (groups_read (view tree.now)) }
@@ -169,7 +173,7 @@ fn read_groups(alloc: Global, tree: &Value) -> Result<Groups, Unread>
     }
 }
 
-/// Reads groups from members, which have to be texts and nulls.
+/// Reads groups from the members of an object: each has to be a text, the capture, or null.
 fn groups_of_members(alloc: Global, members: &Map<String, Value>) -> Result<Groups, Unread>
     ensures { ReturnsRead groups_by_name result
         (groups_of_members (members_view members.now.entries)) }
@@ -181,7 +185,8 @@ fn groups_of_members(alloc: Global, members: &Map<String, Value>) -> Result<Grou
     Ok(groups)
 }
 
-/// Reads a capture from a text, or from null: the group took no part.
+/// Reads a capture from a JSON text, or from null, where `None` is returned: the group took no
+/// part.
 fn read_capture(alloc: Global, tree: &Value) -> Result<Option<String>, Unread>
     ensures { ReturnsRead (option_map string_bytes) result (captured_read (view tree.now)) }
 {

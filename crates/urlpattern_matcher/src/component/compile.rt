@@ -21,16 +21,17 @@ use urlpattern_syntax::error::{Error, RegExpError};
 impl<R: RegExp> Component<R> {
     /// Compiles the component of a pattern text, or of an asterisk if there is none.
     ///
-    /// Each fixed text, prefix and suffix of the pattern is encoded by the callback. An expression
+    /// `encoding_callback` encodes each fixed text, prefix and suffix of the pattern. An expression
     /// that the engine rejects is kept in the component as an error. If the pattern has a custom
     /// regular expression, an engine of ECMAScript's syntax has to compile the expression at once.
     ///
     /// If the pattern has no custom regular expression and case is kept, the component's matcher
-    /// returns what the parts of the pattern mean, provided that an engine that it calls follows
-    /// its regular expression.
+    /// returns what the parts *mean*, for texts without line feeds: captures with which the parts
+    /// can match the text, one after the other, or `None` if they cannot. An engine that the
+    /// matcher calls has to follow its regular expression.
     ///
-    /// The error is that of the pattern text, which may be the callback's own, or that memory ran
-    /// out.
+    /// The error is that the pattern text is rejected, which may be an error of the callback, or
+    /// that memory ran out.
     ///
     /// <https://urlpattern.spec.whatwg.org/#compile-a-component>
     pub fn compile<F: Fn(&str) -> Result<String, Error> + Drop>(
@@ -60,8 +61,8 @@ impl<R: RegExp> Component<R> {
 
     /// Compiles a component as `compile` does, and returns it with the parts that it was made of.
     ///
-    /// The error is that of the pattern text, which may be the callback's own, or that memory ran
-    /// out.
+    /// The error is that the pattern text is rejected, which may be an error of the callback, or
+    /// that memory ran out.
     ///
     /// <https://urlpattern.spec.whatwg.org/#compile-a-component>
     pub fn compile_with_parts<F: Fn(&str) -> Result<String, Error> + Drop>(
@@ -83,7 +84,8 @@ impl<R: RegExp> Component<R> {
         Ok(ComponentWithParts { component, kept })
     }
 
-    /// Makes the component of a list of parts.
+    /// Makes the component of `part_list`: pattern string, regular expression, group names and
+    /// matcher.
     fn from_parts(alloc: Global, part_list: &[Part], options: &Options) -> Result<Self, Error>
         ensures made { IfOk result (λ made.
             IsComponentOf R.RegExp (options_view options.now) (parts_view part_list.now)
@@ -105,14 +107,14 @@ impl<R: RegExp> Component<R> {
     }
 }
 
-/// Returns the flags for an engine.
+/// Returns the flags for an engine: `u`, and `i` if case is ignored.
 fn engine_flags(options: &Options) -> &'static str
     ensures { chars result.now ≡ engine_flags (options_view options.now) }
 {
     if options.ignore_case { "ui" } else { "u" }
 }
 
-/// Whether a custom regular expression is among the parts.
+/// Whether a part of `part_list` is a custom regular expression.
 fn has_regexp(part_list: &[Part]) -> bool
     ensures { result ≡ has_regexp (parts_view part_list.now) }
 {
@@ -121,8 +123,9 @@ fn has_regexp(part_list: &[Part]) -> bool
         .any(|part| matches!(part.kind, PartType::Regexp))
 }
 
-/// Compiles the regular expression of parts. If the text has a custom expression, an engine of
-/// ECMAScript's syntax that accepts it is called again, with `force_eval`.
+/// Compiles `regexp`, the regular expression of a whole component. `has_regexp_group` says that the
+/// component has a custom expression; an engine of ECMAScript's syntax that accepts `regexp` is
+/// then called again, with `force_eval`. The inner error is that the engine rejects `regexp`.
 fn engine_of<R: RegExp>(
     alloc: Global,
     regexp: String,
@@ -144,7 +147,8 @@ fn engine_of<R: RegExp>(
     kept_engine(alloc, regexp, flags, false, !has_regexp_group)
 }
 
-/// Compiles a text to a value that is kept. The inner error is that the engine rejects the text.
+/// Compiles `regexp` by `RegExp::parse_to_keep`. The inner error is that the engine rejects
+/// `regexp`.
 fn kept_engine<R: RegExp>(
     alloc: Global,
     regexp: String,

@@ -10,12 +10,12 @@ use urlpattern_printing::generate_pattern_string;
 use urlpattern_syntax::Error;
 use urlpattern_syntax::parser::{Options, Part};
 
-/// Returns the parts that the pattern string of a list of parts reads as.
+/// Returns the normal form of a list of parts: the parts that its pattern string is parsed to.
 ///
-/// Parts that mean the same may be cut in several ways, such as `a{}?b` and `ab`. Their normal form
-/// is what their pattern string reads as. The normal form of printable parts, such as those that
-/// were read under the standard's options, is these parts with adjacent plain fixed texts joined,
-/// if the callback returns each of their texts unchanged, or an error. The error is then one of the
+/// Parts that match alike may be cut in several ways: `a{}?b` is parsed to two fixed texts, and
+/// `ab` to one. The normal form of printable parts, such as those that were parsed under the
+/// standard's options, is these parts with adjacent fixed texts without modifier joined, if the
+/// callback returns each of their texts unchanged, or an error. The error is then one of the
 /// callback's, or that memory ran out.
 pub fn normalize_part_list<F: Fn(&str) -> Result<String, Error> + Drop>(
     alloc: Global,

@@ -9,12 +9,12 @@ ghost use Rattle.urlpattern_meaning.specs.Matching.{Returns, CallsEngine};
 use super::{InnerMatcher, Matcher};
 use crate::regexp::RegExp;
 
-/// What a matcher sees in a text before an engine is called.
+/// The result of matching a text as far as possible without an engine.
 #[derive(Drop)]
 pub enum Look<'m, 'a, R> {
     /// The text matches, and there are no groups.
     Matched,
-    /// The text matches, and the only group captures this.
+    /// The text matches, and the only group captures this slice of the text.
     Captured(&'a str),
     /// The text matches if an engine matches the text between prefix and suffix.
     Asks {
@@ -26,9 +26,9 @@ pub enum Look<'m, 'a, R> {
 }
 
 impl<R: RegExp> Matcher<R> {
-    /// Looks at a text, without allocating or calling an engine. `None`: the text does not match.
-    /// `Asks` is returned only for a text that has prefix and suffix, by a matcher with an engine
-    /// between them.
+    /// Matches `input` as far as possible without an engine, and without allocating. `None`:
+    /// `input` does not match. `Asks` is returned only if `input` has the prefix and the suffix,
+    /// and an engine is between them.
     pub fn look<'m, 'a>(&'m self, input: &'a str) -> Option<Look<'m, 'a, R>>
         ensures answer { Returns R.answer (matcher_view self.now) (chars input.now)
             (look_result R.answer result) }

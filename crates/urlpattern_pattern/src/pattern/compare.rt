@@ -46,12 +46,14 @@ impl From<AllocError> for CompareError {
 }
 
 impl<R: RegExp> UrlPattern<R> {
-    /// Returns whether this pattern covers `asked`: whether its parts match every eight texts that
-    /// the parts of `asked` match. Texts with a line feed are left out.
+    /// Returns whether this pattern covers `asked`: whether this pattern's parts match each
+    /// combination of eight texts, one for each component, that the parts of `asked` match. Texts
+    /// with a line feed are left out.
     ///
-    /// The comparison is that of `PatternParts::covers`.
+    /// Compares the parts of the two patterns as `PatternParts::covers` does.
     ///
-    /// The error is that a pattern has no parts, or that memory ran out.
+    /// The error is that a pattern was put together by hand and has no parts, or that memory ran
+    /// out.
     pub fn covers(&self, alloc: Global, asked: &Self) -> Result<PatternCovering, CompareError>
         ensures covering { IfOk result (λ covering. OfBoth self.now asked.now (λ parts others.
             IsPatternCovering parts others covering)) }
@@ -61,12 +63,13 @@ impl<R: RegExp> UrlPattern<R> {
         Ok(parts.covers(alloc, others)?)
     }
 
-    /// Returns whether this pattern and `other` overlap: whether the parts of both match some eight
-    /// texts without line feeds, and which.
+    /// Returns whether this pattern and `other` overlap: whether eight texts without line feeds,
+    /// one for each component, exist that the parts of both patterns match, and which.
     ///
-    /// The comparison is that of `PatternParts::overlaps`.
+    /// Compares the parts of the two patterns as `PatternParts::overlaps` does.
     ///
-    /// The error is that a pattern has no parts, or that memory ran out.
+    /// The error is that a pattern was put together by hand and has no parts, or that memory ran
+    /// out.
     pub fn overlaps(&self, alloc: Global, other: &Self) -> Result<PatternOverlap, CompareError>
         ensures overlap { IfOk result (λ overlap. OfBoth self.now other.now (λ parts others.
             IsPatternOverlap parts others overlap)) }
@@ -76,11 +79,12 @@ impl<R: RegExp> UrlPattern<R> {
         Ok(parts.overlaps(alloc, others)?)
     }
 
-    /// Compares one component of two patterns: the more specific is the greater.
+    /// Compares the component `component` of two patterns, by its parts: the pattern with the more
+    /// specific parts is the greater.
     ///
-    /// The comparison is that of `compare_parts`, and does not allocate.
+    /// Compares the two lists of parts as `compare_parts` does, and does not allocate.
     ///
-    /// The error is that a pattern has no parts.
+    /// The error is `NoParts`: a pattern was put together by hand.
     pub fn compare_component(
         component: ComponentName,
         left: &Self,
@@ -99,9 +103,9 @@ impl<R: RegExp> UrlPattern<R> {
         }
     }
 
-    /// Returns the parts of both patterns.
+    /// Returns the parts of this pattern and those of `other`.
     ///
-    /// The error is that a pattern has no parts.
+    /// The error is `NoParts`: a pattern was put together by hand.
     fn both_parts<'p>(
         &'p self,
         other: &'p Self,
