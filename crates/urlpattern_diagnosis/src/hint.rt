@@ -59,7 +59,7 @@ pub(crate) enum Hint {
 }
 
 impl Hint {
-    /// The character of the hint, if it has one.
+    /// Returns the character of the hint, if it has one.
     pub(crate) fn sign(self) -> Option<char> {
         match self {
             Hint::ClosedBy(sign)
@@ -70,7 +70,8 @@ impl Hint {
         }
     }
 
-    /// The hint for a text with this fault, which is no URL.
+    /// Returns the hint for a text that is rejected as a whole: whether `fault` is at a missing or
+    /// mistyped colon.
     pub(crate) fn of_url(text: &str, fault: Fault) -> Self {
         if fault == Fault::whole(text) {
             Hint::Nothing
@@ -79,7 +80,8 @@ impl Hint {
         }
     }
 
-    /// The hint for the fault of a pattern that is at a place in a text.
+    /// Returns the hint for `fault`, a fault of the pattern `part`, which is at `place` in `text`,
+    /// if the text has it.
     pub(crate) fn of_part(
         error: &Error,
         subject: Subject,
@@ -112,7 +114,7 @@ impl Hint {
     }
 }
 
-/// The hint for a colon that no name follows, right before a place.
+/// Returns the hint for a colon that no name follows; `place` is where the part at fault ends.
 fn colon_hint(subject: Subject, part: &str, place: usize) -> Hint {
     match subject {
         Subject::Component(ComponentName::Hostname) if is_in_class(part, 0, place) => {
@@ -125,7 +127,8 @@ fn colon_hint(subject: Subject, part: &str, place: usize) -> Hint {
     }
 }
 
-/// The hint for a colon that no name follows, by the byte that does.
+/// Returns the hint for a colon that no name follows, by the byte after the colon; `None`: the text
+/// ends there.
 pub(crate) fn next_hint(next: Option<&u8>) -> Hint {
     match next {
         Some(b'\\' | b'[' | b'(') => Hint::Expression,
@@ -147,7 +150,7 @@ pub(crate) fn next_hint(next: Option<&u8>) -> Hint {
     }
 }
 
-/// The hint for a group that begins within a group: whether the two braces are adjacent.
+/// Returns the hint for a group that begins within a group: whether the two braces are adjacent.
 fn brace_hint(fault: Fault) -> Hint {
     match fault.earlier {
         Some(open) if open.end == fault.span.start => Hint::Repeated,
@@ -155,8 +158,8 @@ fn brace_hint(fault: Fault) -> Hint {
     }
 }
 
-/// The hint for a parenthesis that begins no custom expression. `search` is the place in the text
-/// of the `?` after the pattern.
+/// Returns the hint for a parenthesis that does not begin a custom expression. `search` is the
+/// place in `text` of the `?` right after the pattern `part`, if there is one.
 fn expression_hint(
     reason: RegexFault,
     text: &str,
@@ -182,7 +185,7 @@ fn expression_hint(
     }
 }
 
-/// The hint for a `?` at a place after a `(`: what it is meant for.
+/// Returns the hint for a `?` at a place, after a `(`: what it is meant for, by the bytes after it.
 fn question_hint(text: &str, place: usize) -> Hint {
     let bytes = text.as_bytes();
     let next = bytes.get(place.saturating_add(1));
@@ -194,7 +197,8 @@ fn question_hint(text: &str, place: usize) -> Hint {
     }
 }
 
-/// The hint for a character that is not ASCII: full-width, in a class, or repeated.
+/// Returns the hint for a character of a custom expression that is not ASCII: full-width, in a
+/// class, or repeated.
 fn letter_hint(part: &str, fault: Fault) -> Hint {
     let letter = part.get(fault.span.start..fault.span.end).unwrap_or("");
     if let Some(sign) = ascii_form_of(letter) {
@@ -207,7 +211,7 @@ fn letter_hint(part: &str, fault: Fault) -> Hint {
     }
 }
 
-/// The hint for a name that occurs twice.
+/// Returns the hint for a name that occurs twice: whether `-` or `^` ends the first or the second.
 fn name_hint(part: &str, fault: Fault) -> Hint {
     let first = fault.earlier.unwrap_or(fault.span);
     match sign_at(part, first.end).or(sign_at(part, fault.span.end)) {
@@ -216,7 +220,8 @@ fn name_hint(part: &str, fault: Fault) -> Hint {
     }
 }
 
-/// The hint for a modifier, perhaps within a group, that follows nothing that it could repeat.
+/// Returns the hint for a modifier that follows nothing that it could repeat. `is_in_group` says
+/// whether the modifier is within a group.
 fn modifier_hint(part: &str, fault: Fault, is_in_group: bool) -> Hint {
     let place = fault.span.start;
     if !is_in_group && is_after_modifier(part, place) {
@@ -250,7 +255,8 @@ fn modifier_hint(part: &str, fault: Fault, is_in_group: bool) -> Hint {
     }
 }
 
-/// The hint for a modifier at a place with no expression before it.
+/// Returns the hint for a misplaced modifier, by what is before it: a class with a `)`, a
+/// full-width mark, or a regular expression without parentheses; or by an unclosed group after it.
 fn unread_hint(part: &str, place: usize) -> Hint {
     if has_cut_class(part, part.find('(').unwrap_or(place), place) {
         return Hint::Brackets;
@@ -263,13 +269,14 @@ fn unread_hint(part: &str, place: usize) -> Hint {
     }
 }
 
-/// The whole expression that an engine rejects: the part at fault, or the earlier part if the fault
-/// is a place in it.
+/// Returns the span of the whole expression that an engine rejects: the part at fault, or the
+/// earlier part if the fault is a place in it.
 fn outer(fault: Fault) -> Span {
     fault.earlier.unwrap_or(fault.span)
 }
 
-/// The place of a `?` right after a part of a text, if there is one.
+/// Returns the place of a `?` right after the pattern `part`, which is at `place` in `text`.
+/// `None`: another character follows, or the text lacks the pattern.
 fn search_after(text: &str, part: &str, place: Option<PatternOffset>) -> Option<usize> {
     let PatternOffset { start, lead } = place?;
     let end = start.saturating_add(part.len().saturating_sub(lead));

@@ -104,7 +104,7 @@ up_to_last_slash [] = []
 up_to_last_slash (c ∷ path) = if list_any is_slash (c ∷ path) then c ∷ up_to_last_slash path else []
 
 -- What is put before the pathname `text`: if it is relative, the path of `base` up to its last
--- slash, unless that path is opaque; else nothing.
+-- slash, escaped for a pattern, unless that path is opaque; else nothing.
 abbrev pub path_prefix : ProcessType → Option Parts → List ℕ → List ℕ
 path_prefix mode None text = []
 path_prefix mode (Some base) text =
