@@ -113,7 +113,8 @@ settings_of asked values hierarchical component =
     let rules = rules_of asked values hierarchical component in
     record { text = pattern_of values component; options = rules.0; canonical = rules.1 }
 
--- The encoding of fixed texts by `canonical`.
+-- The encoding of fixed texts by `canonical`: a text results in its canonical form, in the error of
+-- `url`, or in out of memory.
 abbrev pub canonical_encoding : (List ℕ → Parsed (List ℕ)) → Encoding
 canonical_encoding canonical =
     encoding_of (λ bytes returned. IsResult (canonical (chars bytes)) (length bytes) returned)
@@ -210,8 +211,8 @@ FirstRejected {E} engine settings (component ∷ components) error =
     ⊎ (((compiled : ComponentView E) × IsComponentCompiled engine (settings component) compiled)
     × FirstRejected engine settings components error)
 
--- The protocol of `values` is accepted, and `error` is that of the first component after it that is
--- rejected.
+-- The protocol of `values` is accepted, and the first component after it that is rejected has the
+-- error `error`.
 pub record RejectsAfterProtocol {E : Type 0} (engine : Engine E) (asked : UrlPatternOptions)
     (values : Values) (error : ErrorView) : Type 0 where
   pub protocol : ComponentView E
@@ -221,7 +222,7 @@ pub record RejectsAfterProtocol {E : Type 0} (engine : Engine E) (asked : UrlPat
   pub path_kind : IsPathKind engine.answer values protocol.matcher hierarchical
   pub refused : FirstRejected engine (settings_of asked values hierarchical) after_protocol error
 
--- `values` are rejected under the options `asked` with `error`, that of the first rejected
+-- `values` are rejected under the options `asked` with `error`, the error of the first rejected
 -- component in the order of compilation.
 abbrev pub RejectsValues : {E : Type 0} → Engine E → UrlPatternOptions → Values → ErrorView → Type 0
 RejectsValues engine asked values error =

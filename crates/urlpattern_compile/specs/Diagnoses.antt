@@ -91,15 +91,14 @@ IfRejected result Is = IfOk result (λ found. IfSome found Is)
 abbrev pub HasErrorOf : (Refuses : ErrorView → Type 0) → Diagnosis → Type 0
 HasErrorOf Refuses diagnosis = Refuses (error_view diagnosis.error)
 
--- The error is that of `url` or of an engine, and the fault is within the pattern.
+-- `url` or an engine reported the error, and the fault is within the pattern.
 abbrev pub IsPartOfRejected : (pattern : List ℕ) → Error → Fault → Type 0
 IsPartOfRejected pattern (errors.Url reason) fault = IsFaultIn pattern fault
 IsPartOfRejected pattern (errors.RegExp reason) fault = IsFaultIn pattern fault
 IsPartOfRejected pattern other fault = ⊥
 
--- The fault of the diagnosis is that of the component's `pattern`, parsed with the prefix code
--- point `point`, and moved to where the text of the diagnosis has the pattern, or else to the whole
--- text.
+-- The diagnosis has the fault of the component's `pattern`, parsed with the prefix code point
+-- `point`, and moved to where the text of the diagnosis has the pattern, or else to the whole text.
 abbrev pub ShowsFault : ComponentName → (pattern point : List ℕ) → Diagnosis → Type 0
 ShowsFault component pattern point diagnosis =
     (fault : Fault)
@@ -112,8 +111,8 @@ ShowsFault component pattern point diagnosis =
 abbrev pub ShowsAll : Diagnosis → Type 0
 ShowsAll diagnosis = IsUrlFault (string_bytes diagnosis.text) diagnosis.fault
 
--- The fault of the diagnosis is that of the component's pattern, parsed as `settings` say, as
--- `ShowsFault` has it.
+-- The diagnosis has the fault of the component's pattern, parsed as `settings` say, in its text, as
+-- in `ShowsFault`.
 abbrev pub ShowsPattern : ComponentName → ParseSettings → Diagnosis → Type 0
 ShowsPattern component settings diagnosis =
     (pattern : List ℕ) × (chars pattern ≡ settings.text)

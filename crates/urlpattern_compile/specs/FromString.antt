@@ -30,7 +30,7 @@ RejectsSplit text base error =
     (url : Option Parts) × (parsed_base base ≡ Ok url) × RejectsString text url error
 
 -- The constructor string `text` with the base URL `base` is not parsed to an init, but rejected
--- with `error`: that of the base URL, or that of the string when it is split.
+-- with `error`: `url` rejects the base URL, or the string is rejected when it is split.
 abbrev pub RejectsText : (text : List ℕ) → (base : Option (List ℕ)) → ErrorView → Type 0
 RejectsText text base error =
     Reports (parsed_base base) (text_bytes base) error ⊎ RejectsSplit text base error

@@ -34,9 +34,10 @@ use urlpattern_syntax::{Error, RegexSyntax};
 /// Compiles the eight components of a pattern from an init: from the texts that it has, and from
 /// those that it inherits from its base URL.
 ///
-/// The error is that of the first rejected component, or `OutOfMemory`. The protocol is compiled
-/// first, then the hostname and the pathname, then the others in the order of a URL. A component is
-/// rejected for its syntax, by `url` for a fixed text, or by the engine for a regular expression.
+/// Fails with the error of the first rejected component, or with `OutOfMemory`. The protocol is
+/// compiled first, then the hostname and the pathname, then the others in the order of a URL. A
+/// component is rejected for its syntax, by `url` for a fixed text, or by the engine for a regular
+/// expression.
 ///
 /// `known` is the text of a protocol and its component, if they were compiled already to split a
 /// constructor string. The component is reused if the init's processed protocol is that text, the
@@ -63,7 +64,7 @@ pub fn compile_init<R: RegExp>(
 
 /// Compiles the processed values of an init to components; `known` is as in `compile_init`.
 ///
-/// The error is that of the first rejected component, or `OutOfMemory`.
+/// Fails with the error of the first rejected component, or with `OutOfMemory`.
 fn compile_values<R: RegExp>(
     alloc: Global,
     values: &UrlPatternInit,
@@ -154,8 +155,8 @@ pub fn pattern_of(values: &UrlPatternInit, component: ComponentName) -> Option<&
 /// Compiles a pattern text, or `*` for `None`, to a component with its parts. `encoding_callback`
 /// makes a fixed text canonical.
 ///
-/// The error is that of the rejected text, `RegExp` if the engine rejects the regular expression of
-/// the whole component or of its matcher, or `OutOfMemory`.
+/// Fails with the error of a rejected text, with `RegExp` if the engine rejects the regular
+/// expression of the whole component or of its matcher, or with `OutOfMemory`.
 #[inline(always)]
 fn compile_component<R: RegExp, F: Fn(&str) -> Result<String, Error> + Drop>(
     alloc: Global,
@@ -221,7 +222,7 @@ impl Compiler<'_> {
     /// Compiles the components, the protocol first, since it decides whether the pathname is
     /// hierarchical; `known` is as in `compile_init`.
     ///
-    /// The error is that of the first rejected component, or `OutOfMemory`.
+    /// Fails with the error of the first rejected component, or with `OutOfMemory`.
     pub(crate) fn components<R: RegExp>(
         &self,
         known: Option<(&str, ComponentWithParts<R>)>,
@@ -240,7 +241,7 @@ impl Compiler<'_> {
     /// Compiles the protocol, or returns the component of `known` if it was compiled from the
     /// protocol's text under equal options, and the engine accepted its regular expressions.
     ///
-    /// The error is that of a rejected text or regular expression, or `OutOfMemory`.
+    /// Fails with the error of a rejected text or regular expression, or with `OutOfMemory`.
     fn protocol<R: RegExp>(
         &self,
         known: Option<(&str, ComponentWithParts<R>)>,
@@ -269,7 +270,7 @@ impl Compiler<'_> {
     /// Compiles the components after the protocol, and returns them with `protocol`. `hierarchical`
     /// says whether the pathname is hierarchical.
     ///
-    /// The error is that of the first rejected component, or `OutOfMemory`.
+    /// Fails with the error of the first rejected component, or with `OutOfMemory`.
     fn after_protocol<R: RegExp>(
         &self,
         protocol: ComponentWithParts<R>,
@@ -298,7 +299,7 @@ impl Compiler<'_> {
     /// Compiles a component of the pattern. `hierarchical` says whether the pathname is
     /// hierarchical.
     ///
-    /// The error is that of a rejected text or regular expression, or `OutOfMemory`.
+    /// Fails with the error of a rejected text or regular expression, or with `OutOfMemory`.
     pub(crate) fn component<R: RegExp>(
         &self,
         component: ComponentName,
@@ -346,7 +347,7 @@ impl Compiler<'_> {
     /// Returns the canonical form of a fixed text in a component's pattern. A text of the pathname
     /// is part of a path with segments if `hierarchical`, and of an opaque path otherwise.
     ///
-    /// The error is that of `url`, or `OutOfMemory`.
+    /// Fails with the error of `url`, or with `OutOfMemory`.
     pub fn canonical(
         &self,
         component: ComponentName,
@@ -374,7 +375,7 @@ impl Compiler<'_> {
     /// Returns the canonical form of a fixed text in the hostname's pattern, which may be that of
     /// an IPv6 address.
     ///
-    /// The error is that of `url`, or `OutOfMemory`.
+    /// Fails with the error of `url`, or with `OutOfMemory`.
     fn canonical_in_hostname(&self, text: &str) -> Result<String, Error>
         ensures { IsResult (canonical_in_hostname (unwrap_or (compiled_values self.now).hostname [])
             (chars text.now)) (length text.now) result }

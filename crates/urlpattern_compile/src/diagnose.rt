@@ -68,8 +68,9 @@ pub fn diagnose_text<R: RegExp>(
 
 /// Diagnoses an init. `None`: the init is accepted.
 ///
-/// The text of the diagnosis is the value of the rejected component. If the init is rejected, its
-/// components are compiled again to find the one at fault.
+/// The text of the diagnosis is the value of the rejected component, or its pattern if the init
+/// lacks the component. If the init is rejected, its components are compiled again to find the one
+/// at fault.
 pub fn diagnose_init<R: RegExp>(
     alloc: Global,
     init: &UrlPatternInit,

@@ -31,18 +31,18 @@ marks_len EscapedChar = 1
 marks_len Regexp = 2
 marks_len kind = 0
 
--- `span` is that of the token in the text `bytes`, with the signs that are not part of its value.
+-- `span` is where the text `bytes` has the token, with the signs that are not part of its value.
 abbrev pub IsSpanOfToken : (bytes : List ℕ) → Token → Span → Type 0
 IsSpanOfToken bytes token span =
     IsSpanAt bytes token.index (length token.value.now + marks_len token.kind) span
 
--- `span` is that of the custom expression `token` in the text `bytes`, without its parentheses.
+-- `span` is where the text `bytes` has the custom expression `token`, without its parentheses.
 abbrev pub IsSpanOfBody : (bytes : List ℕ) → Token → Span → Type 0
 IsSpanOfBody bytes token span = IsSpanAt bytes (token.index + 1) (length token.value.now) span
 
 -- ---- faults
 
--- The spans of the fault are within the text.
+-- The spans of the fault are within the text, and cut no character.
 abbrev pub IsFaultIn : (bytes : List ℕ) → Fault → Type 0
 IsFaultIn bytes fault = IsSpanIn bytes fault.span × IfSome fault.earlier (IsSpanIn bytes)
 
@@ -146,8 +146,8 @@ abbrev pub first_place : Option ℕ → ℕ → ℕ
 first_place None place = place
 first_place (Some other) place = min other place
 
--- The fault is that of a text where no name follows the colon at `place`: the colon, or in a
--- hostname an unclosed `[` before it.
+-- `fault` is the part at fault in a text where no name follows the colon at `place`: the colon, or
+-- in a hostname an unclosed `[` before it.
 abbrev pub IsNameFault : Option ComponentName → (bytes : List ℕ) → (place : ℕ) → Fault → Type 0
 IsNameFault component bytes place fault =
     MatchBool (is_of_hostname component)
@@ -155,8 +155,9 @@ IsNameFault component bytes place fault =
     × IsSingleSpan (IsSpanAt bytes (first_place bracket place) 1) fault)
     (IsSingleSpan (IsSpanAt bytes place 1) fault)
 
--- `fault` is that of a text in which no token begins at `place`, where `left` begins: by the
--- reason, the backslash at the end, the colon without a name, or the fault of a custom expression.
+-- `fault` is the part at fault in a text in which no token begins at `place`, where `left` begins:
+-- by the reason, the backslash at the end, the colon without a name, or what is at fault in a
+-- custom expression.
 abbrev pub IsTokenFault : Option ComponentName → (bytes : List ℕ) → (place : ℕ)
     → (left : List ℕ) → FaultView → Fault → Type 0
 IsTokenFault component bytes place left IncompleteEscapeCode fault =
@@ -196,8 +197,8 @@ IsWithStop bytes point place alone fault =
     × MatchOption alone.earlier (IsStopBefore bytes point place fault.earlier)
     (λ span. fault.earlier ≡ Some span)
 
--- `fault` is that of a text in which `place` is the first at which no token begins, for the reason
--- `reported`; an earlier token that is at fault too is its earlier part.
+-- `fault` is the part at fault in a text in which `place` is the first at which no token begins,
+-- for the reason `reported`; an earlier token that is at fault too is its earlier part.
 abbrev pub IsFirstFault : Option ComponentName → (bytes point : List ℕ) → FaultView
     → (place : ℕ) → Fault → Type 0
 IsFirstFault component bytes point reported place fault =
@@ -230,8 +231,9 @@ IsSecondFault bytes (first ∷ second ∷ more) fault =
     IsSpanOfToken bytes second fault.span × IsSomeAnd fault.earlier (IsSpanOfToken bytes first)
 IsSecondFault bytes tokens fault = IsWholeFault bytes fault
 
--- `fault` is that of a text that consists of tokens, whose pieces end at `stop`, and which the
--- parser rejects with this error: the token at the stop, or the second of two equal names.
+-- `fault` is the part at fault in a text that consists of tokens, whose pieces end at `stop`, and
+-- which the parser rejects with this error: the token at the stop, or the second of two equal
+-- names.
 abbrev pub IsParserFault : (bytes : List ℕ) → Stop → ParserError → Fault → Type 0
 IsParserFault bytes stop (parser_errors.ExpectedToken expected found value) fault =
     IsStopFault bytes stop fault
@@ -239,18 +241,18 @@ IsParserFault bytes stop (parser_errors.DuplicateName name) fault =
     (tokens : List Token) × AreTokens (chars bytes) (map token_view tokens)
     × IsSecondFault bytes (filter (gives_name (string_bytes name)) tokens) fault
 
--- `fault` is that of a text that consists of tokens, by the error with which the text is rejected
--- under the prefix code point `point`: as `IsParserFault` says, or the whole text if the error is
--- not the parser's.
+-- `fault` is the part at fault in a text that consists of tokens and is rejected with this error
+-- under the prefix code point `point`: as in `IsParserFault`, or the whole text if the parser did
+-- not report the error.
 abbrev pub IsFaultOfError : (bytes point : List ℕ) → Error → Fault → Type 0
 IsFaultOfError bytes point (errors.Parser error) fault =
     (stop : Stop) × IsStopOf (chars bytes) point (token_view stop.first) (token_view stop.found)
     × IsParserFault bytes stop error fault
 IsFaultOfError bytes point other fault = IsWholeFault bytes fault
 
--- `fault` is that of a text, the pattern of a component: at the first place at which no token
--- begins, or, if the text consists of tokens, by the error with which it is rejected under the
--- prefix code point `point`.
+-- `fault` is the part at fault in a text, the pattern of a component: at the first place at which
+-- no token begins, or, if the text consists of tokens, by the error with which it is rejected under
+-- the prefix code point `point`.
 abbrev pub IsFaultOf : Option ComponentName → (bytes point : List ℕ) → Error → Fault → Type 0
 IsFaultOf component bytes point error fault =
     ((reported : FaultView) × (place : ℕ) × IsFirstFault component bytes point reported place fault)

@@ -15,7 +15,7 @@ IsSpanIn bytes span =
 abbrev pub whole_span : (bytes : List ℕ) → Span
 whole_span bytes = span_between 0 (length bytes)
 
--- `span` is that of the `len` bytes from `start` on, or of the whole text if these are not whole
+-- `span` covers the `len` bytes from `start` on, or the whole text if these are not whole
 -- characters of it.
 abbrev pub IsSpanAt : (bytes : List ℕ) → (start len : ℕ) → Span → Type 0
 IsSpanAt bytes start len span =

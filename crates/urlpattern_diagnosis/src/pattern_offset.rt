@@ -39,9 +39,9 @@ impl PatternOffset {
     /// Returns the place in `text` of `part`, the processed pattern of a component whose value, of
     /// `len` bytes, begins at `start`. `None`: the text does not have it there.
     ///
-    /// A pattern that is longer than the value begins with the path of the base URL. A shorter one
-    /// lacks the sign with which the value begins, or, of a protocol, the colon with which the
-    /// value ends.
+    /// A pattern that is longer than the value begins with the path of the base URL, which the text
+    /// lacks. A shorter one is the end of the value, after its sign, or, of a protocol, its
+    /// beginning, before the colon.
     pub fn of_component(
         text: &str,
         part: &str,

@@ -113,7 +113,8 @@ impl Diagnosis {
         Ok(())
     }
 
-    /// Writes the marks under the part `shown` of the text, up to the last mark.
+    /// Writes the marks under the part `shown` of the text, up to the last mark, and a `^` after
+    /// them if none of the characters is at fault.
     fn write_marks<W: fmt::Write>(&self, shown: Span, f: &mut fmt::Formatter<W>) -> fmt::Result {
         if shown.start > 0 {
             f.write_str("   ")?;
@@ -155,7 +156,8 @@ impl Diagnosis {
         self.text.get(span.start..span.end).unwrap_or("")
     }
 
-    /// Returns the byte index after the last marked character.
+    /// Returns the byte index after the last marked character, where an empty fault counts as one
+    /// byte.
     fn last_marked(&self) -> usize {
         let end = match self.fault.earlier {
             Some(earlier) => earlier.end.max(self.fault.span.end),

@@ -14,7 +14,7 @@ use urlpattern_syntax::tokenizer::{Token, TokenType};
 /// Returns the span of the first custom expression among the tokens of a text, without its
 /// parentheses, for which the callback returns `true`. `None`: there is no such expression.
 ///
-/// The error is that of the callback.
+/// Fails if the callback does.
 pub fn rejected_expression<F: Fn(&str) -> Result<bool, OutOfMemory>>(
     text: &str,
     tokens: &[Token<'_>],
@@ -46,11 +46,11 @@ fn span_of_body(text: &str, token: Token<'_>) -> Span
     Span::at(text, token.index + 1, token.value.len())
 }
 
-/// Returns the span of the first run of characters among the tokens of a text, without the
-/// backslashes of escapes, for which the callback returns `true`. Runs are as long as possible.
-/// `None`: there is no such run.
+/// Returns the span of the first run of characters among the tokens of a text for which the
+/// callback returns `true`. Runs are as long as possible, and passed without the backslashes of
+/// escapes. `None`: there is no such run.
 ///
-/// The error is that of the callback, or of an allocation.
+/// Fails if the callback or an allocation does.
 pub fn rejected_run<F: Fn(&str) -> Result<bool, OutOfMemory>>(
     alloc: Global,
     text: &str,

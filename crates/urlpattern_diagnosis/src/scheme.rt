@@ -13,8 +13,9 @@ pub(crate) fn missing_words(sign: &str) -> &'static str {
     }
 }
 
-/// Returns why the pattern `part`, which has no protocol, needs a base URL, and what to write: a
-/// URL that has the pattern without the `^` and `$` of a regular expression.
+/// Returns why the pattern `part`, which has no protocol, is rejected without a base URL, and what
+/// to write: by what it seems to be meant as, or else a URL with the pattern, without the `^` and
+/// `$` of a regular expression.
 pub(crate) fn base_sentence(part: &str) -> Sentence<'_> {
     if let Some(words) = misread_message(part) {
         return Sentence {
@@ -120,7 +121,7 @@ fn scheme_before_name(text: &str) -> Option<&str> {
     Some(scheme)
 }
 
-/// Whether a text begins with a quote.
+/// Whether a text begins with a quotation mark.
 pub(crate) fn is_quoted(text: &str) -> bool {
     text.starts_with(['"', '\'', '`', '“', '‘', '«'])
 }

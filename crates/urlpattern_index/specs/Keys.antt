@@ -20,7 +20,7 @@ abbrev pub option_hash : Option (List ℕ) → ℕ
 option_hash (Some text) = text_hash text
 option_hash None = 0
 
--- The hashes of the segments of a path, which are separated by slashes; `hash` is that of what
+-- The hashes of the segments of a path, which are separated by slashes; `hash` is the hash of what
 -- precedes the path in its first segment.
 abbrev pub segment_hashes : (hash : ℕ) → List ℕ → List ℕ
 segment_hashes hash [] = hash ∷ []

@@ -4,7 +4,7 @@ use Rattle.std.specs.HashMap.{HashMap, get}
 use Rattle.urlpattern_index.specs.FixedTexts.{AddressTexts, FixedTexts, HasTexts}
 use Rattle.urlpattern_index.specs.Keys.{Fits, FormView, Hashes, form_key, forms_for, hashes_of}
 
--- The keys of the patterns, by number, and the forms of the keys, in groups.
+-- What an index lists: the keys of the patterns, by number, and the forms of the keys, in groups.
 pub record Listing : Type 0 where
   pub keys : List ℕ
   pub forms : List (List FormView)
@@ -17,7 +17,7 @@ numbers_of key first [] = []
 numbers_of key first (k ∷ keys) =
     if key == k then first ∷ numbers_of key (first + 1) keys else numbers_of key (first + 1) keys
 
--- The numbers of each key.
+-- For each key, the numbers of the patterns that have it.
 abbrev pub NumbersByKey : Type 0
 NumbersByKey = (key : ℕ) → List ℕ
 

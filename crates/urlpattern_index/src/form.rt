@@ -18,7 +18,7 @@ pub(crate) const DEPTH: usize = 12;
 /// paths with more segments than the form.
 pub(crate) const GROUPS: usize = 13;
 
-/// The part in a key of an arbitrary segment.
+/// The number that has a part in a key for an arbitrary segment, in place of a hash.
 const ANY: u64 = 1;
 
 /// The form of a key: which texts of an address have a part in the key.

@@ -33,8 +33,8 @@ abbrev pub AreFewTurns : (text : List ℕ) → (turns : ℕ) → Type 0
 AreFewTurns text turns =
     (tokens : List TokenView) × AreLenientTokens text tokens × (turns ≤ 2 * length tokens)
 
--- The constructor string `text` is rejected with `error`: with that of its protocol's pattern, or
--- with `BaseUrlRequired` if it has no protocol and `base_url` is None.
+-- The constructor string `text` is rejected with `error`: with the error of its protocol's pattern,
+-- or with `BaseUrlRequired` if it has no protocol and `base_url` is None.
 abbrev pub RejectsString : (text : List ℕ) → (base_url : Option Url) → ErrorView → Type 0
 RejectsString text base_url error =
     HasProtocol text (λ protocol. RejectsProtocol protocol error)

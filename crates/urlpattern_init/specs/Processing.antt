@@ -83,8 +83,8 @@ lacking_in processing component =
     option_or (inherited processing.kind.now (given_values processing) processing.init.now.base_url
     component) (missing processing.kind.now)
 
--- The error is that with which `url` rejects the component under `protocol`, of `protocol_bytes`
--- bytes, or `OutOfMemory`.
+-- `url` rejects the component with this error under `protocol`, of `protocol_bytes` bytes, or the
+-- error is `OutOfMemory`.
 abbrev pub IsFailureIn : Processing → (protocol : Option (List ℕ)) → (protocol_bytes : ℕ)
     → ComponentName → Error → Type 0
 IsFailureIn processing protocol protocol_bytes component =

@@ -31,8 +31,8 @@ impl UrlPatternInit {
     /// Splits a constructor string, the pattern of a whole URL, into the patterns of its
     /// components, and puts `base_url` beside them in the init.
     ///
-    /// The error is that with which the protocol's pattern is rejected, `BaseUrlRequired` if the
-    /// string has no protocol and `base_url` is `None`, or `OutOfMemory`.
+    /// Fails with the error of the protocol's pattern, with `BaseUrlRequired` if the string has no
+    /// protocol and `base_url` is `None`, or with `OutOfMemory`.
     ///
     /// <https://urlpattern.spec.whatwg.org/#parse-a-constructor-string>
     pub fn parse_constructor_string<R: RegExp>(
@@ -139,7 +139,7 @@ pub fn protocol_of(alloc: Global, pattern: &str) -> Result<Option<&str>, Error>
 /// If `keeps`, the second value is the text of the protocol and its compiled component. `None`:
 /// `keeps` is `false`, or the string has no protocol.
 ///
-/// The error is that with which the protocol's pattern is rejected, or `OutOfMemory`.
+/// Fails with the error of the protocol's pattern, or with `OutOfMemory`.
 fn split<'a, R: RegExp>(
     alloc: Global,
     source: &Source<'_, 'a>,

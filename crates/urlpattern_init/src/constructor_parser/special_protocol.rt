@@ -19,7 +19,7 @@ use urlpattern_syntax::Error;
 /// If `keeps`, compiles the whole component and returns it with the pattern's text. Otherwise only
 /// the matcher is made, and the second value is `None`.
 ///
-/// The error is that with which the pattern is rejected, or `OutOfMemory`.
+/// Fails with the error of the rejected pattern, or with `OutOfMemory`.
 ///
 /// <https://urlpattern.spec.whatwg.org/#compute-protocol-matches-a-special-scheme-flag>
 pub(super) fn is_special_protocol<R: RegExp>(
