@@ -212,9 +212,9 @@ pub struct Compiler<'a> {
     pub alloc: Global,
     /// The canonicalizer of fixed texts.
     pub canonicalizer: Canonicalizer,
-    /// The values.
+    /// The processed values of the init.
     pub values: &'a UrlPatternInit,
-    /// The options.
+    /// The options that the caller passed.
     pub options: &'a UrlPatternOptions,
 }
 

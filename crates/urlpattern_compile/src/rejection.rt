@@ -32,7 +32,7 @@ pub(super) struct Rejection {
     pub(super) component: ComponentName,
     /// Whether the pathname is hierarchical; `false` if the protocol is rejected.
     pub(super) hierarchical: bool,
-    /// The error.
+    /// The error with which the component is rejected.
     pub(super) error: Error,
 }
 

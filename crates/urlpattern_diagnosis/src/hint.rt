@@ -27,7 +27,8 @@ pub(crate) enum Hint {
     LookAround,
     /// A `?` follows the `(` at fault, as in a flag that ignores case.
     Flag,
-    /// The fault is in square brackets: those of an IPv6 address, or of a class.
+    /// The fault is in square brackets, those of an IPv6 address or of a class, or a `)` cuts a
+    /// class.
     Brackets,
     /// The colon after a scheme is missing, or `;` is in its place.
     Colon,
@@ -41,9 +42,10 @@ pub(crate) enum Hint {
     NameBegins(char),
     /// A name is followed by this character, which no name contains.
     NameEnds(char),
-    /// A regular expression is not in parentheses, or an expression follows a colon.
+    /// A regular expression is not in parentheses, or follows a colon.
     Expression,
-    /// The character at fault is repeated.
+    /// A modifier repeats the character at fault, or the brace at fault is right after another
+    /// brace.
     Repeated,
     /// The modifier at fault follows another modifier.
     SecondModifier,
