@@ -31,15 +31,17 @@ use urlpattern_matcher::regexp::RegExp;
 use urlpattern_parser::parser::Options;
 use urlpattern_syntax::{Error, RegexSyntax};
 
-/// Compiles the components of a pattern from an init: from its own texts, and from what they
-/// inherit from its base URL.
+/// Compiles the eight components of a pattern from an init: from the texts that it has, and from
+/// those that it inherits from its base URL.
 ///
-/// The error is that of the first rejected component, or `OutOfMemory`. The protocol is compiled
-/// first, then the hostname and the pathname, then the others in the order of a URL. A component is
-/// rejected for its syntax, by `url` for a fixed text, or by the engine for a regular expression.
+/// Fails with the error of the first rejected component, or with `OutOfMemory`. The protocol is
+/// compiled first, then the hostname and the pathname, then the others in the order of a URL. A
+/// component is rejected for its syntax, by `url` for a fixed text, or by the engine for a regular
+/// expression.
 ///
-/// `known` is the text of a protocol and its component, if a constructor string has compiled them
-/// already. The component is reused if the processed text and the options are the same.
+/// `known` is the text of a protocol and its component, if they were compiled already to split a
+/// constructor string. The component is reused if the init's processed protocol is that text, the
+/// syntax is `RegexSyntax::Rust`, and the engine accepted the component's regular expressions.
 ///
 /// <https://urlpattern.spec.whatwg.org/#url-pattern-create>
 pub fn compile_init<R: RegExp>(
@@ -60,9 +62,9 @@ pub fn compile_init<R: RegExp>(
     components
 }
 
-/// Compiles the values to components.
+/// Compiles the processed values of an init to components; `known` is as in `compile_init`.
 ///
-/// The error is that of the first rejected component, or `OutOfMemory`.
+/// Fails with the error of the first rejected component, or with `OutOfMemory`.
 fn compile_values<R: RegExp>(
     alloc: Global,
     values: &UrlPatternInit,
@@ -85,7 +87,7 @@ fn compile_values<R: RegExp>(
     compiler.components(known)
 }
 
-/// Processes an init as a pattern, and empties a default port.
+/// Processes an init as a pattern, and empties the port if it is the default of a special protocol.
 pub fn pattern_values(alloc: Global, init: &UrlPatternInit) -> Result<UrlPatternInit, Error>
     ensures ok { IfOk result (λ values. pattern_values init.now ≡ Ok (values_view values)) }
     ensures memory { OnlyOutOfMemory result }
@@ -94,7 +96,7 @@ pub fn pattern_values(alloc: Global, init: &UrlPatternInit) -> Result<UrlPattern
     Ok(without_default_port(alloc, values))
 }
 
-/// Returns the values, with a default port emptied.
+/// Returns the values, with an empty port if the port is the default of a special protocol.
 fn without_default_port(alloc: Global, mut values: UrlPatternInit) -> UrlPatternInit
     ensures { values_view result ≡ without_default_port (values_view values) }
 {
@@ -104,7 +106,7 @@ fn without_default_port(alloc: Global, mut values: UrlPatternInit) -> UrlPattern
     values
 }
 
-/// Whether a port equals the default, or both are missing.
+/// Whether `port` equals `default`, or both are `None`.
 fn is_port(port: &Option<String>, default: Option<&str>) -> bool
     requires { IfSome (option_copied default) IsAscii }
     ensures { result ≡ is_same (option_map text_of port.now) (option_copied default.entry) }
@@ -116,7 +118,8 @@ fn is_port(port: &Option<String>, default: Option<&str>) -> bool
     }
 }
 
-/// Whether the protocol is special and the port is its default.
+/// Whether the protocol is special and the port is its default; for `file`, whether the port is
+/// missing.
 fn has_default_port(values: &UrlPatternInit) -> bool
     ensures { result
         ≡ has_default_port (values_view values.now).protocol (values_view values.now).port }
@@ -130,7 +133,8 @@ fn has_default_port(values: &UrlPatternInit) -> bool
     }
 }
 
-/// Whether the pattern of a hostname begins as an IPv6 address does.
+/// Whether the pattern of a hostname begins as an IPv6 address does: with `[`, perhaps after one
+/// `{` or one `\`. A `[` alone does not count.
 ///
 /// <https://urlpattern.spec.whatwg.org/#hostname-pattern-is-an-ipv6-address>
 fn is_ipv6_pattern(pattern: &str) -> bool
@@ -141,15 +145,18 @@ fn is_ipv6_pattern(pattern: &str) -> bool
             || begins_with_bracket(without_first(pattern, b'\\')))
 }
 
-/// The pattern text of a component, if it has one.
+/// Returns the pattern text of a component. `None`: the component is missing, and compiled as `*`.
 pub fn pattern_of(values: &UrlPatternInit, component: ComponentName) -> Option<&str>
     ensures { pattern_text result ≡ pattern_of (values_view values.now) component }
 {
     values.get(component)
 }
 
-/// Compiles a pattern text to a component with its parts. If the engine rejects a regular
-/// expression, the whole component's or the matcher's, that is an error.
+/// Compiles a pattern text, or `*` for `None`, to a component with its parts. `encoding_callback`
+/// makes a fixed text canonical.
+///
+/// Fails with the error of a rejected text, with `RegExp` if the engine rejects the regular
+/// expression of the whole component or of its matcher, or with `OutOfMemory`.
 #[inline(always)]
 fn compile_component<R: RegExp, F: Fn(&str) -> Result<String, Error> + Drop>(
     alloc: Global,
@@ -186,7 +193,7 @@ fn lacks_engine<R: RegExp>(compiled: &Result<ComponentWithParts<R>, Error>) -> b
     }
 }
 
-/// Whether a matcher holds an error in place of the engine that it needs.
+/// Whether a matcher holds the error of an engine in place of the engine that it needs.
 #[inline(always)]
 fn holds_error<R: RegExp>(matcher: &Matcher<R>) -> bool
     ensures { MatchBool result (¬ AcceptedText (λ value. ⊤) (matcher_view matcher.now).inner)
@@ -198,24 +205,24 @@ fn holds_error<R: RegExp>(matcher: &Matcher<R>) -> bool
     }
 }
 
-/// The values to compile to a pattern, and the options.
+/// The processed values of an init, and the options under which they are compiled to a pattern.
 #[derive(Drop)]
 pub struct Compiler<'a> {
     /// The allocator.
     pub alloc: Global,
     /// The canonicalizer of fixed texts.
     pub canonicalizer: Canonicalizer,
-    /// The values.
+    /// The processed values of the init.
     pub values: &'a UrlPatternInit,
-    /// The options.
+    /// The options that the caller passed.
     pub options: &'a UrlPatternOptions,
 }
 
 impl Compiler<'_> {
     /// Compiles the components, the protocol first, since it decides whether the pathname is
-    /// hierarchical.
+    /// hierarchical; `known` is as in `compile_init`.
     ///
-    /// The error is that of the first rejected component, or `OutOfMemory`.
+    /// Fails with the error of the first rejected component, or with `OutOfMemory`.
     pub(crate) fn components<R: RegExp>(
         &self,
         known: Option<(&str, ComponentWithParts<R>)>,
@@ -231,9 +238,10 @@ impl Compiler<'_> {
         self.after_protocol(protocol, hierarchical)
     }
 
-    /// Compiles the protocol, or returns the known component if its text and options are the same.
+    /// Compiles the protocol, or returns the component of `known` if it was compiled from the
+    /// protocol's text under equal options, and the engine accepted its regular expressions.
     ///
-    /// The error is that of a rejected text or regular expression, or `OutOfMemory`.
+    /// Fails with the error of a rejected text or regular expression, or with `OutOfMemory`.
     fn protocol<R: RegExp>(
         &self,
         known: Option<(&str, ComponentWithParts<R>)>,
@@ -259,9 +267,10 @@ impl Compiler<'_> {
         self.component(ComponentName::Protocol, false)
     }
 
-    /// Compiles the components after the protocol.
+    /// Compiles the components after the protocol, and returns them with `protocol`. `hierarchical`
+    /// says whether the pathname is hierarchical.
     ///
-    /// The error is that of the first rejected component, or `OutOfMemory`.
+    /// Fails with the error of the first rejected component, or with `OutOfMemory`.
     fn after_protocol<R: RegExp>(
         &self,
         protocol: ComponentWithParts<R>,
@@ -287,9 +296,10 @@ impl Compiler<'_> {
         })
     }
 
-    /// Compiles a component of the pattern.
+    /// Compiles a component of the pattern. `hierarchical` says whether the pathname is
+    /// hierarchical.
     ///
-    /// The error is that of a rejected text or regular expression, or `OutOfMemory`.
+    /// Fails with the error of a rejected text or regular expression, or with `OutOfMemory`.
     pub(crate) fn component<R: RegExp>(
         &self,
         component: ComponentName,
@@ -310,7 +320,9 @@ impl Compiler<'_> {
         compile_component(self.alloc, pattern, canonicalize, options)
     }
 
-    /// The options under which a component's pattern is parsed.
+    /// Returns the options under which a component's pattern is parsed. A pathname has the
+    /// delimiter and prefix `/` only if `hierarchical`; only pathname, search and hash may ignore
+    /// case.
     pub fn options_of(&self, component: ComponentName, hierarchical: bool) -> Result<Options, Error>
         ensures ok { IfOk result (λ options.
             options_view options ≡ (settings_by self.now hierarchical component).options) }
@@ -332,9 +344,10 @@ impl Compiler<'_> {
         })
     }
 
-    /// The canonical value of a fixed text in a component's pattern.
+    /// Returns the canonical form of a fixed text in a component's pattern. A text of the pathname
+    /// is part of a path with segments if `hierarchical`, and of an opaque path otherwise.
     ///
-    /// The error is that of `url`, or `OutOfMemory`.
+    /// Fails with the error of `url`, or with `OutOfMemory`.
     pub fn canonical(
         &self,
         component: ComponentName,
@@ -359,10 +372,10 @@ impl Compiler<'_> {
         }
     }
 
-    /// The canonical value of a fixed text in a hostname pattern, which may be that of an IPv6
-    /// address.
+    /// Returns the canonical form of a fixed text in the hostname's pattern, which may be that of
+    /// an IPv6 address.
     ///
-    /// The error is that of `url`, or `OutOfMemory`.
+    /// Fails with the error of `url`, or with `OutOfMemory`.
     fn canonical_in_hostname(&self, text: &str) -> Result<String, Error>
         ensures { IsResult (canonical_in_hostname (unwrap_or (compiled_values self.now).hostname [])
             (chars text.now)) (length text.now) result }
@@ -375,7 +388,8 @@ impl Compiler<'_> {
         }
     }
 
-    /// Whether the pathname of the pattern is hierarchical, given the compiled protocol.
+    /// Whether the pathname of the pattern is hierarchical: the protocol is empty, its component
+    /// `protocol` accepts a special scheme, or the pathname begins with a slash.
     pub fn is_hierarchical<R: RegExp>(&self, protocol: &Component<R>) -> Result<bool, Error>
         ensures path_kind { IfOk result
             (IsPathKind R.answer (compiled_values self.now) (component_view protocol.now).matcher) }

@@ -25,19 +25,20 @@ const AFTER_PROTOCOL: [ComponentName; 7] = [
     ComponentName::Hash,
 ];
 
-/// A rejected component.
+/// A component that is rejected, and why.
 #[derive(Drop)]
 pub(super) struct Rejection {
     /// The component.
     pub(super) component: ComponentName,
     /// Whether the pathname is hierarchical; `false` if the protocol is rejected.
     pub(super) hierarchical: bool,
-    /// The error.
+    /// The error with which the component is rejected.
     pub(super) error: Error,
 }
 
 impl Compiler<'_> {
-    /// The first rejected component, in the order of compilation.
+    /// Returns the first component that is rejected, in the order of compilation. `None`: each is
+    /// accepted.
     pub(super) fn first_rejected<R: RegExp>(&self) -> Result<Option<Rejection>, OutOfMemory>
         ensures { IfOk result (λ found.
             IfSome found (IsRejectionOf R.RegExp self.now.options.now (compiled_values self.now))) }
@@ -55,7 +56,8 @@ impl Compiler<'_> {
         }
     }
 
-    /// The first rejected component after the protocol.
+    /// Returns the first component that is rejected after the protocol, which compiled to
+    /// `protocol`. `None`: each is accepted.
     fn first_rejected_after<R: RegExp>(
         &self,
         protocol: ComponentWithParts<R>,
@@ -70,7 +72,8 @@ impl Compiler<'_> {
         }
     }
 
-    /// The first rejected component of a list.
+    /// Returns the first component of `names` that is rejected. `hierarchical` says whether the
+    /// pathname is hierarchical. `None`: each is accepted.
     fn first_rejected_of<R: RegExp>(
         &self,
         hierarchical: bool,
@@ -92,7 +95,7 @@ impl Compiler<'_> {
         Ok(None)
     }
 
-    /// Compiles a component, and returns its refusal if it is rejected.
+    /// Compiles a component, and returns its rejection. `None`: the component is accepted.
     fn refused<R: RegExp>(
         &self,
         hierarchical: bool,
@@ -124,7 +127,7 @@ impl Compiler<'_> {
     }
 }
 
-/// Returns an error other than `OutOfMemory`.
+/// Returns the error, unless it is `OutOfMemory`, with which the call fails.
 pub(super) fn not_memory(error: Error) -> Result<Error, OutOfMemory>
     ensures { IfOk result (λ other. (other ≡ error) × (error_view error ≢ views.OutOfMemory)) }
 {

@@ -3,7 +3,8 @@
 use crate::fault::Fault;
 use crate::wide::ascii_form;
 
-/// Whether the first bracket of a kind at or after a place is not closed.
+/// Whether no `close` matches the first `open` at or after `place`. Escaped bytes do not count.
+/// `false` if there is no `open`.
 pub(crate) fn is_unclosed(part: &str, place: usize, open: u8, close: u8) -> bool {
     let mut depth = 0usize;
     let mut is_escaped = false;
@@ -24,7 +25,7 @@ pub(crate) fn is_unclosed(part: &str, place: usize, open: u8, close: u8) -> bool
     depth > 0
 }
 
-/// Whether a place is within square brackets that begin at or after `start`.
+/// Whether `place` is within square brackets that begin at or after `start`.
 pub(crate) fn is_in_class(part: &str, start: usize, place: usize) -> bool {
     let mut is_open = false;
     let mut is_escaped = false;
@@ -40,8 +41,8 @@ pub(crate) fn is_in_class(part: &str, start: usize, place: usize) -> bool {
     is_open
 }
 
-/// Whether the first class between two places that contains a `)` ends after it, before another
-/// class begins.
+/// Whether, between two places, a `)` within square brackets is followed by their `]` before
+/// another `[`, so that the `)` ends a custom expression in the middle of a class.
 pub(crate) fn has_cut_class(part: &str, start: usize, end: usize) -> bool {
     let mut is_open = false;
     let mut is_cut = false;
@@ -61,7 +62,8 @@ pub(crate) fn has_cut_class(part: &str, start: usize, end: usize) -> bool {
     false
 }
 
-/// The first `]` or `}` at or after a place that closes neither a class nor a count.
+/// Returns the first `]` or `}` at or after a place that closes neither a class nor a count.
+/// `None`: each closes one.
 pub(crate) fn stray_bracket(part: &str, place: usize) -> Option<char> {
     let mut is_escaped = false;
     let mut awaited = b' ';
@@ -79,7 +81,8 @@ pub(crate) fn stray_bracket(part: &str, place: usize) -> Option<char> {
     None
 }
 
-/// The ASCII form of the first full-width mark before a place.
+/// Returns the ASCII form of the first full-width mark before a place: of `(`, `)`, `{`, `}`, `:`,
+/// `*` or `\`. `None`: there is no such mark.
 pub(crate) fn wide_mark(part: &str, place: usize) -> Option<char> {
     for (index, c) in part.char_indices() {
         if index >= place {
@@ -93,7 +96,7 @@ pub(crate) fn wide_mark(part: &str, place: usize) -> Option<char> {
     None
 }
 
-/// Whether a modifier is right before a place, and not escaped.
+/// Whether `*`, `+` or `?` is right before a place, and not escaped.
 pub(crate) fn is_after_modifier(part: &str, place: usize) -> bool {
     let bytes = part.as_bytes();
     match place.checked_sub(1) {
@@ -105,7 +108,8 @@ pub(crate) fn is_after_modifier(part: &str, place: usize) -> bool {
     }
 }
 
-/// Whether a class, `.` or a backslash and a letter is right before a place.
+/// Whether a regular expression seems to end right before a place: with `]`, `.`, or a backslash
+/// and a letter.
 pub(crate) fn is_after_expression(part: &str, place: usize) -> bool {
     let bytes = part.as_bytes();
     match bytes.get(place.saturating_sub(1)) {
@@ -117,7 +121,7 @@ pub(crate) fn is_after_expression(part: &str, place: usize) -> bool {
     }
 }
 
-/// The `-` or `^` at a place, if there is one.
+/// Returns the `-` or `^` at a place. `None`: another character is there.
 pub(crate) fn sign_at(part: &str, place: usize) -> Option<char> {
     match part.as_bytes().get(place) {
         Some(b'-') => Some('-'),
@@ -126,7 +130,8 @@ pub(crate) fn sign_at(part: &str, place: usize) -> Option<char> {
     }
 }
 
-/// Whether only a word is between the brace of a group and the fault in the group.
+/// Whether only a word, as a name without `:`, is between the brace of a group, which is the
+/// earlier part of the fault, and the part at fault.
 pub(crate) fn is_after_word(part: &str, fault: Fault) -> bool {
     let Some(open) = fault.earlier else {
         return false;

@@ -53,7 +53,7 @@ pub struct Diagnosis {
 }
 
 impl Subject {
-    /// The subject, in words.
+    /// Returns the subject in words.
     pub fn name(self) -> &'static str {
         match self {
             Subject::Whole => "pattern",
@@ -64,8 +64,8 @@ impl Subject {
 }
 
 impl Diagnosis {
-    /// Diagnoses a whole text, or the place where the colon after its scheme is missing or
-    /// mistyped.
+    /// Creates a diagnosis whose fault is the whole `text`, or the place where the colon after its
+    /// scheme is missing or mistyped.
     pub fn whole(
         alloc: Global,
         error: Error,
@@ -83,7 +83,9 @@ impl Diagnosis {
         Self::of_fault(alloc, error, subject, text, fault, hint)
     }
 
-    /// Diagnoses a fault in a part of a text, or the whole text if it lacks the part.
+    /// Creates a diagnosis of `fault`, a fault of the pattern `part`, which is at `place` in
+    /// `text`. `None`: the text lacks the pattern, and the fault of the diagnosis is the whole
+    /// text.
     pub fn of_part(
         alloc: Global,
         error: Error,
@@ -110,7 +112,8 @@ impl Diagnosis {
         Self::of_fault(alloc, error, subject, text, moved, hint)
     }
 
-    /// Diagnoses a colon of a text that no name follows, and before which there is no protocol.
+    /// Creates a diagnosis of `fault`, a colon of `text` that no name follows and that does not end
+    /// a protocol.
     pub fn of_colon(
         alloc: Global,
         error: Error,
@@ -133,7 +136,8 @@ impl Diagnosis {
         })
     }
 
-    /// Diagnoses a fault of a text.
+    /// Creates a diagnosis of `fault`, a fault of `text`, with the reason by the error and the
+    /// hint.
     fn of_fault(
         alloc: Global,
         error: Error,

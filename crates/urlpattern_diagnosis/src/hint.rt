@@ -27,7 +27,8 @@ pub(crate) enum Hint {
     LookAround,
     /// A `?` follows the `(` at fault, as in a flag that ignores case.
     Flag,
-    /// The fault is in square brackets: those of an IPv6 address, or of a class.
+    /// The fault is in square brackets, those of an IPv6 address or of a class, or a `)` cuts a
+    /// class.
     Brackets,
     /// The colon after a scheme is missing, or `;` is in its place.
     Colon,
@@ -41,9 +42,10 @@ pub(crate) enum Hint {
     NameBegins(char),
     /// A name is followed by this character, which no name contains.
     NameEnds(char),
-    /// A regular expression is not in parentheses, or an expression follows a colon.
+    /// A regular expression is not in parentheses, or follows a colon.
     Expression,
-    /// The character at fault is repeated.
+    /// A modifier repeats the character at fault, or the brace at fault is right after another
+    /// brace.
     Repeated,
     /// The modifier at fault follows another modifier.
     SecondModifier,
@@ -59,7 +61,7 @@ pub(crate) enum Hint {
 }
 
 impl Hint {
-    /// The character of the hint, if it has one.
+    /// Returns the character of the hint, if it has one.
     pub(crate) fn sign(self) -> Option<char> {
         match self {
             Hint::ClosedBy(sign)
@@ -70,7 +72,8 @@ impl Hint {
         }
     }
 
-    /// The hint for a text with this fault, which is no URL.
+    /// Returns the hint for a text that is rejected as a whole: whether `fault` is at a missing or
+    /// mistyped colon.
     pub(crate) fn of_url(text: &str, fault: Fault) -> Self {
         if fault == Fault::whole(text) {
             Hint::Nothing
@@ -79,7 +82,8 @@ impl Hint {
         }
     }
 
-    /// The hint for the fault of a pattern that is at a place in a text.
+    /// Returns the hint for `fault`, a fault of the pattern `part`, which is at `place` in `text`,
+    /// if the text has it.
     pub(crate) fn of_part(
         error: &Error,
         subject: Subject,
@@ -112,7 +116,7 @@ impl Hint {
     }
 }
 
-/// The hint for a colon that no name follows, right before a place.
+/// Returns the hint for a colon that no name follows; `place` is where the part at fault ends.
 fn colon_hint(subject: Subject, part: &str, place: usize) -> Hint {
     match subject {
         Subject::Component(ComponentName::Hostname) if is_in_class(part, 0, place) => {
@@ -125,7 +129,8 @@ fn colon_hint(subject: Subject, part: &str, place: usize) -> Hint {
     }
 }
 
-/// The hint for a colon that no name follows, by the byte that does.
+/// Returns the hint for a colon that no name follows, by the byte after the colon; `None`: the text
+/// ends there.
 pub(crate) fn next_hint(next: Option<&u8>) -> Hint {
     match next {
         Some(b'\\' | b'[' | b'(') => Hint::Expression,
@@ -147,7 +152,7 @@ pub(crate) fn next_hint(next: Option<&u8>) -> Hint {
     }
 }
 
-/// The hint for a group that begins within a group: whether the two braces are adjacent.
+/// Returns the hint for a group that begins within a group: whether the two braces are adjacent.
 fn brace_hint(fault: Fault) -> Hint {
     match fault.earlier {
         Some(open) if open.end == fault.span.start => Hint::Repeated,
@@ -155,8 +160,8 @@ fn brace_hint(fault: Fault) -> Hint {
     }
 }
 
-/// The hint for a parenthesis that begins no custom expression. `search` is the place in the text
-/// of the `?` after the pattern.
+/// Returns the hint for a parenthesis that does not begin a custom expression. `search` is the
+/// place in `text` of the `?` right after the pattern `part`, if there is one.
 fn expression_hint(
     reason: RegexFault,
     text: &str,
@@ -182,7 +187,7 @@ fn expression_hint(
     }
 }
 
-/// The hint for a `?` at a place after a `(`: what it is meant for.
+/// Returns the hint for a `?` at a place, after a `(`: what it is meant for, by the bytes after it.
 fn question_hint(text: &str, place: usize) -> Hint {
     let bytes = text.as_bytes();
     let next = bytes.get(place.saturating_add(1));
@@ -194,7 +199,8 @@ fn question_hint(text: &str, place: usize) -> Hint {
     }
 }
 
-/// The hint for a character that is not ASCII: full-width, in a class, or repeated.
+/// Returns the hint for a character of a custom expression that is not ASCII: full-width, in a
+/// class, or repeated.
 fn letter_hint(part: &str, fault: Fault) -> Hint {
     let letter = part.get(fault.span.start..fault.span.end).unwrap_or("");
     if let Some(sign) = ascii_form_of(letter) {
@@ -207,7 +213,7 @@ fn letter_hint(part: &str, fault: Fault) -> Hint {
     }
 }
 
-/// The hint for a name that occurs twice.
+/// Returns the hint for a name that occurs twice: whether `-` or `^` ends the first or the second.
 fn name_hint(part: &str, fault: Fault) -> Hint {
     let first = fault.earlier.unwrap_or(fault.span);
     match sign_at(part, first.end).or(sign_at(part, fault.span.end)) {
@@ -216,7 +222,8 @@ fn name_hint(part: &str, fault: Fault) -> Hint {
     }
 }
 
-/// The hint for a modifier, perhaps within a group, that follows nothing that it could repeat.
+/// Returns the hint for a modifier that follows nothing that it could repeat. `is_in_group` says
+/// whether the modifier is within a group.
 fn modifier_hint(part: &str, fault: Fault, is_in_group: bool) -> Hint {
     let place = fault.span.start;
     if !is_in_group && is_after_modifier(part, place) {
@@ -250,7 +257,8 @@ fn modifier_hint(part: &str, fault: Fault, is_in_group: bool) -> Hint {
     }
 }
 
-/// The hint for a modifier at a place with no expression before it.
+/// Returns the hint for a misplaced modifier, by what is before it: a class with a `)`, a
+/// full-width mark, or a regular expression without parentheses; or by an unclosed group after it.
 fn unread_hint(part: &str, place: usize) -> Hint {
     if has_cut_class(part, part.find('(').unwrap_or(place), place) {
         return Hint::Brackets;
@@ -263,13 +271,14 @@ fn unread_hint(part: &str, place: usize) -> Hint {
     }
 }
 
-/// The whole expression that an engine rejects: the part at fault, or the earlier part if the fault
-/// is a place in it.
+/// Returns the span of the whole expression that an engine rejects: the part at fault, or the
+/// earlier part if the fault is a place in it.
 fn outer(fault: Fault) -> Span {
     fault.earlier.unwrap_or(fault.span)
 }
 
-/// The place of a `?` right after a part of a text, if there is one.
+/// Returns the place of a `?` right after the pattern `part`, which is at `place` in `text`.
+/// `None`: another character follows, or the text lacks the pattern.
 fn search_after(text: &str, part: &str, place: Option<PatternOffset>) -> Option<usize> {
     let PatternOffset { start, lead } = place?;
     let end = start.saturating_add(part.len().saturating_sub(lead));

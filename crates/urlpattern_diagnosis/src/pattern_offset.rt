@@ -19,7 +19,8 @@ pub struct PatternOffset {
 }
 
 impl PatternOffset {
-    /// The place of a pattern in a text, if all but its first `lead` bytes are at `start`.
+    /// Returns the place of the pattern `part` in `text`, if all but the first `lead` bytes of the
+    /// pattern are at `start`. `None`: the text does not have them there.
     pub fn of(text: &str, part: &str, start: usize, lead: usize) -> Option<Self>
         ensures place { IfSome result (IsPlaceOf text.now part.now) }
         ensures given { IfSome result (λ place. (place.start ≡ start) × (place.lead ≡ lead)) }
@@ -35,9 +36,12 @@ impl PatternOffset {
         }
     }
 
-    /// The place of a component's pattern in a text, where its value, of `len` bytes, begins at
-    /// `start`. A mark before or after the value is not part of the pattern, and what is before a
-    /// relative path is not part of the value.
+    /// Returns the place in `text` of `part`, the processed pattern of a component whose value, of
+    /// `len` bytes, begins at `start`. `None`: the text does not have it there.
+    ///
+    /// A pattern that is longer than the value begins with the path of the base URL, which the text
+    /// lacks. A shorter one is the end of the value, after its sign, or, of a protocol, its
+    /// beginning, before the colon.
     pub fn of_component(
         text: &str,
         part: &str,
@@ -56,7 +60,7 @@ impl PatternOffset {
         }
     }
 
-    /// Moves a fault of the pattern to the text.
+    /// Returns a fault of the pattern `part`, moved to `text`, where the pattern is at this place.
     pub fn moved(self, text: &str, part: &str, fault: Fault) -> Fault
         requires place { IsPlaceOf text.now part.now self }
         requires within { IsFaultIn part.now fault }
@@ -76,7 +80,8 @@ impl PatternOffset {
         }
     }
 
-    /// Moves a span of the pattern to the text.
+    /// Returns a span of the pattern `part`, moved to `text`; the whole text if the span begins in
+    /// bytes that the text lacks.
     fn moved_span(self, text: &str, part: &str, span: Span) -> Span
         requires place { IsPlaceOf text.now part.now self }
         requires within { IsSpanIn part.now span }

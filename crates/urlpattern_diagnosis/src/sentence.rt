@@ -16,7 +16,7 @@ pub(crate) struct Sentence<'a> {
 }
 
 impl Sentence<'_> {
-    /// Appends the sentence.
+    /// Appends the words to `out`, with the texts and the sign in place of `@`, `#` and `~`.
     pub(crate) fn append_to(&self, out: &mut String) -> Result<(), AllocError> {
         for c in self.words.chars() {
             match c {

@@ -59,14 +59,14 @@ impl Clone for UrlPatternInit {
 }
 
 impl UrlPatternInit {
-    /// The text of a component, if it is given.
+    /// Returns the text of a component. `None`: the init lacks the component.
     pub fn get(&self, name: ComponentName) -> Option<&str>
         ensures { option_text result ≡ at (values_view self.now) name }
     {
         field_of!(self, name).as_deref()
     }
 
-    /// A copy of the text of a component, if it is given.
+    /// Returns a copy of the text of a component. `None`: the init lacks the component.
     #[tactic(auto, using(crate::proofs::InheritanceLemmas::same_texts))]
     fn copied(&self, name: ComponentName) -> Result<Option<String>, AllocError>
         ensures { IfOk result (λ copy. option_map text_of copy ≡ at (values_view self.now) name) }
