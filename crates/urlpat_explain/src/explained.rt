@@ -18,7 +18,7 @@ use urlpattern_pattern::UrlPattern;
 pub struct Explained<'a> {
     /// The constructor string.
     pub string: &'a str,
-    /// The pattern that it is compiled to.
+    /// The pattern to which the constructor string is compiled.
     pub pattern: &'a UrlPattern<PatternRegexp>,
     /// The texts that the constructor string itself has for components.
     pub init: &'a UrlPatternInit,
@@ -37,8 +37,8 @@ impl Explained<'_> {
         origin_of(self.init.get(name), self.values.get(name))
     }
 
-    /// The place of a component's text in the constructor string, in bytes. `None`: the text is not
-    /// in the string, or implied by it, or empty.
+    /// The place of a component's text in the constructor string, in bytes. `None`: the string has
+    /// no text for the component, or only implies one, or the text is empty.
     pub fn place(&self, name: ComponentName) -> Option<Span>
         ensures { MayBeAt (explained_view self.now).string (at (explained_view self.now).given name)
             result }

@@ -162,7 +162,7 @@ fn put_verdict(
     serde_json::put(members, alloc, "groups", groups)
 }
 
-/// An object with the capture of each group, or null if it took no part.
+/// An object with the capture of each group under its name, null for a group that took no part.
 fn groups_tree(
     alloc: Global,
     names: &[String],

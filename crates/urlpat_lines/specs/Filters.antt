@@ -78,8 +78,8 @@ count_line shapes.Count selected = decimal selected ++ codes "\n"
 count_line (shapes.Group component name) selected = []
 count_line shapes.Json selected = []
 
--- The output for the lines of a text is written, and after it the count if lines are counted. `any`
--- says whether a line is selected.
+-- The output of the rule `Answers` for the lines of a text is written, and after it the count if
+-- lines are counted. `any` says whether a line is selected.
 abbrev pub FiltersText : (Answers : (text line : List ℕ) → Verdict → (written : List ℕ) → Type 0)
     → Shape
     → (text : List ℕ) → (any : Bool) → (old new : Option (List ℕ)) → Type 0
@@ -87,7 +87,7 @@ FiltersText Answers shape text any old new =
     (selected : ℕ) × (written : List ℕ) × AreAnswersTo Answers (lines_of text) selected written
     × Appends old new (written ++ count_line shape selected) × (any ≡ nat_lt 0 selected)
 
--- `FiltersText` for the lines of a reader, if the contents of the reader are known.
+-- `FiltersText` for the lines of a reader, if the contents of the reader (`input`) are known.
 abbrev pub Filters : (Answers : (text line : List ℕ) → Verdict → (written : List ℕ) → Type 0)
     → Shape
     → (input old new : Option (List ℕ)) → (any : Bool) → Type 0

@@ -11,8 +11,8 @@ use Rattle.urlpattern_components.specs.Eight.{name_text}
 abbrev pub is_dot : ℕ → Bool
 is_dot c = c == slice_index (codes ".") 0
 
--- The word is the name of a component, a dot and the name of a group, and the query prints the
--- group's captures.
+-- The word is the name of a component, a dot and the name of a group, and the query prints that
+-- group's captures of the lines that match.
 abbrev pub NamesGroup : (word : List ℕ) → Bool × Shape → Type 0
 NamesGroup word (inverted, shapes.Group component name) =
     (inverted ≡ false) × (position_or_len is_dot word < length word)

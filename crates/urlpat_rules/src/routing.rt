@@ -57,8 +57,8 @@ pub fn route<T: Tables, In: BufRead, Out: Write, Err: Write>(
     status
 }
 
-/// Writes, for each line, the first entry of a table whose pattern matches the URL in it. Returns
-/// the exit status.
+/// Writes a row for each line: the row of the first entry of a table whose pattern matches the URL
+/// in the line. Returns the exit status.
 fn route_by<In: BufRead, Out: Write, Err: Write>(
     alloc: Global,
     table: &[u8],

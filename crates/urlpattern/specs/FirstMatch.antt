@@ -1,4 +1,5 @@
--- The first match of a list of patterns. `answer` is what an engine returns for a text.
+-- The first match of a list of patterns. Eight texts are the texts of an input's eight components.
+-- `answer` is what an engine returns for a text.
 use Rattle.std.specs.Prelude.{◌≡◌, ◌⊎◌, ℕ, List, map, take, All, Option, Some, None, IfSome, option_map, slice_get}
 use Rattle.urlpattern_init.specs.declared.init.UrlPatternMatchInput.{UrlPatternMatchInput}
 use Rattle.urlpattern_components.specs.declared.eight.ComponentName.{ComponentName}
@@ -49,14 +50,15 @@ IsFirstMatchOf {E} answer patterns texts (Some first) =
 IsFirstMatchOf answer patterns texts None =
     All (λ pattern. DoesNotMatch answer pattern texts) patterns
 
--- `found` is the first match of the list on eight texts (`IsFirstMatchOf`), borrowed.
+-- `found`, which borrows from the patterns, is the first match of the list on eight texts
+-- (`IsFirstMatchOf`).
 abbrev pub IsFirstCaptured : {E : Type 0} → (answer : E → List ℕ → Option Captures)
     → List (PatternView E) → Texts → Option (ℕ × UrlPatternCaptures) → Type 0
 IsFirstCaptured answer patterns texts found =
     IsFirstMatchOf answer patterns texts (first_captures_view found)
 
 -- If a match was found, its groups are the groups of the pattern at its index, in the pattern's
--- order, with the captures of the texts.
+-- order, each with what it captures of the texts.
 abbrev pub HasGroupsInOrder : {E : Type 0} → (answer : E → List ℕ → Option Captures)
     → List (PatternView E) → Texts → Option (ℕ × UrlPatternCaptures) → Type 0
 HasGroupsInOrder {E} answer patterns texts found =

@@ -1,5 +1,5 @@
--- The matches of a list of patterns, one after the other. `answer` is what an engine returns for a
--- text.
+-- The matches of a list of patterns, one after the other. Eight texts are the texts of an input's
+-- eight components. `answer` is what an engine returns for a text.
 use Rattle.std.specs.Prelude.{◌≡◌, ◌+◌, ◌<◌, ◌≤◌, ℕ, List, length, Option, Some, None, Result, Ok, Err, slice_get, unwrap_or}
 use Rattle.urlpattern.specs.FirstMatch.{FirstView, HasGroupsInOrder, first_captures_view, patterns_view}
 use Rattle.urlpattern.specs.PatternKeys.{address_of}
@@ -42,8 +42,8 @@ IsFirstMatchFrom {E} answer patterns texts from (Some first) =
 IsFirstMatchFrom answer patterns texts from None =
     NoneMatchBetween answer patterns texts from (length patterns)
 
--- `found` is the first match of eight texts by a pattern whose index is at least `from`
--- (`IsFirstMatchFrom`), borrowed.
+-- `found`, which borrows from the patterns, is the first match of eight texts by a pattern whose
+-- index is at least `from` (`IsFirstMatchFrom`).
 abbrev pub IsFirstCapturedFrom : {E : Type 0} → (answer : E → List ℕ → Option Captures)
     → List (PatternView E) → Texts → (from : ℕ) → Option (ℕ × UrlPatternCaptures) → Type 0
 IsFirstCapturedFrom answer patterns texts from found =

@@ -12,12 +12,12 @@ use Rattle.urlpattern.specs.FirstMatch.{FirstView, patterns_view}
 abbrev pub entry_patterns : {E T : Type 0} → List (UrlPattern E × T) → List (PatternView E)
 entry_patterns entries = patterns_view (keys_of entries)
 
--- The index and the borrowed match of a match of a map, without the value.
+-- A match of a map without the value: the index of the pattern, and the captures.
 abbrev pub without_value : {T : Type 0} → Option (ℕ × Bor T × UrlPatternCaptures)
     → Option (ℕ × UrlPatternCaptures)
 without_value found = option_map (λ first. (first.0, first.2)) found
 
--- The index and the results of the components of a match of a map, without the value.
+-- A match of a map without the value: the index of the pattern, and the result of each component.
 abbrev pub first_entry_view : {T : Type 0} → Option (ℕ × Bor T × UrlPatternCaptures)
     → Option FirstView
 first_entry_view found = option_map (λ first. (first.0, pattern_captures_view first.2)) found

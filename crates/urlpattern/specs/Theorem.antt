@@ -45,21 +45,24 @@ MatchersReturnTheFirstWay {E} engine =
     IsMadeOf (IsEngineOf engine false flags) options parts matcher
     → ReturnsByFirstWay engine.answer options parts matcher
 
--- A matcher made by `regex::Regex` returns the first way, which is what the parts mean, if `regex`
--- accepted the expression where one was needed.
+-- A matcher made by `regex::Regex` from parts without custom expressions returns the first way,
+-- which is what the parts mean, for a text without line feed, if case is kept and `regex` accepted
+-- the expression where one was needed.
 abbrev pub DefaultEngineReturnsTheFirstWay : Type 0
 DefaultEngineReturnsTheFirstWay =
     EachReturnsFirst regex_engine (λ options flags. AcceptedText (λ regex. ⊤))
 
--- A matcher made by `PatternRegexp` returns the first way, which is what the parts mean, without
--- any premise on the engine.
+-- A matcher made by `PatternRegexp` from parts without custom expressions returns the first way,
+-- which is what the parts mean, for a text without line feed, if case is kept, without any premise
+-- on the engine.
 abbrev pub PatternEngineReturnsTheFirstWay : Type 0
 PatternEngineReturnsTheFirstWay =
     EachReturnsFirst pattern_engine (λ options flags inner. FlagsAgree options flags)
 
 -- A matcher made by `regex::Regex` or by `PatternRegexp` returns what parts with custom expressions
--- capture, one capture for each name, or `None` where the parts do not match, if the expressions
--- stand alone and capture nothing themselves.
+-- capture, one capture for each name, or `None` where the parts do not match, if case is kept and
+-- the expressions stand alone and capture nothing themselves. An engine that is needed has to
+-- accept the regular expression, which has at most 2³² characters for `PatternRegexp`.
 abbrev pub CustomPartsAreMatched : Type 0
 CustomPartsAreMatched =
     MatchersCapture regex_engine (λ regexp. ⊤) (λ options flags. AcceptedText (λ regex. ⊤))
@@ -76,13 +79,14 @@ CustomPartsAreMatchedByTheFirstWay =
     ⊤))
     × MatchersReturnFirstOfParts pattern_engine HasNumbers AcceptedAlone × FirstWaysAreOfTrees
 
--- The printed pattern of parts that were read from a text reads as the parts, neighbouring plain
--- fixed texts joined.
+-- The printed pattern of parts that were read under the standard's options reads as the parts,
+-- neighbouring plain fixed texts joined, under each encoding that keeps their texts, provided that
+-- no fixed text is empty and no text has a tab or a line end.
 abbrev pub PrintedReadsBack : Type 0
 PrintedReadsBack = OfPartsThatWereRead ReadsAsJoined
 
--- The printed pattern of parts that were read from a text reads as no other parts than the joined
--- ones, and is not rejected.
+-- The printed pattern of parts, under the premises of `PrintedReadsBack`, reads as no other parts
+-- than the joined ones, and is not rejected.
 abbrev pub PrintedReadsAsNothingElse : Type 0
 PrintedReadsAsNothingElse = OfPartsThatWereRead (λ text options encoding parts.
     ReadsOnlyAsJoined text options encoding parts × IsNotRejected text options encoding parts)

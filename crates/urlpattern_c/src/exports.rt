@@ -64,7 +64,8 @@ pub extern "C" fn urlpattern_free(alloc: Global, patterns: &mut Patterns)
     drop(patterns.take(alloc));
 }
 
-/// Whether the pattern at an index matches a URL: 0 if it matches, 1 if not.
+/// Whether the pattern at an index matches a URL: 0 if it matches, 1 if it does not or the text is
+/// not a URL.
 #[unsafe(no_mangle)]
 pub extern "C" fn urlpattern_test(
     alloc: Global,
@@ -83,7 +84,8 @@ pub extern "C" fn urlpattern_test(
     status.number()
 }
 
-/// Finds the first pattern that matches a URL, and writes its index.
+/// Finds the first pattern that matches a URL, and writes its index. Returns 1 if no pattern
+/// matches or the text is not a URL.
 #[unsafe(no_mangle)]
 pub extern "C" fn urlpattern_first(
     alloc: Global,
@@ -102,8 +104,8 @@ pub extern "C" fn urlpattern_first(
     status.number()
 }
 
-/// Whether the pattern at an index matches a URL. Writes the number of the first component that
-/// does not match, or 8 if there is none.
+/// Matches the pattern at an index against a URL, and writes the number of the first component that
+/// does not match, or 8 if each matches or there is no URL or no pattern.
 #[unsafe(no_mangle)]
 pub extern "C" fn urlpattern_mismatch(
     alloc: Global,
@@ -319,7 +321,8 @@ pub extern "C" fn urlpattern_covers_between(
     status.number()
 }
 
-/// Writes why a constructor string is rejected to `buffer`, and where the fault is to `place`.
+/// Writes to `buffer` why a constructor string is rejected, and to `place` where the fault is.
+/// Returns 1 if the string is not rejected.
 #[unsafe(no_mangle)]
 pub extern "C" fn urlpattern_diagnose(
     alloc: Global,
@@ -337,8 +340,8 @@ pub extern "C" fn urlpattern_diagnose(
     diagnose(alloc, text, base, ignore_case, buffer, needed, place).number()
 }
 
-/// Writes why an init in JSON is rejected to `buffer`, and in which of its texts and where the
-/// fault is to `place`.
+/// Writes to `buffer` why an init in JSON is rejected, and to `place` in which of its texts and
+/// where the fault is. Returns 1 if the init is not rejected.
 #[unsafe(no_mangle)]
 pub extern "C" fn urlpattern_diagnose_init(
     alloc: Global,

@@ -65,7 +65,7 @@ pub record AreGroupsOf (pattern : PatternView PatternRegexp) (url base : List �
 abbrev pub capture_bytes : Option (List ℕ) → List ℕ
 capture_bytes capture = encode_utf8_all (unwrap_or capture [])
 
--- The captures of groups, one after the other.
+-- The captures of groups in UTF-8, one after the other.
 abbrev pub texts_of_groups : List NumberedGroup → List ℕ
 texts_of_groups groups = flat_map (λ group. capture_bytes group.2) groups
 
@@ -105,8 +105,8 @@ IsWrittenAt at added old new =
     at + length added ≤ length old → new ≡ take at old ++ added ++ drop (at + length added) old
 
 -- The captures of the groups, from byte `from.bytes` on, and their spans, from index `from.spans`
--- on, end at the sizes `to`. The captures are written to the buffer if they all fit, and the spans
--- to theirs.
+-- on, end at the sizes `to`. The captures are written to their buffer if all of them fit, and the
+-- spans are written to theirs if all of them fit.
 pub record AreWrittenAt (groups : List NumberedGroup) (from to : Sizes) (old new : List ℕ)
     (old_spans new_spans : List GroupSpan) : Type 0 where
   pub bytes : to.bytes ≡ from.bytes + length (texts_of_groups groups)

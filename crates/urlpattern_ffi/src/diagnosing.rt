@@ -26,7 +26,7 @@ pub struct Place {
     pub end: usize,
 }
 
-/// Writes why a constructor string is rejected to `buffer`, and where the fault is to `place`.
+/// Writes to `buffer` why a constructor string is rejected, and to `place` where the fault is.
 /// `NoMatch`: the string is not rejected.
 pub fn diagnose(
     alloc: Global,
@@ -57,8 +57,8 @@ pub fn diagnose(
     }
 }
 
-/// Writes why an init in JSON is rejected to `buffer`, and in which of its texts and where the
-/// fault is to `place`. `NoMatch`: the init is not rejected. `Refused`: the JSON is not an init, or
+/// Writes to `buffer` why an init in JSON is rejected, and to `place` in which of its texts and
+/// where the fault is. `NoMatch`: the init is not rejected. `Refused`: the JSON is not an init, or
 /// its base URL is rejected.
 pub fn diagnose_init(
     alloc: Global,
@@ -85,8 +85,8 @@ pub fn diagnose_init(
     }
 }
 
-/// Writes the reason of a diagnosis to `buffer`, and the place of its fault to `place`. `subject`
-/// is the number of the text at fault.
+/// Writes to `buffer` the reason of a diagnosis, and to `place` where the fault is. `subject` is
+/// the number of the text at fault.
 fn write_diagnosis(
     diagnosis: &Diagnosis,
     subject: u32,

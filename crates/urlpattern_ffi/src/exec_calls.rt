@@ -52,7 +52,8 @@ fn test_pattern(
     }
 }
 
-/// Finds the first pattern that matches a URL, and writes its index.
+/// Finds the first pattern that matches a URL, and writes its index. `NoMatch`: no pattern matches,
+/// or the text is not a URL. `NoPattern`: the handle is empty.
 pub fn first(
     alloc: Global,
     kept: &Option<Box<PatternBox>>,
@@ -69,7 +70,8 @@ pub fn first(
     }
 }
 
-/// Finds the first pattern of a list that matches a URL, and writes its index.
+/// Finds the first pattern of a list that matches a URL, and writes its index. `NoMatch`: no
+/// pattern matches, or the text is not a URL.
 fn first_in(
     alloc: Global,
     list: &UrlPatternList<PatternRegexp>,
