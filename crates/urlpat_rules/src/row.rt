@@ -16,7 +16,7 @@ use urlpat_matching::{json_line, match_tree, push_match};
 use urlpattern::UrlPatternCaptures;
 use urlpattern_inputs::json_writing::put_text;
 
-/// The usual maximum length of a row's groups in bytes.
+/// The number of bytes that are reserved at first for the groups of a row.
 const USUAL: usize = 256;
 
 /// Appends the row of an entry whose pattern matches: as JSON, or its number, its name and each

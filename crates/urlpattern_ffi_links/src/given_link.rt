@@ -12,8 +12,8 @@ use urlpattern_pattern::UrlPattern;
 /// The reason why there is no URL of a pattern with given groups.
 #[derive(Drop)]
 pub enum Unlinked {
-    /// An element gives no group: no component has its number, or a part is out of range or not
-    /// UTF-8.
+    /// An element of `given` gives no group: no component has its number, or a part is out of range
+    /// or not UTF-8.
     Given,
     /// The pattern has no URL with these groups.
     NoLink(NoLink),
