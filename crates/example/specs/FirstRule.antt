@@ -5,8 +5,8 @@ use Rattle.urlpattern.specs.Patterns.{PatternView}
 use Rattle.urlpattern.specs.PartMeaning.{Captures}
 use Rattle.urlpattern.specs.UrlPatternMatchInput.{UrlPatternMatchInput}
 
--- The rule at the index of the first pattern of the list that matches the input. `None` if no
--- pattern matches.
+-- The option is the rule at the index of the first pattern of the list that matches the input.
+-- `None`: no pattern matches.
 abbrev pub IsOfFirst : {E A : Type 0} → (answer : E → List ℕ → Option Captures)
     → List (PatternView E) → (rules : List A) → UrlPatternMatchInput → Option A → Type 0
 IsOfFirst answer patterns rules input (Some rule) =

@@ -106,7 +106,7 @@ fn pages(alloc: Global) -> Result<UrlPatternMap<&'static str, PatternRegexp>, Er
 }
 // docs: end
 
-/// The page that a URL shows, as a sentence.
+/// The page that a URL shows, and for which user, as a sentence.
 fn page_line(alloc: Global, url: &Url) -> Result<String, Error> {
     let pages = pages(alloc)?;
     let shown = routes::shown(alloc, &pages, url);
@@ -151,7 +151,7 @@ fn parts(alloc: Global, text: &str) -> Result<PatternParts, Error> {
     // docs: end
 }
 
-/// Whether an extension may have a pattern, as a sentence.
+/// Whether the pattern `asked` is permitted to an extension, as a sentence.
 fn grants_line(alloc: Global, asked: &str) -> Result<String, Error> {
     let mut grants = Grants::new(alloc);
     grants.grant(parts(alloc, "https://*.example.com/*")?)?;
@@ -166,7 +166,7 @@ fn grants_line(alloc: Global, asked: &str) -> Result<String, Error> {
     }
 }
 
-/// How long a URL is kept, as a sentence.
+/// For how long the page of a URL is kept, as a sentence.
 fn cache_line(alloc: Global, url: &Url) -> Result<String, Error> {
     // docs: list
     let mut patterns = UrlPatternList::new(alloc);
@@ -223,7 +223,7 @@ fn write_line<W: Write>(out: &mut W, line: Result<String, Error>) -> io::Result<
 }
 // docs: end
 
-/// The lines of all modules for a URL.
+/// A line about a URL: its user, its page, whether it is public, and for how long it is kept.
 fn lines(alloc: Global, url: &str) -> Result<String, Error> {
     let url = Url::parse(alloc, url)?;
     let user = user_line(alloc, &url)?;
@@ -233,7 +233,7 @@ fn lines(alloc: Global, url: &str) -> Result<String, Error> {
     Ok(format!(in alloc; "{url}: {user}, {page}, {permission}, {cached}")?)
 }
 
-/// Writes what the calls of the other modules return.
+/// Writes a line for each call of the other modules.
 fn calls<W: Write>(alloc: Global, out: &mut W) -> io::Result<()> {
     write_line(out, matching::test_line(alloc))?;
     write_line(out, matching::exec_line(alloc))?;

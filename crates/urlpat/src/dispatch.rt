@@ -1,4 +1,4 @@
-//! Runs any command of the program.
+//! Runs any command of the program except for `link` and `explain`.
 
 ghost use Rattle.std.specs.Prelude.{◌≡◌, ◌≢◌, ◌⊎◌};
 ghost use Rattle.urlpat_lines.specs.Words.{words_view};
@@ -10,7 +10,8 @@ use urlpat_lines::{Flags, arguments_after};
 use urlpat_matching::{DONE, FAILED, NO_MATCH};
 use urlpat_rules::{Tables, covers, list_unreachable, route};
 
-/// Runs the program with these arguments and flags. Returns the exit status.
+/// Runs the program with these arguments and flags, which are not those of `link` or `explain`.
+/// Returns the exit status.
 ///
 /// `filter` and `route` read lines from `input`, `route` and `unreachable` a file from `tables`.
 /// Output is written to `out`, errors and notes to `err`.

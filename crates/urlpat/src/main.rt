@@ -20,7 +20,7 @@ use urlpat_lines::{Flags, arguments_after, remove_flags};
 use urlpat_matching::{Failure, fail};
 use urlpat_rules::Tables;
 
-/// The files of the host.
+/// The files of the host, as a source of tables.
 #[derive(Drop)]
 struct HostFiles<'a> {
     rt: &'a HostRuntime,
@@ -66,7 +66,7 @@ fn run_buffered(rt: &HostRuntime, words: &[String], flags: Flags) -> io::Result<
     Ok(status)
 }
 
-/// Runs the program with these arguments. Returns the exit status.
+/// Runs the command that the arguments ask for. Returns the exit status.
 fn run_words<In: BufRead, Out: Write, Err: Write>(
     rt: &HostRuntime,
     words: &[String],

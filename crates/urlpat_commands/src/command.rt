@@ -33,7 +33,8 @@ struct Printed {
     status: u8,
 }
 
-/// Runs the program with these arguments and flags. Returns the exit status.
+/// Runs the program with these arguments and flags: prints help, or runs a command of this crate.
+/// Returns the exit status.
 ///
 /// `filter` reads lines from `input`. Output is written to `out`, by every other command in one
 /// piece. Errors are written to `err`, and notes on an input or a line that is not a URL.
@@ -60,7 +61,7 @@ pub fn run<In: BufRead, Out: Write, Err: Write>(
     }
 }
 
-/// Runs a command that reads no input. Returns the exit status.
+/// Prints help, or runs a command that reads no input. Returns the exit status.
 fn run_once<Out: Write, Err: Write>(
     alloc: Global,
     words: &[String],
@@ -100,7 +101,8 @@ fn run_once<Out: Write, Err: Write>(
     }
 }
 
-/// The note for a run with this exit status: the input is not a URL, if errors are explained.
+/// Returns the note to print beside the output of a run that ended with `status`: the input is not
+/// a URL. `None`: the input is a URL, the run found a match, or errors are not explained.
 fn note_beside(
     alloc: Global,
     words: &[String],
@@ -155,7 +157,8 @@ fn write_failure<Err: Write>(
     }
 }
 
-/// The output for the arguments.
+/// The output for the arguments, and the exit status. The error is the reason why there is no
+/// output.
 fn answer(alloc: Global, words: &[String], flags: Flags) -> Result<Printed, Failure>
     ensures answers { IfOk result (λ answer.
         IsCommandAnswer flags (words_view words.now) (string_bytes answer.text) answer.status) }
@@ -172,8 +175,8 @@ fn answer(alloc: Global, words: &[String], flags: Flags) -> Result<Printed, Fail
     }
 }
 
-/// The output for the arguments of the short form, `urlpat PATTERN URL`. `words` is what follows
-/// the pattern.
+/// The output and the exit status of the short form, `urlpat PATTERN URL`. `words` are the
+/// arguments after the pattern.
 fn short_answer(
     alloc: Global,
     pattern: &str,
@@ -193,7 +196,7 @@ fn short_answer(
     Ok(answer_of(alloc, lines, flags.json)?)
 }
 
-/// The output for the arguments of `component`.
+/// The output and the exit status of `component`. `words` are the arguments after the command.
 fn component_answer(alloc: Global, words: &[String]) -> Result<Printed, Failure>
     ensures answers { IfOk result (λ answer.
         IsComponentAnswer (words_view words.now) (string_bytes answer.text) answer.status) }
@@ -208,7 +211,7 @@ fn component_answer(alloc: Global, words: &[String]) -> Result<Printed, Failure>
     })
 }
 
-/// The output for the arguments of `match`.
+/// The output and the exit status of `match`. `words` are the arguments after the command.
 fn match_answer(alloc: Global, words: &[String], flags: Flags) -> Result<Printed, Failure>
     ensures answers { IfOk result (λ answer.
         IsMatchAnswer flags (words_view words.now) (string_bytes answer.text) answer.status) }
@@ -221,7 +224,7 @@ fn match_answer(alloc: Global, words: &[String], flags: Flags) -> Result<Printed
     Ok(answer_of(alloc, lines, flags.json)?)
 }
 
-/// The output for the arguments of `first`.
+/// The output and the exit status of `first`. `words` are the arguments after the command.
 fn first_answer(alloc: Global, words: &[String], flags: Flags) -> Result<Printed, Failure>
     ensures answers { IfOk result (λ answer.
         IsFirstAnswer flags (words_view words.now) (string_bytes answer.text) answer.status) }
@@ -237,7 +240,8 @@ fn first_answer(alloc: Global, words: &[String], flags: Flags) -> Result<Printed
     Ok(answer_of(alloc, lines, flags.json)?)
 }
 
-/// The output for a match, or for none.
+/// The output and the exit status of a command that looks for a match. `found` is what is printed
+/// of the match, `None` if there is no match.
 fn answer_of(alloc: Global, found: Option<String>, json: bool) -> Result<Printed, AllocError>
     ensures { IfOk result (IsPrintedOf json found) }
 {
@@ -257,7 +261,7 @@ fn no_match_text(json: bool) -> &'static str
     if json { "null\n" } else { "no match\n" }
 }
 
-/// The output of `component`.
+/// The output of `component` for a pattern. `kind` is the name of the options.
 fn component(alloc: Global, kind: &str, pattern: &str) -> Result<String, Failure>
     ensures text { IfOk result (λ text. IsComponentText kind.now pattern.now (string_bytes text)) }
     ensures fails { IfErr result (FailsComponent kind.now pattern.now) }
@@ -274,7 +278,7 @@ fn component(alloc: Global, kind: &str, pattern: &str) -> Result<String, Failure
     Ok(component_report(alloc, &names, &regexp, &printed)?)
 }
 
-/// The options with this name, if there are any.
+/// The options with this name, `default`, `hostname` or `pathname`. `None` for any other name.
 pub fn options_of(alloc: Global, kind: &str) -> Result<Option<Options>, Error>
     ensures some { IfOk result (λ found. IfSome found (λ options.
         NamesOptions kind.now (options_view options))) }

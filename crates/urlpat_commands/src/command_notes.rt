@@ -43,7 +43,8 @@ fn is_command(word: &str) -> bool
     matches!(word, "component" | "match" | "first")
 }
 
-/// A note that the input among the arguments is not a URL. `None`: it is one, or there is no input.
+/// Returns a note that the input among the arguments is not a URL. `None`: it is a URL, or there is
+/// no input.
 pub fn input_note(alloc: Global, words: &[String]) -> Result<Option<String>, Error>
     ensures { IfOk result (λ note. IfSome note (λ text. HasRejectedInput (words_view words.now))) }
 {
@@ -58,7 +59,8 @@ pub fn input_note(alloc: Global, words: &[String]) -> Result<Option<String>, Err
     }
 }
 
-/// A note that the input of the short form is not a URL.
+/// Returns a note that the input of the short form is not a URL. `words` are the arguments after
+/// the pattern. `None`: it is a URL, or the arguments are invalid.
 fn short_note(alloc: Global, words: &[String]) -> Result<Option<String>, Error>
     ensures { IfOk result (λ note. IfSome note (λ text.
         HasRejectedShortInput (words_view words.now))) }
@@ -69,7 +71,8 @@ fn short_note(alloc: Global, words: &[String]) -> Result<Option<String>, Error>
     note_of(alloc, None, input)
 }
 
-/// A note that the input of `match` is not a URL.
+/// Returns a note that the input of `match` is not a URL. `words` are the arguments after the
+/// command. `None`: it is a URL, or the arguments are invalid.
 fn match_note(alloc: Global, words: &[String]) -> Result<Option<String>, Error>
     ensures { IfOk result (λ note. IfSome note (λ text.
         HasRejectedMatchInput (words_view words.now))) }
@@ -80,7 +83,8 @@ fn match_note(alloc: Global, words: &[String]) -> Result<Option<String>, Error>
     note_of(alloc, base_of(base), input)
 }
 
-/// A note that the input of `first` is not a URL.
+/// Returns a note that the input of `first` is not a URL. `words` are the arguments after the
+/// command. `None`: it is a URL, or the arguments are invalid.
 fn first_note(alloc: Global, words: &[String]) -> Result<Option<String>, Error>
     ensures { IfOk result (λ note. IfSome note (λ text.
         HasRejectedFirstInput (words_view words.now))) }
@@ -91,8 +95,8 @@ fn first_note(alloc: Global, words: &[String]) -> Result<Option<String>, Error>
     note_of(alloc, base_of(base), input)
 }
 
-/// Diagnoses the pattern among the arguments and its base, in lines for a reader. `None`: the
-/// failure has another reason.
+/// Returns a diagnosis of the pattern among the arguments or of its base, as lines of text. `None`:
+/// the run failed for another reason than that one of them is rejected.
 pub fn diagnosis_note(
     alloc: Global,
     words: &[String],
@@ -104,7 +108,9 @@ pub fn diagnosis_note(
     }
 }
 
-/// Diagnoses the pattern among the arguments that is rejected with this error, or its base.
+/// Returns a diagnosis of the pattern among the arguments or of its base, which is rejected with
+/// this error, as lines of text. `None`: the arguments are not those of a command of this crate, or
+/// nothing is rejected.
 fn refusal_note(
     alloc: Global,
     words: &[String],
@@ -122,7 +128,8 @@ fn refusal_note(
     }
 }
 
-/// Diagnoses the pattern of a component, under the options with this name.
+/// Returns a diagnosis of the pattern of a component, as lines of text. `kind` is the name of the
+/// options. `None`: the pattern is not rejected.
 fn component_diagnosis(
     alloc: Global,
     kind: &str,

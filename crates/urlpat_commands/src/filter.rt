@@ -1,5 +1,5 @@
-//! The command `filter`: prints the lines of a reader whose URLs match a pattern. Here a pattern
-//! matches one line; the crate `urlpat_lines` reads, selects and counts them.
+//! The command `filter`: prints the lines of a reader whose URLs match a pattern. A pattern is
+//! matched against one line at a time; the crate `urlpat_lines` reads, selects and counts lines.
 
 ghost use Rattle.std.specs.Io.KnownBytes.{Appends};
 ghost use Rattle.std.specs.Prelude.{◌≡◌, ◌⊎◌, option_copied, IfNone, IfSome, OnOk};
@@ -33,7 +33,7 @@ usage: urlpat filter PATTERN BASE --json
        add --ignore-case for patterns that ignore case
 ";
 
-/// A pattern and a base URL, as a matcher of lines.
+/// A pattern that is matched against the URLs in lines, under a base URL.
 #[derive(Drop)]
 struct UrlLines<'a> {
     alloc: Global,
@@ -80,13 +80,13 @@ pub fn filter<In: BufRead, Out: Write, Err: Write>(
     }
 }
 
-/// The usage of `filter`.
+/// The usage of `filter`, with output as JSON or not.
 fn usage(json: bool) -> &'static str {
     if json { JSON_USAGE } else { FILTER_USAGE }
 }
 
-/// Compiles the pattern of a query. `None`: the pattern is rejected, or lacks the group of the
-/// query, which is reported.
+/// Compiles the pattern of a query, under a base URL if there is one. `None`: the pattern is
+/// rejected, or lacks the group that the query prints, which is reported.
 fn asked_pattern<Err: Write>(
     alloc: Global,
     query: Query<'_>,
@@ -114,7 +114,8 @@ fn asked_pattern<Err: Write>(
     }
 }
 
-/// The group of a shape, if the pattern lacks it.
+/// The group that a shape prints, if the pattern lacks it. `None`: the pattern has the group, or
+/// the shape prints no group.
 fn missing_group<'q>(
     pattern: &UrlPattern<PatternRegexp>,
     shape: Shape<'q>,
@@ -176,7 +177,7 @@ impl LineMatcher for UrlLines<'_> {
     }
 }
 
-/// Appends what a shape prints of a match: the capture of a group, or JSON.
+/// Appends what a shape prints of a match: the capture of a group, JSON, or nothing.
 fn push_piece(
     alloc: Global,
     found: &UrlPatternCaptures<'_, '_>,

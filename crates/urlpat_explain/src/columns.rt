@@ -37,8 +37,8 @@ pub fn pattern_table(
     Ok(table)
 }
 
-/// A line for each component: its name, its printed pattern, its text, whether it matches, and its
-/// captures.
+/// A line for each component: its name, its printed pattern, its text, whether the pattern matches
+/// the text, and the captures.
 pub fn match_table(
     alloc: Global,
     pattern: &UrlPattern<PatternRegexp>,
@@ -65,7 +65,7 @@ pub fn match_table(
     Ok(table)
 }
 
-/// The length of the longest pattern cell in characters.
+/// The length in characters of the longest cell that `pattern_cell` returns.
 fn pattern_width(pattern: &UrlPattern<PatternRegexp>) -> usize
     ensures { result ≡ widest (pattern_cell (pattern_view pattern.now)) }
 {
@@ -76,7 +76,7 @@ fn pattern_width(pattern: &UrlPattern<PatternRegexp>) -> usize
     width
 }
 
-/// The length of the longest text cell in characters.
+/// The length in characters of the longest cell that `text_cell` returns.
 fn text_width(texts: &Eight<&str>) -> usize
     ensures { result ≡ widest (text_cell (borrowed_texts texts.now)) }
 {
@@ -115,7 +115,7 @@ fn length_of(text: &str) -> usize
     text.chars().count()
 }
 
-/// Appends a text, spaces up to a width, and two more.
+/// Appends a text, spaces up to `width` characters, and two more spaces.
 fn push_column(alloc: Global, row: &mut String, text: &str, width: usize) -> Result<(), AllocError>
     ensures { OnOk result (GetsBytes row.old row.new (column width text.now)) }
 {
@@ -126,7 +126,7 @@ fn push_column(alloc: Global, row: &mut String, text: &str, width: usize) -> Res
     row.push_str("  ")
 }
 
-/// Appends whether a component matches a text, and its captures.
+/// Appends whether a component matches a text, and the captures of its groups if it does.
 fn push_verdict(
     alloc: Global,
     row: &mut String,
@@ -145,7 +145,7 @@ fn push_verdict(
     Ok(())
 }
 
-/// Appends each group: its name, and its capture if it took part.
+/// Appends a cell for each group: its name, and its capture if it took part.
 fn push_group_cells(
     row: &mut String,
     names: &[String],
@@ -160,7 +160,7 @@ fn push_group_cells(
     Ok(())
 }
 
-/// Appends a group: its name, and its capture if it took part.
+/// Appends the cell of a group: its name, and its capture if it took part (`Some`).
 fn push_group_cell(row: &mut String, name: &str, capture: Option<&str>) -> Result<(), AllocError>
     ensures { OnOk result
         (GetsBytes row.old row.new (group_cell (chars name.now, option_text capture.entry))) }

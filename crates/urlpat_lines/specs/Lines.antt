@@ -4,15 +4,17 @@ use Rattle.std.specs.Io.{StopsAt, IsEmptyOrEndsWith}
 use Rattle.std.specs.Io.KnownBytes.{Consumes, IsAtEnd}
 use Rattle.urlpat_lines.specs.declared.lines.TheConstants.{LONGEST}
 
--- The kept part of a line: all of it, unless it is too long.
+-- `kept` is the line, or both are longer than `LONGEST`.
 abbrev pub IsLineKept : (kept line : List ℕ) → Type 0
 IsLineKept kept line = (kept ≡ line) ⊎ ((LONGEST < length kept) × (LONGEST < length line))
 
--- A part is appended, unless the line is already too long.
+-- `new` is `old` with `part` appended; or it is `old`, which is longer than `LONGEST`.
 abbrev pub IsAppended : (old new part : List ℕ) → Type 0
 IsAppended old new part = (new ≡ old ++ part) ⊎ ((LONGEST < length old) × (new ≡ old))
 
--- A line got a part of the bytes of a reader, and ended with it or not.
+-- A part of the bytes that a reader has left is consumed and appended to the line `old`. `ended`
+-- says whether the line is complete: the part ends with a line end, or is empty at the end of the
+-- input. `before` and `after` are the bytes that are left, if known.
 pub record GetsPart (before after : Option (List ℕ)) (old new : List ℕ) (ended : Bool) : Type 0
   where
     pub part : List ℕ
@@ -23,6 +25,6 @@ pub record GetsPart (before after : Option (List ℕ)) (old new : List ℕ) (end
         (IsEmptyOrEndsWith part 10 × (length part ≡ 0 → OnSome before (IsAtEnd after)))
         (All (λ byte. byte ≢ 10) part)
 
--- `GetsPart` as a function.
+-- `GetsPart` as a function, to be applied to `ended`.
 abbrev pub Gets : (before after : Option (List ℕ)) → (old new : List ℕ) → (ended : Bool) → Type 0
 Gets before after old new ended = GetsPart before after old new ended

@@ -7,7 +7,7 @@ use Rattle.urlpat_lines.specs.declared.table.Entry.{Entry}
 use Rattle.urlpat_lines.specs.declared.table.NoTable.{NoTable}
 use Rattle.urlpat_lines.specs.declared.table.NoTable.TheVariants.{NotUtf8, OutOfMemory}
 
--- A pattern of a table: the number of its line, its text, and its name.
+-- An entry of a table: the number of its line, the text of its pattern, and its name.
 pub record EntryView : Type 0 where
   pub number : ℕ
   pub pattern : List ℕ
@@ -29,7 +29,7 @@ entries_view entries = map entry_view entries
 abbrev pub table_lines : (table : List ℕ) → List (List ℕ)
 table_lines table = map without_terminator (lines_of table)
 
--- A line that is empty or a comment has no entry.
+-- Whether a line has no entry: it is empty, or begins with `#`.
 abbrev pub is_skipped : (line : List ℕ) → Bool
 is_skipped [] = true
 is_skipped (first ∷ line) = first == slice_index (codes "#") 0
@@ -47,11 +47,11 @@ line_entry number line = record {
   name = after_first is_tab line;
 }
 
--- The entry of a line, if it has one.
+-- The entry of a line as a list, which is empty if the line is skipped.
 abbrev pub line_entries : (number : ℕ) → (line : List ℕ) → List EntryView
 line_entries number line = if is_skipped line then [] else line_entry number line ∷ []
 
--- The entries of lines, of which the first has this number.
+-- The entries of lines, of which the first has the number `number`.
 abbrev pub entries_from : (number : ℕ) → (lines : List (List ℕ)) → List EntryView
 entries_from number [] = []
 entries_from number (line ∷ lines) = line_entries number line ++ entries_from (number + 1) lines

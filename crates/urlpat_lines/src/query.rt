@@ -27,13 +27,14 @@ pub struct Query<'a> {
     pub pattern: &'a str,
     /// The argument for the base URL.
     pub base: &'a str,
-    /// Whether the lines that do not match are selected.
+    /// Whether the lines that do not match are selected, in place of those that match.
     pub inverted: bool,
     /// What is printed for a selected line.
     pub shape: Shape<'a>,
 }
 
-/// Parses the arguments of `filter`, with output as JSON or not. `None`: the arguments are invalid.
+/// Parses the arguments of `filter`. `json` says whether output is JSON. `None`: the arguments are
+/// invalid.
 pub fn query_of(words: &[String], json: bool) -> Option<Query<'_>>
     ensures asked { IfSome result (IsQueryOf json (words_view words.now)) }
     ensures other { IfNone result (AskForNoQuery json (words_view words.now)) }
@@ -55,7 +56,7 @@ pub fn query_of(words: &[String], json: bool) -> Option<Query<'_>>
 }
 
 /// Parses the arguments after the base URL when output is JSON: there are none, and the match is
-/// printed.
+/// printed. `None`: there are arguments.
 fn asked_as_json(words: &[String]) -> Option<(bool, Shape<'_>)>
     ensures asked { IfSome result (IsQuery true (words_view words.now)) }
     ensures other { IfNone result (AsksNothing (IsQuery true (words_view words.now))) }
@@ -67,8 +68,8 @@ fn asked_as_json(words: &[String]) -> Option<(bool, Shape<'_>)>
     }
 }
 
-/// Parses the arguments after the base URL: whether lines that do not match are selected, and what
-/// is printed for a line.
+/// Parses the arguments after the base URL. Returns whether the lines that do not match are
+/// selected, and what is printed for a selected line. `None`: the arguments are invalid.
 fn asked_by(flags: &[String]) -> Option<(bool, Shape<'_>)>
     ensures asked { IfSome result (IsAskedByFlags (words_view flags.now)) }
     ensures other { IfNone result (AsksNothing (IsAskedByFlags (words_view flags.now))) }
@@ -81,7 +82,7 @@ fn asked_by(flags: &[String]) -> Option<(bool, Shape<'_>)>
     }
 }
 
-/// Parses a single argument after the base URL.
+/// Parses a single argument after the base URL: `--not` or `--count`. `None`: it is neither.
 fn asked_by_one(flag: &str) -> Option<(bool, Shape<'_>)>
     ensures asked { IfSome result (IsAskedByOne flag.now) }
     ensures other { IfNone result (AsksNothing (IsAskedByOne flag.now)) }
@@ -93,7 +94,8 @@ fn asked_by_one(flag: &str) -> Option<(bool, Shape<'_>)>
     }
 }
 
-/// Parses two arguments after the base URL: two flags in any order, or `--group` and a group.
+/// Parses two arguments after the base URL: `--not` and `--count` in any order, or `--group` and a
+/// group. `None`: the arguments are invalid.
 fn asked_by_two<'a>(first: &str, second: &'a str) -> Option<(bool, Shape<'a>)>
     ensures asked { IfSome result (IsAskedByTwo first.now second.now) }
     ensures other { IfNone result (AsksNothing (IsAskedByTwo first.now second.now)) }
@@ -106,7 +108,8 @@ fn asked_by_two<'a>(first: &str, second: &'a str) -> Option<(bool, Shape<'a>)>
     }
 }
 
-/// The query for the count of the lines that do not match, if both flags are there.
+/// The query for the count of the lines that do not match. `None`: `both` is false, since the
+/// arguments are not `--not` and `--count`.
 fn others_counted<'a>(both: bool) -> Option<(bool, Shape<'a>)>
     ensures asked { IfSome result (λ asked. (both ≡ true) × (asked ≡ (true, shapes.Count))) }
     ensures other { IfNone result (both ≡ false) }
@@ -118,7 +121,8 @@ fn others_counted<'a>(both: bool) -> Option<(bool, Shape<'a>)>
     }
 }
 
-/// Parses the name of a component, a dot, and the name of a group.
+/// Parses the argument of `--group`: the name of a component, a dot, and the name of a group.
+/// `None`: the argument has no dot, or no component has the name.
 fn asked_group(word: &str) -> Option<(bool, Shape<'_>)>
     ensures asked { IfSome result (NamesGroup word.now) }
     ensures other { IfNone result (AsksNothing (NamesGroup word.now)) }

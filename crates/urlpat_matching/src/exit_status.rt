@@ -15,7 +15,8 @@ use urlpattern_syntax::Error;
 /// The exit status of a run that succeeded.
 pub const DONE: u8 = 0;
 
-/// The exit status of a run whose input does not match.
+/// The exit status of a run with a negative outcome: the input does not match, no line is selected,
+/// a pattern does not cover the other one, or there is no URL.
 pub const NO_MATCH: u8 = 1;
 
 /// The exit status of any other run.
@@ -33,7 +34,7 @@ const FIRST_USAGE: &str = "       urlpat first BASE INPUT PATTERN..\n";
 /// The reason why a run has no output.
 #[derive(Debug, Drop)]
 pub enum Failure {
-    /// The arguments are not a command.
+    /// The arguments are not those of a command.
     Usage,
     /// The library rejected an argument, or memory ran out.
     Refused(Error),
@@ -63,7 +64,7 @@ pub fn print<Out: Write>(text: &[u8], out: &mut Out) -> io::Result<()>
     out.flush()
 }
 
-/// Reports why a run has no output. Returns the exit status.
+/// Reports why a run has no output. Returns the exit status, `FAILED`.
 pub fn fail<Err: Write>(failure: &Failure, err: &mut Err) -> u8
     ensures { result ≡ FAILED }
 {

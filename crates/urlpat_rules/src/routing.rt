@@ -21,7 +21,8 @@ usage: urlpat route FILE [BASE]
        add --ignore-case for patterns that ignore case
 ";
 
-/// The entries of a table with their patterns, as a rule for the URLs in lines, under a base URL.
+/// The rule of `route`: finds the first entry of a table whose pattern matches the URL in a line,
+/// under a base URL.
 #[derive(Drop)]
 struct Router<'a, 't> {
     alloc: Global,
@@ -30,7 +31,7 @@ struct Router<'a, 't> {
     json: bool,
 }
 
-/// Runs `route` with these arguments. Returns the exit status.
+/// Runs `route` with the arguments after it. Returns the exit status.
 pub fn route<T: Tables, In: BufRead, Out: Write, Err: Write>(
     alloc: Global,
     tables: &T,
@@ -56,7 +57,8 @@ pub fn route<T: Tables, In: BufRead, Out: Write, Err: Write>(
     status
 }
 
-/// Routes each line by the patterns of a table. Returns the exit status.
+/// Writes a row for each line: the row of the first entry of a table whose pattern matches the URL
+/// in the line. Returns the exit status.
 fn route_by<In: BufRead, Out: Write, Err: Write>(
     alloc: Global,
     table: &[u8],
@@ -95,7 +97,7 @@ fn route_by<In: BufRead, Out: Write, Err: Write>(
     }
 }
 
-/// The entries with their patterns. `None`: a pattern is rejected, or memory ran out, which is
+/// Compiles the pattern of each entry. `None`: a pattern is rejected, or memory ran out, which is
 /// reported.
 fn routes_of<'t, Err: Write>(
     alloc: Global,

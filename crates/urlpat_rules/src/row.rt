@@ -16,7 +16,7 @@ use urlpat_matching::{json_line, match_tree, push_match};
 use urlpattern::UrlPatternCaptures;
 use urlpattern_inputs::json_writing::put_text;
 
-/// The usual maximum length of a row's groups in bytes.
+/// The number of bytes that are reserved at first for the groups of a row.
 const USUAL: usize = 256;
 
 /// Appends the row of an entry whose pattern matches: as JSON, or its number, its name and each
@@ -41,7 +41,7 @@ pub fn push_route(
     Ok(())
 }
 
-/// The number and the name of an entry, and the match, as JSON.
+/// The JSON of a row: the number and the name of an entry, and `found`, the JSON of the match.
 fn route_tree(alloc: Global, entry: &Entry<'_>, found: Value) -> Result<Value, AllocError>
     ensures { IfOk result (λ tree. view tree ≡ route_tree (entry_view entry.now) (view found)) }
 {
@@ -74,7 +74,7 @@ fn push_row(
     Ok(())
 }
 
-/// Appends each line of a text, after a tab.
+/// Appends each line of a text without its end, after a tab.
 fn push_cells(text: &[u8], row: &mut Vec<u8>) -> Result<(), AllocError>
     ensures { OnOk result
         (row.new.items ≡ row.old.items ++ flat_map cell_text (bare_lines text.now)) }

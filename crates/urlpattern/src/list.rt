@@ -61,7 +61,8 @@ pub struct UrlPatternList<R: RegExp = regex::Regex> {
 }
 
 impl<R: RegExp> Drop for UrlPatternList<R> {
-    /// Drops the patterns. The prover then handles one call where a list goes out of scope.
+    /// Drops the patterns and the index, in a function of its own, so that the prover handles a
+    /// single call where a list goes out of scope.
     fn drop(self) {
         let Self {
             patterns: _patterns,
@@ -93,7 +94,8 @@ impl<R: RegExp> UrlPatternList<R> {
         }
     }
 
-    /// Returns an empty list with room for `capacity` patterns.
+    /// Returns an empty list with room for `capacity` patterns, but not for their entries in the
+    /// index: adding a pattern may still allocate.
     pub fn with_capacity(alloc: Global, capacity: usize) -> Result<Self, Error>
         ensures empty { IfOk result (λ list. list ≡ []) }
         ensures memory { OnlyOutOfMemory result }
@@ -249,8 +251,8 @@ impl<R: RegExp> UrlPatternList<R> {
         }
     }
 
-    /// Returns the first match of a URL by the pattern at an index or a later one. `None`: none of
-    /// them matches.
+    /// Returns the first match of a URL by a pattern whose index is at least `index`, with the
+    /// index of that pattern. `hashes` are those of the URL. `None`: no such pattern matches.
     ///
     /// Only an engine allocates. A function of its own, since a call clears all variables of its
     /// function, and some are needed only for a match.
@@ -308,7 +310,7 @@ impl<R: RegExp> UrlPatternList<R> {
     }
 }
 
-/// The texts of a URL by which patterns are looked up.
+/// The protocol, the hostname and the path of a URL, by which the index finds patterns.
 fn url_address(url: &Url) -> Address<'_>
     ensures { address_texts result ≡ address_of (texts_of_url url.now) }
 {

@@ -29,11 +29,11 @@ use crate::regexp::RegExp;
 ///   accepted the regular expression, if one was needed.
 /// - `pattern_engine`: a matcher made by `PatternRegexp` returns the first way as well, without any
 ///   premise on the engine.
-/// - `custom`: both engines match custom parts correctly, if case is kept and the expressions stand
-///   alone and capture nothing themselves (`stands_alone`, `captures_nothing`): a matcher returns
-///   what the parts capture, where a custom part matches what its expression matches by itself. An
-///   engine that is needed has to accept the regular expression, which has at most 2³² characters
-///   for `PatternRegexp`.
+/// - `custom`: `regex::Regex` and `PatternRegexp` match custom parts correctly, if case is kept and
+///   the expressions stand alone and capture nothing themselves (`stands_alone`,
+///   `captures_nothing`): a matcher returns what the parts capture, where a custom part matches
+///   what its expression matches by itself. An engine that is needed has to accept the regular
+///   expression, which has at most 2³² characters for `PatternRegexp`.
 /// - `custom_first`: when several captures are possible, a matcher with custom parts returns those
 ///   of the first way of the parts (`parts_first_way`), which tries the choices of a custom
 ///   expression in the order in which the grammar of `regex` prefers them. Without a custom part
@@ -41,7 +41,8 @@ use crate::regexp::RegExp;
 /// - `reads_back`: the printed pattern of parts that were read under the standard's options reads
 ///   as the parts, neighbouring plain fixed texts joined, under each encoding that keeps their
 ///   texts, provided that no fixed text is empty and no text has a tab or a line end.
-/// - `nothing_else`: the printed pattern reads as no other parts, and is not rejected.
+/// - `nothing_else`: the printed pattern of parts, under the premises of `reads_back`, reads as no
+///   other parts than the joined ones, and is not rejected.
 /// - `executes`: a pattern has a match on an input, with its groups, exactly if the input has eight
 ///   texts and each of the eight matchers accepts its own. `UrlPattern::exec` returns the match.
 ///   Its `None` excludes a match except for inputs longer than those that `url` is sure to accept.

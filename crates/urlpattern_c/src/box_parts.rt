@@ -27,7 +27,7 @@ impl<T: Drop, A: Allocator> BoxParts<T, A> {
         BoxParts { at, alloc }
     }
 
-    /// Puts the box together again.
+    /// Puts the box together again from its pointer and its allocator.
     pub(crate) fn into_box(self) -> Box<T, A>
         ensures { result.value ≡ self.value }
     {

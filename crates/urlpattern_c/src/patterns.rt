@@ -12,6 +12,7 @@ use urlpattern_ffi::PatternBox;
 #[repr(C)]
 #[derive(Drop)]
 pub struct Patterns {
+    /// Whether the slot has patterns.
     is_made: bool,
     pub(crate) slot: Slot,
     ghost agrees: { is_made ≡ is_some slot.held },
@@ -45,7 +46,7 @@ impl Patterns {
         }
     }
 
-    /// Puts patterns in.
+    /// Puts patterns into the handle, which `take` has emptied. `None`: the handle stays empty.
     pub(crate) fn put(&mut self, kept: Option<Box<PatternBox>>)
         ensures { patterns_in self.new ≡ boxed_patterns kept }
     {

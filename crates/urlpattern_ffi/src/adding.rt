@@ -12,6 +12,7 @@ use urlpattern::regexp::PatternRegexp;
 use urlpattern::{Error, RegexSyntax, UrlPattern, UrlPatternOptions};
 
 /// Compiles a constructor string, under a base URL unless `base` is empty, and appends the pattern.
+/// Unless the status is `Done`, the patterns are unchanged.
 pub fn add(
     alloc: Global,
     kept: &mut Option<Box<PatternBox>>,
@@ -38,7 +39,7 @@ pub fn add(
     }
 }
 
-/// The status for the error with which a pattern is rejected.
+/// The status for an error of compiling: `OutOfMemory`, or `Refused` for any other error.
 pub(crate) fn status_of_error(error: &Error) -> Status
     ensures { result ≡ error_status (error_view error.now) }
 {
@@ -48,14 +49,14 @@ pub(crate) fn status_of_error(error: &Error) -> Status
     }
 }
 
-/// The base URL as an option. `None`: the text is empty.
+/// The base URL that a text gives. `None`: the text is empty.
 pub(crate) fn given_base(text: &str) -> Option<&str>
     ensures { option_copied result ≡ given_base text.now }
 {
     if text.is_empty() { None } else { Some(text) }
 }
 
-/// Compiles a constructor string.
+/// Compiles a constructor string, under a base URL if there is one.
 fn compiled(
     alloc: Global,
     text: &str,
@@ -71,7 +72,7 @@ fn compiled(
     UrlPattern::from_constructor_string(alloc, text, base, options(ignore_case))
 }
 
-/// The options of a pattern.
+/// The options with which patterns are compiled: the syntax of `regex`, and case ignored or not.
 pub(crate) fn options(ignore_case: bool) -> UrlPatternOptions
     ensures { result ≡ c_options ignore_case }
 {
@@ -81,7 +82,7 @@ pub(crate) fn options(ignore_case: bool) -> UrlPatternOptions
     }
 }
 
-/// Appends a pattern.
+/// Appends a pattern to the patterns of a handle. If memory runs out, the patterns are unchanged.
 pub(crate) fn push(
     alloc: Global,
     kept: &mut Option<Box<PatternBox>>,

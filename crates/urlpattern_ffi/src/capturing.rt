@@ -11,7 +11,8 @@ use std::alloc::Global;
 use urlpattern::regexp::PatternRegexp;
 use urlpattern::{UrlPattern, UrlPatternList};
 
-/// Writes what the groups of the pattern at an index capture of a URL, and a span for each group.
+/// Matches the pattern at an index against a URL, and writes the captures of its groups to
+/// `buffer`, a span for each group to `spans`, and the room that both need to `needed`.
 pub fn captures(
     alloc: Global,
     kept: &Option<Box<PatternBox>>,
@@ -31,7 +32,8 @@ pub fn captures(
     }
 }
 
-/// Writes what the groups of a pattern capture of a URL, and a span for each group.
+/// Matches a pattern against a URL, and writes the captures of its groups to `buffer`, a span for
+/// each group to `spans`, and the room that both need to `needed`.
 fn pattern_captures(
     alloc: Global,
     pattern: &UrlPattern<PatternRegexp>,
@@ -55,8 +57,8 @@ fn pattern_captures(
     }
 }
 
-/// Finds the first pattern that matches a URL, and writes its index, what its groups capture, and a
-/// span for each group.
+/// Finds the first pattern that matches a URL. Writes its index, the captures of its groups to
+/// `buffer`, a span for each group to `spans`, and the room that both need to `needed`.
 pub fn first_captures(
     alloc: Global,
     kept: &Option<Box<PatternBox>>,
@@ -76,8 +78,8 @@ pub fn first_captures(
     }
 }
 
-/// Finds the first pattern of a list that matches a URL, and writes its index, what its groups
-/// capture, and a span for each group.
+/// Finds the first pattern of a list that matches a URL. Writes its index, the captures of its
+/// groups to `buffer`, a span for each group to `spans`, and the room that both need to `needed`.
 fn list_captures(
     alloc: Global,
     list: &UrlPatternList<PatternRegexp>,

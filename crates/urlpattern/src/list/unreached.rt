@@ -9,10 +9,10 @@ use urlpattern_matcher::regexp::RegExp;
 use urlpattern_pattern::{CompareError, UrlPattern};
 
 impl<R: RegExp> UrlPatternList<R> {
-    /// Lists each pattern that an earlier one is known to cover, in order: its index, and that of
-    /// the first pattern that covers it.
+    /// Lists each pattern that an earlier one is known to cover, in order: its index, and the index
+    /// of the first pattern that is known to cover it.
     ///
-    /// In a list of which the first match counts, such a pattern is never found. The parts of the
+    /// In a list of which the first match counts, no listed pattern is ever found. The parts of the
     /// patterns are compared, as `rules::unreachable` does. A pattern that is covered only by
     /// several others together is not listed.
     ///
@@ -26,7 +26,7 @@ impl<R: RegExp> UrlPatternList<R> {
     }
 }
 
-/// The parts of each pattern, in order.
+/// Returns the parts of each pattern, in order.
 ///
 /// The error is `NoParts` if a pattern has no parts, or `OutOfMemory`.
 fn parts_of_each<R: RegExp>(
