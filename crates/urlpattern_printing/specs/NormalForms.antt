@@ -37,7 +37,7 @@ IsReadFrom options encoding parts normal =
     Reads (printed options parts) options encoding (parts_view normal.items)
 
 -- Under the options and the encoding, the pattern text of the parts is rejected with this error, or
--- the error is that memory ran out.
+-- memory ran out.
 abbrev pub RejectsPrinted : OptionsView → Encoding → List PartView → Error → Type 0
 RejectsPrinted options encoding parts error =
     MemoryOr (Rejects (printed options parts) options encoding) error
