@@ -1,7 +1,8 @@
 //! Splits a text after the body of a custom regular expression.
-ghost use Rattle.std.specs.Prelude.{◌++◌, codes, IfErr, IfOk};
+ghost use Rattle.std.specs.Prelude.{◌≡◌, ◌++◌, codes, IfErr, IfOk, None, Some};
 ghost use Rattle.std.specs.Str.{chars};
 ghost use Rattle.urlpattern_parser.specs.Bodies.{IsRefusedBody};
+ghost use Rattle.urlpattern_syntax.specs.declared.error.TokenizerError.TheVariants as errors;
 ghost use Rattle.urlpattern_syntax.specs.Text.{BeginsWith, is_among};
 ghost use Rattle.urlpattern_syntax.specs.Tokens.{IsLexed};
 ghost use Rattle.urlpattern_syntax.specs.declared.tokenizer.TokenType.TheVariants.{Regexp};
@@ -35,35 +36,17 @@ pub fn split_body(text: &str) -> Result<(&str, &str), RefusedBody<'_>>
             '\\' => match split_first(after) {
                 Some((escaped, next)) if escaped.is_ascii() => rest = next,
                 Some((escaped, _)) => {
-                    return Err(RefusedBody {
-                        refused: Some((rest, 1 + escaped.len_utf8())),
-                        error: TokenizerError::InvalidRegex(RegexFault::BadEscape),
-                    });
+                    return Err(invalid(rest, 1 + escaped.len_utf8(), RegexFault::BadEscape));
                 }
-                None => {
-                    return Err(RefusedBody {
-                        refused: None,
-                        error: TokenizerError::IncompleteEscapeCode,
-                    });
-                }
+                None => return Err(unfinished(TokenizerError::IncompleteEscapeCode)),
             },
             '(' => match split_first(after) {
                 Some(('?', next)) => {
                     rest = next;
                     depth += 1;
                 }
-                Some(_) => {
-                    return Err(RefusedBody {
-                        refused: Some((rest, 1)),
-                        error: TokenizerError::InvalidRegex(RegexFault::NestedGroupCaptures),
-                    });
-                }
-                None => {
-                    return Err(RefusedBody {
-                        refused: Some((rest, 1)),
-                        error: TokenizerError::InvalidRegex(RegexFault::NestedGroupNotClosed),
-                    });
-                }
+                Some(_) => return Err(invalid(rest, 1, RegexFault::NestedGroupCaptures)),
+                None => return Err(invalid(rest, 1, RegexFault::NestedGroupNotClosed)),
             },
             ')' => {
                 if depth == 0 {
@@ -73,16 +56,30 @@ pub fn split_body(text: &str) -> Result<(&str, &str), RefusedBody<'_>>
                 depth -= 1;
             }
             _ if first.is_ascii() => rest = after,
-            _ => {
-                return Err(RefusedBody {
-                    refused: Some((rest, first.len_utf8())),
-                    error: TokenizerError::InvalidRegex(RegexFault::BadCharacter),
-                });
-            }
+            _ => return Err(invalid(rest, first.len_utf8(), RegexFault::BadCharacter)),
         }
     }
-    Err(RefusedBody {
+    let error = TokenizerError::InvalidRegex(RegexFault::MissingClose);
+    Err(unfinished(error))
+}
+
+/// Returns the refusal of the first `len` bytes of `rest`, for the reason `fault`.
+fn invalid(rest: &str, len: usize, fault: RegexFault) -> RefusedBody<'_>
+    ensures { result
+        ≡ record { refused = Some (rest.entry, len); error = errors.InvalidRegex fault } }
+{
+    RefusedBody {
+        refused: Some((rest, len)),
+        error: TokenizerError::InvalidRegex(fault),
+    }
+}
+
+/// Returns the refusal of a text that ends before its body does, with the error `error`.
+fn unfinished<'a>(error: TokenizerError) -> RefusedBody<'a>
+    ensures { result ≡ record { refused = None; error = error } }
+{
+    RefusedBody {
         refused: None,
-        error: TokenizerError::InvalidRegex(RegexFault::MissingClose),
-    })
+        error,
+    }
 }
