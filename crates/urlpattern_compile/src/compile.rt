@@ -1,13 +1,13 @@
 //! Compiles a pattern from an init.
 
-ghost use Rattle.std.specs.Prelude.{◌≡◌, ◌↔◌, ⊤, [], codes, false, length, option_copied, option_map, unwrap_or, IfErr, IfOk, IfSome, IsAscii, IsTrue, MatchBool, Some};
+ghost use Rattle.std.specs.Prelude.{◌≡◌, ◌↔◌, ⊤, [], codes, false, length, option_map, unwrap_or, IfErr, IfOk, IfSome, IsTrue, MatchBool, Some};
 ghost use Rattle.std.specs.Str.{chars};
 ghost use Rattle.urlpattern_canonical.specs.Canonical.{IsResult};
-ghost use Rattle.urlpattern_matcher.specs.Components.{component_view, pattern_text};
+ghost use Rattle.urlpattern_matcher.specs.Components.{component_view};
 ghost use Rattle.urlpattern_matcher.specs.Matchers.{matcher_view};
 ghost use Rattle.urlpattern_meaning.specs.FirstResults.{AcceptedText};
 ghost use Rattle.urlpattern_init.specs.{Inheritance.values_view, SpecialProtocol.IsKnownProtocol};
-ghost use Rattle.urlpattern_compile.specs.Compiled.{FirstRejected, HasEngine, IsComponentRejected, IsPathKind, RejectsInit, RejectsValues, after_protocol, canonical_in_hostname, has_default_port, is_ipv6_pattern, is_mark, is_same, pattern_of, pattern_values, without_default_port};
+ghost use Rattle.urlpattern_compile.specs.Compiled.{FirstRejected, HasEngine, IsComponentRejected, IsPathKind, RejectsInit, RejectsValues, after_protocol, canonical_in_hostname, is_ipv6_pattern, is_mark};
 ghost use Rattle.urlpattern_compile.specs.CompilerSteps.{IsCompiledWith, IsRejectedWith, compiled_values, settings_by};
 ghost use Rattle.urlpattern_compile.specs.KeptComponents.{AreCompiledKeeping, EachIsKept, IsKept, IsKeptOfInit};
 ghost use Rattle.urlpattern_components.specs.declared.eight.ComponentName.{ComponentName};
@@ -16,14 +16,14 @@ ghost use Rattle.urlpattern_syntax.specs.Options.{options_view};
 ghost use Rattle.urlpattern_syntax.specs.Reading.{encoding_by};
 ghost use Rattle.urlpattern_syntax.specs.Text.{begins_with, text_of};
 
+use crate::processed_init::{pattern_of, pattern_values};
 use std::alloc::Global;
 use urlpattern_canonical::begins_with_bracket;
 use urlpattern_canonical::canonicalize_and_process::{
-    Canonicalizer, ProcessType, begins_with_slash, canonicalize_ipv6_hostname, is_special_scheme,
-    special_scheme_default_port, without_first,
+    Canonicalizer, begins_with_slash, canonicalize_ipv6_hostname, without_first,
 };
 use urlpattern_components::{ComponentName, Eight};
-use urlpattern_init::{UrlPatternInit, accepts_special_scheme, process};
+use urlpattern_init::{UrlPatternInit, accepts_special_scheme};
 use urlpattern_inputs::UrlPatternOptions;
 use urlpattern_matcher::component::{Component, ComponentWithParts};
 use urlpattern_matcher::matcher::{InnerMatcher, Matcher};
@@ -87,52 +87,6 @@ fn compile_values<R: RegExp>(
     compiler.components(known)
 }
 
-/// Processes an init as a pattern, and empties the port if it is the default of a special protocol.
-pub fn pattern_values(alloc: Global, init: &UrlPatternInit) -> Result<UrlPatternInit, Error>
-    ensures ok { IfOk result (λ values. pattern_values init.now ≡ Ok (values_view values)) }
-    ensures memory { OnlyOutOfMemory result }
-{
-    let values = process(alloc, init, &ProcessType::Pattern)?;
-    Ok(without_default_port(alloc, values))
-}
-
-/// Returns the values, with an empty port if the port is the default of a special protocol.
-fn without_default_port(alloc: Global, mut values: UrlPatternInit) -> UrlPatternInit
-    ensures { values_view result ≡ without_default_port (values_view values) }
-{
-    if has_default_port(&values) {
-        values.port = Some(String::new(alloc));
-    }
-    values
-}
-
-/// Whether `port` equals `default`, or both are `None`.
-fn is_port(port: &Option<String>, default: Option<&str>) -> bool
-    requires { IfSome (option_copied default) IsAscii }
-    ensures { result ≡ is_same (option_map text_of port.now) (option_copied default.entry) }
-{
-    match (port, default) {
-        (Some(port), Some(default)) => port.as_str() == default,
-        (None, None) => true,
-        _ => false,
-    }
-}
-
-/// Whether the protocol is special and the port is its default; for `file`, whether the port is
-/// missing.
-fn has_default_port(values: &UrlPatternInit) -> bool
-    ensures { result
-        ≡ has_default_port (values_view values.now).protocol (values_view values.now).port }
-{
-    match &values.protocol {
-        Some(protocol) => {
-            is_special_scheme(protocol)
-                && is_port(&values.port, special_scheme_default_port(protocol))
-        }
-        None => false,
-    }
-}
-
 /// Whether the pattern of a hostname begins as an IPv6 address does: with `[`, perhaps after one
 /// `{` or one `\`. A `[` alone does not count.
 ///
@@ -143,13 +97,6 @@ fn is_ipv6_pattern(pattern: &str) -> bool
     pattern != "["
         && (begins_with_bracket(without_first(pattern, b'{'))
             || begins_with_bracket(without_first(pattern, b'\\')))
-}
-
-/// Returns the pattern text of a component. `None`: the component is missing, and compiled as `*`.
-pub fn pattern_of(values: &UrlPatternInit, component: ComponentName) -> Option<&str>
-    ensures { pattern_text result ≡ pattern_of (values_view values.now) component }
-{
-    values.get(component)
 }
 
 /// Compiles a pattern text, or `*` for `None`, to a component with its parts. `encoding_callback`

@@ -11,7 +11,8 @@ ghost use Rattle.urlpattern_compile.specs.Diagnoses.{AcceptsInit, AcceptsPattern
 ghost use Rattle.urlpattern_compile.specs.FromString.{RejectsPatternOfText};
 ghost use Rattle.urlpattern_syntax.specs.Errors.{error_view};
 
-use crate::compile::{Compiler, pattern_of, pattern_values};
+use crate::compile::Compiler;
+use crate::processed_init::{pattern_of, pattern_values};
 use crate::rejection::{Rejection, not_memory};
 use std::alloc::Global;
 use urlpattern_canonical::canonicalize_and_process::Canonicalizer;

@@ -7,8 +7,10 @@
 mod compile;
 mod diagnose;
 mod from_string;
+mod processed_init;
 mod rejection;
 
-pub use compile::{Compiler, compile_init, pattern_of, pattern_values};
+pub use compile::{Compiler, compile_init};
 pub use diagnose::{diagnose_init, diagnose_text};
 pub use from_string::{init_of_text, init_of_text_keeping};
+pub use processed_init::{pattern_of, pattern_values};

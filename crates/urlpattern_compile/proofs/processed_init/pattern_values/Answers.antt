@@ -1,7 +1,7 @@
 use Rattle.std.proofs.lemmas.Result.{err_from_is_err_and}
 use Rattle.urlpattern_init.proofs.InheritanceLemmas.{pattern-memory}
 use Rattle.urlpattern_init.specs.Inheritance.{values_view}
-use Rattle.urlpattern_compile.proofs.compile.pattern_values.Goals as goal
+use Rattle.urlpattern_compile.proofs.processed_init.pattern_values.Goals as goal
 
 pub returns-in_err-values-clause-memory : goal.returns-in_err-values-clause-memory
 returns-in_err-values-clause-memory c =

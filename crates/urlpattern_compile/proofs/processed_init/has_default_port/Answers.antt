@@ -4,7 +4,7 @@ use Rattle.urlpattern_compile.proofs.CompiledLemmas.{default_port-IsAscii, defau
 use Rattle.urlpattern_canonical.specs.Canonical.{default_port, is_special}
 use Rattle.urlpattern_syntax.specs.Text.{text_of}
 use Rattle.std.specs.Prelude.{option_copied, option_map}
-use Rattle.urlpattern_compile.proofs.compile.has_default_port.Goals as goal
+use Rattle.urlpattern_compile.proofs.processed_init.has_default_port.Goals as goal
 
 pub is_port-requires : goal.is_port-requires
 is_port-requires c = rw c.special_scheme_default_port.ensures (default_port-IsAscii (chars c.deref-then-is_special_scheme.result.now))

@@ -1,7 +1,7 @@
 use Rattle.std.proofs.Common.{ap, ◌∙◌}
 use Rattle.std.specs.Prelude.{bytes_eq}
 use Rattle.urlpattern_compile.proofs.CompiledLemmas.{ascii_some, text_eq-ascii}
-use Rattle.urlpattern_compile.proofs.compile.is_port.Goals as goal
+use Rattle.urlpattern_compile.proofs.processed_init.is_port.Goals as goal
 
 pub returns-in-Some-Some : goal.returns-in-Some-Some
 returns-in-Some-Some c =
