@@ -3,6 +3,7 @@
 ghost use Rattle.std.specs.Prelude.{◌≡◌, ◌↔◌, [], ℕ, List, IfErr, IfNone, IfOk, IfSome, IsTrue, map, not};
 ghost use Rattle.std.specs.{Char.to_ascii_lowercase, Str.chars};
 ghost use Rattle.urlpattern_meaning.specs.CaptureTexts.{captures_view};
+ghost use Rattle.urlpattern_matcher.specs.Looks.{look_result, NeedsEngine};
 ghost use Rattle.urlpattern_matcher.specs.Matchers.{BeginsWithFolded, EndsWithFolded, matcher_view};
 ghost use Rattle.urlpattern_meaning.specs.Matching.{Returns, CallsEngine, HasMiddle, IsMatched, IsSame, MayBeEmpty, MayRunOutOfMemory, PassesFilter};
 ghost use Rattle.urlpattern_syntax.specs.{Errors.OnlyOutOfMemory, Text.lacks};
@@ -105,6 +106,41 @@ impl<R: RegExp> Matcher<R> {
             None => Ok(false),
             Some(Look::Matched | Look::Captured(_)) => Ok(true),
             Some(Look::Asks { engine, middle }) => Ok(engine.matches(alloc, middle)?.is_some()),
+        }
+    }
+
+    /// Matches `input` as far as possible without an engine, and without allocating. `None`:
+    /// `input` does not match. `Asks` is returned only if `input` has the prefix and the suffix,
+    /// and an engine is between them.
+    pub fn look<'m, 'a>(&'m self, input: &'a str) -> Option<Look<'m, 'a, R>>
+        ensures answer { Returns R.answer (matcher_view self.now) (chars input.now)
+            (look_result R.answer result) }
+        ensures asked { IfSome result (λ look.
+            NeedsEngine look → CallsEngine (matcher_view self.now) (chars input.now)) }
+    {
+        let middle = self.middle(input)?;
+        match &self.inner {
+            InnerMatcher::Literal { literal } => {
+                if self.is_same(middle, literal) {
+                    Some(Look::Matched)
+                } else {
+                    None
+                }
+            }
+            InnerMatcher::SingleCapture {
+                filter,
+                allow_empty,
+            } => {
+                if self.is_captured(middle, *filter, *allow_empty) {
+                    Some(Look::Captured(middle))
+                } else {
+                    None
+                }
+            }
+            InnerMatcher::RegExp { regexp } => match regexp {
+                Ok(engine) => Some(Look::Asks { engine, middle }),
+                Err(_) => None,
+            },
         }
     }
 }

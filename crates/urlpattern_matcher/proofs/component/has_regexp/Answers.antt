@@ -5,7 +5,7 @@ use Rattle.std.specs.List.{list_any}
 use Rattle.urlpattern_matcher.specs.Components.{is_custom}
 use Rattle.urlpattern_syntax.specs.declared.parser.Part.{Part}
 use Rattle.urlpattern_syntax.specs.Parts.{part_view}
-use Rattle.urlpattern_matcher.proofs.component.compile.has_regexp.Goals as goal
+use Rattle.urlpattern_matcher.proofs.component.has_regexp.Goals as goal
 
 any-view : (parts : List Part) → list_any (λ (part : Part). is_custom part.kind) parts ≡ list_any (λ part. is_custom part.kind) (map part_view parts)
 any-view [] = refl

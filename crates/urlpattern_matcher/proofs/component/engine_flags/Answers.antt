@@ -1,6 +1,6 @@
 use Rattle.std.proofs.Common.{refl}
 use Rattle.std.specs.Str.{chars}
-use Rattle.urlpattern_matcher.proofs.component.compile.engine_flags.Goals as goal
+use Rattle.urlpattern_matcher.proofs.component.engine_flags.Goals as goal
 
 pub returns-then-options : goal.returns-then-options
 unfolding chars
