@@ -1,9 +1,11 @@
 //! Captures of a match, borrowed from the pattern and from the texts that it matches.
 ghost use Rattle.std.specs.Prelude.{◌≡◌, map, option_map, IfOk, IsSomeAnd};
 ghost use Rattle.std.specs.Str.{chars};
+ghost use Rattle.serde_json.specs.View.{view};
 ghost use Rattle.urlpattern_matches.specs.declared.captures.Missed.TheVariants as all_missed;
 ghost use Rattle.urlpattern_matches.specs.BorrowedMatches.{all_groups_left, all_groups_view, groups_left, groups_view, borrowed_group, pattern_captures_view, texts_captured, IsCopyOfMatch};
 ghost use Rattle.urlpattern_matches.specs.GroupTexts.{IsCapturedOf, captures_of, texts_of, HasNoGroups, IsWithoutGroups};
+ghost use Rattle.urlpattern_matches.specs.ResultJson.{IsTreeOfCaptures};
 ghost use Rattle.urlpattern_matches.specs.ResultViews.{captured_text, component_result_view, group_of, took_part, IsSameResult};
 ghost use Rattle.urlpattern_syntax.specs.Text.{option_text};
 ghost use Rattle.urlpattern_syntax.specs.Errors.{OnlyOutOfMemory};
@@ -13,6 +15,7 @@ mod groups;
 
 use crate::result::{UrlPatternComponentResult, UrlPatternResult, empty_result};
 pub use groups::{UrlPatternCapturesIter, UrlPatternGroups};
+use serde_json::Value;
 use std::alloc::Global;
 use std::slice;
 use urlpattern_components::{ComponentName, Eight};
@@ -170,6 +173,20 @@ impl<'p, 'u> UrlPatternCaptures<'p, 'u> {
                 drop(result);
                 Err(Error::OutOfMemory)
             }
+        }
+    }
+
+    /// Returns the JSON of the match: the JSON of the result that `to_result` returns.
+    pub fn to_json_value(&self, alloc: Global) -> Result<Value, Error>
+        ensures tree { IfOk result (λ tree. IsTreeOfCaptures self.now (view tree)) }
+        ensures memory { OnlyOutOfMemory result }
+    {
+        let copy = self.to_result(alloc)?;
+        let tree = copy.to_json_value(alloc);
+        drop(copy);
+        match tree {
+            Ok(tree) => Ok(tree),
+            Err(error) => Err(error),
         }
     }
 

@@ -7,9 +7,9 @@
 
 mod captures;
 mod group_maps;
+mod groups_json;
 mod input_parsing;
 mod result;
-mod result_json;
 pub mod result_laws;
 mod texts;
 

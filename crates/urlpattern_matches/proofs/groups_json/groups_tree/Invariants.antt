@@ -6,7 +6,7 @@ use Rattle.std.specs.String.{string_eq}
 use Rattle.serde_json.specs.View.{members_view}
 use Rattle.urlpattern_matches.specs.ResultJson.{are_captures, group_member, groups_by_name}
 use Rattle.urlpattern_matches.proofs.ResultJsonLemmas.{named}
-use Rattle.urlpattern_matches.proofs.result_json.groups_tree.Given as goal
+use Rattle.urlpattern_matches.proofs.groups_json.groups_tree.Given as goal
 
 -- Groups that are still to come count before the members of the object.
 abbrev pub invariant-loop-name : goal.invariant-loop-name

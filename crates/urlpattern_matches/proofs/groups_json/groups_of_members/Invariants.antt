@@ -4,7 +4,7 @@ use Rattle.std.specs.Map.{keys_of}
 use Rattle.std.specs.Option.{option_or}
 use Rattle.serde_json.specs.View.{members_view}
 use Rattle.urlpattern_matches.specs.ResultJson.{are_captures, group_member, groups_by_name}
-use Rattle.urlpattern_matches.proofs.result_json.groups_of_members.Given as goal
+use Rattle.urlpattern_matches.proofs.groups_json.groups_of_members.Given as goal
 
 -- Members that are still to come count before the groups in the map.
 abbrev pub invariant-loop-name : goal.invariant-loop-name

@@ -2,7 +2,7 @@ use Rattle.std.proofs.Common.{rules, string_bytes, ◌≡◌, ◌∷◌}
 use Rattle.serde_json.specs.View.{members_view}
 use Rattle.urlpattern_matches.specs.ResultJson.{group_member}
 use Rattle.urlpattern_matches.proofs.ResultJsonLemmas.{captures-rest, group-inserted, sorted-rest}
-use Rattle.urlpattern_matches.proofs.result_json.groups_of_members.Goals as goal
+use Rattle.urlpattern_matches.proofs.groups_json.groups_of_members.Goals as goal
 
 pub loop-name-preserved : goal.loop-name-preserved
 loop-name-preserved c =

@@ -7,7 +7,7 @@ use Rattle.serde_json.specs.Data.{put}
 use Rattle.serde_json.specs.View.{members_view, view}
 use Rattle.urlpattern_matches.specs.ResultJson.{groups_by_name, groups_read}
 use Rattle.urlpattern_matches.proofs.ResultJsonLemmas.{captures-put, group-put, groups-read}
-use Rattle.urlpattern_matches.proofs.result_json.groups_tree.Goals as goal
+use Rattle.urlpattern_matches.proofs.groups_json.groups_tree.Goals as goal
 
 pub loop-name-preserved : goal.loop-name-preserved
 loop-name-preserved c =
