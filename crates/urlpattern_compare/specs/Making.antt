@@ -6,7 +6,7 @@ use Rattle.urlpattern_compare.specs.declared.parts_automaton.Edge.{Edge}
 use Rattle.urlpattern_compare.specs.declared.parts_automaton.Test.{Test}
 use Rattle.urlpattern_compare.specs.declared.cells.Cell.{Cell}
 use Rattle.urlpattern_compare.specs.declared.cells.Cell.TheVariants.{One, Many}
-use Rattle.urlpattern_compare.specs.declared.making.TheConstants.{MOST_STATES}
+use Rattle.urlpattern_compare.specs.declared.parts_automaton.TheConstants.{MOST_STATES}
 use Rattle.urlpattern_syntax.specs.{Options.OptionsView, Parts.PartView}
 use Rattle.urlpattern_syntax.specs.declared.parser.PartModifier.{PartModifier}
 

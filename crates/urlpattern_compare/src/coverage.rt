@@ -4,7 +4,7 @@ ghost use Rattle.std.specs.Prelude.{◌≡◌, IfOk, false, true};
 ghost use Rattle.std.specs.List.{list_any};
 ghost use Rattle.urlpattern_compare.specs.Answers.{IsCoveringOf, IsOverlapOf, IsSoughtOf, answer_of, is_custom_part};
 
-use crate::making::make;
+use crate::parts_automaton::make;
 use crate::search::Found;
 use std::alloc::{AllocError, Global};
 use urlpattern_syntax::parser::{Options, Part, PartType};

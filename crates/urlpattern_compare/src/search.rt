@@ -2,12 +2,11 @@
 
 ghost use Rattle.std.specs.Prelude.{◌≡◌, ◌≢◌, ◌↔◌, ℕ, All, Contains, IfOk, OnOk, IsTrue};
 ghost use Rattle.urlpattern_compare.specs.Automata.{IsWithin};
-ghost use Rattle.urlpattern_compare.specs.Searching.{AreUnlike, IsBy, IsFoundBy, IsExtended, IsFollowed, IsFollowedBy, IsGrownBy, IsReached, IsSeen, IsStep, IsStepBy, starts_of};
+ghost use Rattle.urlpattern_compare.specs.Searching.{AreUnlike, IsBy, IsExtended, IsFollowed, IsFollowedBy, IsGrownBy, IsReached, IsSeen, IsStep, IsStepBy, starts_of};
 ghost use Rattle.urlpattern_syntax.specs.Text.{line_feed};
 
-use crate::classes::classes;
 use crate::parts_automaton::{Edge, PartsAutomaton};
-use crate::states::{is_in, moved, set_of};
+use crate::states::{moved, set_of};
 use std::alloc::{AllocError, Global};
 
 /// What a search found.
@@ -33,42 +32,8 @@ pub(crate) struct Pair {
     pub(crate) text: Vec<char>,
 }
 
-impl PartsAutomaton {
-    /// Finds a text without line feed that this automaton accepts, and that `other` accepts if
-    /// `is_accepted`, and rejects otherwise.
-    ///
-    /// The text is one of the shortest. The search is given up when it reaches more than
-    /// [`MOST_PAIRS`] pairs of a state and a set of states.
-    pub fn find(
-        &self,
-        alloc: Global,
-        other: &PartsAutomaton,
-        is_accepted: bool,
-    ) -> Result<Found, AllocError>
-        requires one { IsWithin self.now }
-        requires two { IsWithin other.now }
-        ensures { IfOk result (IsFoundBy self.now other.now is_accepted) }
-    {
-        let classes = classes(alloc, &self.edges, &other.edges)?;
-        let mut pairs = first_pairs(alloc, self, other)?;
-        let mut next = 0;
-        while next < pairs.len() && pairs.len() <= MOST_PAIRS {
-            let pair = copy_of(alloc, &pairs[next])?;
-            if pair.state == 0 && is_in(&pair.states, 0) == is_accepted {
-                return Ok(Found::Text(pair.text));
-            }
-            follow(alloc, self, other, &classes, &pair, &mut pairs)?;
-            next += 1;
-        }
-        if next < pairs.len() {
-            return Ok(Found::TooMany);
-        }
-        Ok(Found::Nothing)
-    }
-}
-
 /// Returns the pairs of the empty text: each start of `one`, with the set of the starts of `other`.
-fn first_pairs(
+pub(crate) fn first_pairs(
     alloc: Global,
     one: &PartsAutomaton,
     other: &PartsAutomaton,
@@ -96,7 +61,7 @@ fn first_pairs(
 }
 
 /// Adds to `pairs` the new pairs that `pair` leads to by one of the characters `classes`.
-fn follow(
+pub(crate) fn follow(
     alloc: Global,
     one: &PartsAutomaton,
     other: &PartsAutomaton,
@@ -181,7 +146,7 @@ fn follow_edge(
 }
 
 /// Copies a pair.
-fn copy_of(alloc: Global, pair: &Pair) -> Result<Pair, AllocError>
+pub(crate) fn copy_of(alloc: Global, pair: &Pair) -> Result<Pair, AllocError>
     ensures { IfOk result (IsStep pair.now.state pair.now.states.items pair.now.text.items) }
 {
     Ok(Pair {

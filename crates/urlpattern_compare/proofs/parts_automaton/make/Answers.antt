@@ -3,8 +3,8 @@ use Rattle.std.proofs.lemmas.Grind.{common_steps}
 use Rattle.urlpattern_compare.specs.Making.{Made}
 use Rattle.urlpattern_compare.proofs.PartsRead.{many_states}
 use Rattle.urlpattern_syntax.specs.{Options.options_view, Parts.part_view, Parts.parts_view}
-use Rattle.urlpattern_compare.proofs.making.make.Goals as goal
-use Rattle.urlpattern_compare.proofs.making.make.Goals.{then-len-gt-MOST_STATES-via-then-len-gt-MOST_STATES, then-len-gt-MOST_STATES-via-else-len-gt-MOST_STATES+then-automaton-gt-MOST_STATES}
+use Rattle.urlpattern_compare.proofs.parts_automaton.make.Goals as goal
+use Rattle.urlpattern_compare.proofs.parts_automaton.make.Goals.{then-len-gt-MOST_STATES-via-then-len-gt-MOST_STATES, then-len-gt-MOST_STATES-via-else-len-gt-MOST_STATES+then-automaton-gt-MOST_STATES}
 
 pub returns-then-len-gt-MOST_STATES-clause-many : goal.returns-then-len-gt-MOST_STATES-clause-many
 returns-then-len-gt-MOST_STATES-clause-many c =

@@ -1,6 +1,6 @@
 use Rattle.std.proofs.Common.{◌≡◌, ◌+◌, [], drop}
 use Rattle.urlpattern_compare.specs.Making.{heads}
-use Rattle.urlpattern_compare.proofs.making.heads.Given as goal
+use Rattle.urlpattern_compare.proofs.parts_automaton.heads.Given as goal
 
 abbrev pub invariant-loop-cell : goal.invariant-loop-cell
 invariant-loop-cell l = record {
