@@ -6,7 +6,7 @@ use mir.MapTy.{inst_fn}
 use base.Logic.{SProp, ent, id⊢}
 use base.Fml.{ftrue, flft}
 use prog.Wp.{WpFn}
-use types.Kit.{‵, raw, ◌⊛◌, some, later, at_ret, ◌$◌, ◌∵◌, qed, by, move, keep, drop, split, split3, join, fsplit, fjoin, pick, suffices, use1, await, rewrite, feq_i}
+use types.Kit.{‵, raw, ◌⊛◌, some, later, at_ret, ◌$◌, ◌∵◌, !, qed, by, move, keep, drop, split, split3, join, fsplit, fjoin, pick, suffices, use1, await, rewrite, feq_i}
 use types.Run.{stop, fld, of_opd, no_more, and_then, first, blocks, exec, returns, enter}
 use types.ByLocal.{alloc_all, pass_all, free_all, look_at, get, get_in, sets, lands_last, env}
 use types.Part.{sub, whole}
@@ -35,6 +35,7 @@ use Rattle.urlpattern_c.proofs.Values.{both, BoxParts, loose_good, loose_out}
 use Rattle.std.specs.contracts.boxed.Box.from_raw as callee
 use Rattle.std.proofs.boxed.Box.from_raw.Met.{met}
 use Rattle.urlpattern_c.specs.contracts.box_parts.BoxParts.into_box.{ended, clauses}
+use Rattle.urlpattern_c.specs.contracts.box_parts.BoxParts.into_box.Key.{name as #self}
 use Rattle.urlpattern_c.proofs.box_parts.BoxParts.into_box.Statement.{statement}
 use Rattle.urlpattern_c.proofs.box_parts.BoxParts.into_box.Code as code
 

@@ -4,7 +4,7 @@ use Rattle.std.specs.Prelude.{None}
 use mir.Val.{Val}
 use base.Logic.{SProp, emp}
 use base.Fml.{ftrue}
-use types.Kit.{‵, raw, ◌⊛◌, ◌$◌, ◌∵◌, qed, by, keep, split, use0}
+use types.Kit.{‵, raw, ◌⊛◌, ◌$◌, ◌∵◌, !, qed, by, keep, split, use0}
 use types.Run.{lit, no_more, and_then, returns, enter}
 use types.ByLocal.{alloc_all, pass_all, free_all, look_at, sets}
 use types.Part.{agg}
@@ -19,6 +19,7 @@ use denote.Triple.Walked.{Stays, walk_of}
 use Rattle.std.proofs.raw_atomic.Walks.{proved_at, leaves}
 use Rattle.urlpattern_c.proofs.Values.{single, slot_good, slot_in}
 use Rattle.urlpattern_c.specs.contracts.slot.Slot.empty.{ended, clauses}
+use Rattle.urlpattern_c.specs.contracts.slot.Slot.empty.Key.{name as #self}
 use Rattle.urlpattern_c.proofs.slot.Slot.empty.Statement.{statement}
 use Rattle.urlpattern_c.proofs.slot.Slot.empty.Code as code
 

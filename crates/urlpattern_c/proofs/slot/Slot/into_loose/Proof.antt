@@ -6,7 +6,7 @@ use mir.Raw.{raw as bare}
 use base.Logic.{SProp, ent, emp, never, id⊢, fst∗}
 use prog.Wp.{WpFn}
 use types.Logic.{sem}
-use types.Kit.{‵, raw, ◌⊛◌, ◌$◌, ◌∵◌, qed, by, move, keep, split, fsplit, fjoin, suffices, use0, rewrite}
+use types.Kit.{‵, raw, ◌⊛◌, ◌$◌, ◌∵◌, !, qed, by, move, keep, split, fsplit, fjoin, suffices, use0, rewrite}
 use types.Run.{stop, fld, of_opd, no_more, and_then, returns, enter}
 use types.ByLocal.{alloc_all, pass_all, free_all, look_at, get, get_in, sets}
 use types.Part.{agg, sub, whole}
@@ -30,6 +30,7 @@ use Rattle.urlpattern_ffi.specs.contracts.pattern_box.PatternBox as kept
 use Rattle.urlpattern_ffi.specs.declared.pattern_box.PatternBox.{PatternBox}
 use Rattle.urlpattern_c.proofs.Values.{both, single, Slot, loose_good, loose_in, slot_out, filled}
 use Rattle.urlpattern_c.specs.contracts.slot.Slot.into_loose.{ended, clauses}
+use Rattle.urlpattern_c.specs.contracts.slot.Slot.into_loose.Key.{name as #self}
 use Rattle.urlpattern_c.proofs.slot.Slot.into_loose.Statement.{statement}
 use Rattle.urlpattern_c.proofs.slot.Slot.into_loose.Code as code
 

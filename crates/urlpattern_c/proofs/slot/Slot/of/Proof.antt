@@ -5,7 +5,7 @@ use mir.Val.{Val, vptr}
 use base.Logic.{SProp, ent, emp, id⊢}
 use base.Fml.{ftrue}
 use prog.Wp.{WpFn}
-use types.Kit.{‵, raw, ◌⊛◌, ◌$◌, ◌∵◌, qed, by, move, keep, split, fsplit, fjoin, suffices, use0}
+use types.Kit.{‵, raw, ◌⊛◌, ◌$◌, ◌∵◌, !, qed, by, move, keep, split, fsplit, fjoin, suffices, use0}
 use types.Run.{stop, fld, of_opd, no_more, and_then, returns, enter}
 use types.ByLocal.{alloc_all, pass_all, free_all, look_at, get, get_in, sets}
 use types.Part.{agg, sub, whole}
@@ -25,6 +25,7 @@ use Rattle.std.specs.contracts.impls.GlobalAllocator.TheImpl.{ghosts}
 use Rattle.urlpattern_ffi.specs.contracts.pattern_box.PatternBox as kept
 use Rattle.urlpattern_c.proofs.Values.{both, single, BoxParts, loose_good, loose_out, slot_in}
 use Rattle.urlpattern_c.specs.contracts.slot.Slot.of.{ended, clauses}
+use Rattle.urlpattern_c.specs.contracts.slot.Slot.of.Key.{name as #self}
 use Rattle.urlpattern_c.proofs.slot.Slot.of.Statement.{statement}
 use Rattle.urlpattern_c.proofs.slot.Slot.of.Code as code
 
