@@ -278,10 +278,10 @@ pub fn process_hash_init(alloc: Global, value: &str, kind: &ProcessType) -> Resu
     Canonicalizer::new(alloc).process_hash(value, kind)
 }
 
-/// Returns a text that an init takes over from its base URL: escaped for a pattern, unchanged for a
-/// URL.
+/// Returns a text that an init takes over from its base URL
+/// (<https://urlpattern.spec.whatwg.org/#process-a-base-url-string>).
 ///
-/// <https://urlpattern.spec.whatwg.org/#process-a-base-url-string>
+/// For a pattern the text is escaped; for a URL it is unchanged.
 pub fn process_base_url(alloc: Global, input: &str, kind: &ProcessType) -> Result<String, Error>
     ensures ok { IfOk result (λ text. text_of text ≡ processed_base kind.now (chars input.now)) }
     ensures memory { OnlyOutOfMemory result }

@@ -35,7 +35,6 @@ type Taken = Result<bool, OutOfMemory>;
 /// that does not match is `None`. `None` instead of captures: no match.
 ///
 /// If `is_memoized`, no choice is tried twice in one state.
-#[inline]
 pub fn walk<'t>(
     alloc: Global,
     steps: &[Step],

@@ -14,9 +14,8 @@ use urlpattern_matches::url_texts;
 use urlpattern_syntax::Error;
 
 impl<R: RegExp> UrlPattern<R> {
-    /// Returns the first component that does not match its text of a URL, in the order protocol,
-    /// username, password, hostname, port, pathname, search, hash. `None`: the pattern matches the
-    /// URL.
+    /// Returns the first component, in the order of `COMPONENTS`, that does not match its text of a
+    /// URL. `None`: the pattern matches the URL.
     ///
     /// Only an engine allocates, and no engine of a component after the one that is returned is
     /// called.
