@@ -4,7 +4,7 @@ use Rattle.std.specs.Prelude.{◌≢◌, ◌⊎◌, ℕ, List, codes, Option, St
 use Rattle.std.specs.declared.alloc.Global.{Global}
 use Rattle.urlpat_commands.specs.CommandAnswers.{AreAnswered, FailsWhere}
 use Rattle.urlpat_lines.specs.Words.{words_view, AreArgumentsAfter}
-use Rattle.urlpat_commands.specs.FilterLines.{AskToFilter, Does}
+use Rattle.urlpat_commands.specs.FilterLines.{AskToFilter, FiltersOrPrints}
 use Rattle.urlpat_commands.specs.CommandNotes.{HasNote}
 use Rattle.urlpat_matching.specs.declared.exit_status.TheConstants.{FAILED}
 use Rattle.urlpat_rules.specs.PrintedCoverings.{PrintsWhether}
@@ -23,9 +23,9 @@ AskForRules words =
 
 -- `covers`, `unreachable` or `route`, with the arguments after it, ends with the status, and its
 -- output turns `old` into `new`. `Has` says which file has which table.
-abbrev pub DoesRules : Flags → (Has : (name table : List ℕ) → Type 0) → (words : List (List ℕ))
+abbrev pub RunsRules : Flags → (Has : (name table : List ℕ) → Type 0) → (words : List (List ℕ))
     → (status : ℕ) → (input old new : Option (List ℕ)) → Type 0
-DoesRules flags Has words status input old new =
+RunsRules flags Has words status input old new =
     ((rest : List (List ℕ)) × AreArgumentsAfter (codes "covers") words rest
     × PrintsWhether rest status old new)
     ⊎ ((rest : List (List ℕ)) × AreArgumentsAfter (codes "unreachable") words rest
@@ -35,16 +35,18 @@ DoesRules flags Has words status input old new =
 
 -- A command, with the arguments after it, ends with the status, and its output turns `old` into
 -- `new`. `Has` says which file has which table.
-abbrev pub DoesAny : Flags → (Has : (name table : List ℕ) → Type 0) → (words : List (List ℕ))
+abbrev pub RunsCommand : Flags → (Has : (name table : List ℕ) → Type 0) → (words : List (List ℕ))
     → (status : ℕ) → (input old new : Option (List ℕ)) → Type 0
-DoesAny flags Has words status input old new =
-    DoesRules flags Has words status input old new ⊎ Does flags words status input old new
+RunsCommand flags Has words status input old new =
+    RunsRules flags Has words status input old new
+    ⊎ FiltersOrPrints flags words status input old new
 
--- `DoesAny` unless the run failed.
-abbrev pub RunsAny : Flags → (Has : (name table : List ℕ) → Type 0) → (words : List (String Global))
+-- `RunsCommand` unless the run failed.
+abbrev pub RunsCommandUnlessFailed : Flags
+    → (Has : (name table : List ℕ) → Type 0) → (words : List (String Global))
     → (status : ℕ) → (input old new : Option (List ℕ)) → Type 0
-RunsAny flags Has words status input old new =
-    status ≢ FAILED → DoesAny flags Has (words_view words) status input old new
+RunsCommandUnlessFailed flags Has words status input old new =
+    status ≢ FAILED → RunsCommand flags Has (words_view words) status input old new
 
 -- A run that succeeds may report something: a note that `url` rejects the input, if errors are
 -- explained, or anything if the command is `filter`, `covers`, `unreachable` or `route`.
@@ -54,6 +56,6 @@ MayReport flags words = HasNote flags words ⊎ AskToFilter words ⊎ AskForRule
 -- What is known of a run that failed: the arguments have no output, and `IsSo` holds; or they have
 -- an output, which may be printed in part; or the command is `filter`, `covers`, `unreachable` or
 -- `route`.
-abbrev pub FailsAny : Flags → (words : List (List ℕ)) → (IsSo : Type 0) → Type 0
-FailsAny flags words IsSo =
+abbrev pub CommandMayFail : Flags → (words : List (List ℕ)) → (IsSo : Type 0) → Type 0
+CommandMayFail flags words IsSo =
     FailsWhere flags words IsSo ⊎ AreAnswered flags words ⊎ AskToFilter words ⊎ AskForRules words

@@ -2,7 +2,7 @@
 
 ghost use Rattle.std.specs.Prelude.{◌≡◌, ◌≢◌, ◌⊎◌};
 ghost use Rattle.urlpat_lines.specs.Words.{words_view};
-ghost use Rattle.urlpat.specs.Commands.{FailsAny, MayReport, RunsAny};
+ghost use Rattle.urlpat.specs.Commands.{CommandMayFail, MayReport, RunsCommandUnlessFailed};
 
 use std::alloc::Global;
 use std::io::{BufRead, Write};
@@ -25,10 +25,11 @@ pub fn run<T: Tables, In: BufRead, Out: Write, Err: Write>(
     err: &mut Err,
 ) -> u8
     ensures status { (result ≡ DONE) ⊎ (result ≡ NO_MATCH) ⊎ (result ≡ FAILED) }
-    ensures answers { RunsAny flags (T.Has tables.now) words.now result (In.remaining input.old)
-        (Out.contents out.old) (Out.contents out.new) }
+    ensures answers { RunsCommandUnlessFailed flags (T.Has tables.now) words.now result
+        (In.remaining input.old) (Out.contents out.old) (Out.contents out.new) }
     ensures quiet { result ≢ FAILED → (err.new ≡ err.old) ⊎ MayReport flags (words_view words.now) }
-    ensures fails { result ≡ FAILED → FailsAny flags (words_view words.now) (out.new ≡ out.old) }
+    ensures fails { result ≡ FAILED
+        → CommandMayFail flags (words_view words.now) (out.new ≡ out.old) }
 {
     if let Some(rest) = arguments_after(words, "covers") {
         return covers(alloc, rest, out, err);

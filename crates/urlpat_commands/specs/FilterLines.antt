@@ -102,9 +102,9 @@ FiltersLines flags words status input old new =
     any old new)
 
 -- `FiltersLines` unless the run failed.
-abbrev pub FilterReplies : Flags → (words : List (String Global)) → (status : ℕ)
+abbrev pub FiltersLinesUnlessFailed : Flags → (words : List (String Global)) → (status : ℕ)
     → (input old new : Option (List ℕ)) → Type 0
-FilterReplies flags words status input old new =
+FiltersLinesUnlessFailed flags words status input old new =
     status ≢ FAILED → FiltersLines flags (words_view words) status input old new
 
 -- The arguments are `filter` and its arguments, which do not ask for help.
@@ -113,21 +113,21 @@ AskToFilter words = (rest : List (List ℕ)) × AreArgumentsAfter (codes "filter
 
 -- A run that succeeds: `filter` writes its output for the lines of the reader, or the output for
 -- the arguments is printed.
-abbrev pub Does : Flags → (words : List (List ℕ)) → (status : ℕ)
+abbrev pub FiltersOrPrints : Flags → (words : List (List ℕ)) → (status : ℕ)
     → (input old new : Option (List ℕ)) → Type 0
-Does flags words status input old new =
+FiltersOrPrints flags words status input old new =
     ((rest : List (List ℕ)) × AreArgumentsAfter (codes "filter") words rest
     × FiltersLines flags rest status input old new)
     ⊎ Prints flags words status old new
 
--- `Does` unless the run failed.
-abbrev pub RunsOne : Flags → (words : List (String Global)) → (status : ℕ)
+-- `FiltersOrPrints` unless the run failed.
+abbrev pub FiltersOrPrintsUnlessFailed : Flags → (words : List (String Global)) → (status : ℕ)
     → (input old new : Option (List ℕ)) → Type 0
-RunsOne flags words status input old new =
-    status ≢ FAILED → Does flags (words_view words) status input old new
+FiltersOrPrintsUnlessFailed flags words status input old new =
+    status ≢ FAILED → FiltersOrPrints flags (words_view words) status input old new
 
 -- What is known of a run that failed: the arguments have no output, and `IsSo` holds; or they have
 -- an output; or they are those of `filter`.
-abbrev pub FailsOne : Flags → (words : List (List ℕ)) → (IsSo : Type 0) → Type 0
-FailsOne flags words IsSo =
+abbrev pub MayFail : Flags → (words : List (List ℕ)) → (IsSo : Type 0) → Type 0
+MayFail flags words IsSo =
     FailsWhere flags words IsSo ⊎ AreAnswered flags words ⊎ AskToFilter words

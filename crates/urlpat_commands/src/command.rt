@@ -5,7 +5,7 @@ ghost use Rattle.std.specs.Prelude.{◌≡◌, ◌≢◌, ◌⊎◌, map, string
 ghost use Rattle.urlpat_commands.specs.CommandAnswers.{FailsComponent, FailsWhere, AreAnswered, IsCommandAnswer, IsComponentAnswer, IsComponentFailure, IsComponentText, CopiesBytes, IsFailure, IsPrintedOf, Prints, IsFirstAnswer, IsFirstFailure, IsShortAnswer, IsShortFailure, IsMatchAnswer, IsMatchFailure};
 ghost use Rattle.urlpat_lines.specs.Words.{words_view};
 ghost use Rattle.urlpat_commands.specs.Kinds.{IsKind, NamesOptions};
-ghost use Rattle.urlpat_commands.specs.FilterLines.{AskToFilter, FailsOne, RunsOne};
+ghost use Rattle.urlpat_commands.specs.FilterLines.{AskToFilter, FiltersOrPrintsUnlessFailed, MayFail};
 ghost use Rattle.urlpat_commands.specs.CommandNotes.{ExplainsErrors, HasNote, ReportsFirst, note_bytes};
 ghost use Rattle.urlpat_matching.specs.Status.{failure_lines};
 ghost use Rattle.urlpat_commands.specs.Report.{component_lines, no_match_text};
@@ -49,11 +49,11 @@ pub fn run<In: BufRead, Out: Write, Err: Write>(
     err: &mut Err,
 ) -> u8
     ensures status { (result ≡ DONE) ⊎ (result ≡ NO_MATCH) ⊎ (result ≡ FAILED) }
-    ensures answers { RunsOne flags words.now result (In.remaining input.old) (Out.contents out.old)
-        (Out.contents out.new) }
+    ensures answers { FiltersOrPrintsUnlessFailed flags words.now result (In.remaining input.old)
+        (Out.contents out.old) (Out.contents out.new) }
     ensures quiet { result ≢ FAILED → (err.new ≡ err.old) ⊎ HasNote flags (words_view words.now)
         ⊎ AskToFilter (words_view words.now) }
-    ensures fails { result ≡ FAILED → FailsOne flags (words_view words.now) (out.new ≡ out.old) }
+    ensures fails { result ≡ FAILED → MayFail flags (words_view words.now) (out.new ≡ out.old) }
 {
     match arguments_after(words, "filter") {
         Some(rest) => filter(alloc, rest, flags, input, out, err),

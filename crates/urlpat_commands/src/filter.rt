@@ -5,8 +5,8 @@ ghost use Rattle.std.specs.Io.KnownBytes.{Appends};
 ghost use Rattle.std.specs.Prelude.{◌≡◌, ◌⊎◌, option_copied, IfNone, IfSome, OnOk};
 ghost use Rattle.urlpat_matching.specs.MatchTexts.{IsUnmatchedUnder};
 ghost use Rattle.urlpattern_canonical.specs.BaseUrls.{kept_base};
-ghost use Rattle.urlpat_commands.specs.FilterLines.{FilterReplies, HasAskedGroup, HasPiece, IsAskedPattern, IsMissingGroup, IsPieceOf, missing_group_line};
-ghost use Rattle.urlpat_lines.specs.Filters.{GetsPiece};
+ghost use Rattle.urlpat_commands.specs.FilterLines.{FiltersLinesUnlessFailed, HasAskedGroup, HasPiece, IsAskedPattern, IsMissingGroup, IsPieceOf, missing_group_line};
+ghost use Rattle.urlpat_lines.specs.Filters.{AppendsPiece};
 ghost use Rattle.urlpattern.specs.BorrowedMatches.{pattern_captures_view};
 ghost use Rattle.urlpattern.specs.Patterns.{pattern_view};
 
@@ -51,7 +51,7 @@ pub fn filter<In: BufRead, Out: Write, Err: Write>(
     err: &mut Err,
 ) -> u8
     ensures status { (result ≡ DONE) ⊎ (result ≡ NO_MATCH) ⊎ (result ≡ FAILED) }
-    ensures answers { FilterReplies flags words.now result (In.remaining input.old)
+    ensures answers { FiltersLinesUnlessFailed flags words.now result (In.remaining input.old)
         (Out.contents out.old) (Out.contents out.new) }
 {
     let Some(query) = query_of(words, flags.json) else {
@@ -184,7 +184,7 @@ fn push_piece(
     shape: Shape<'_>,
     written: &mut Vec<u8>,
 ) -> Result<(), AllocError>
-    ensures { OnOk result (GetsPiece (HasPiece (pattern_captures_view found.now) shape.entry)
+    ensures { OnOk result (AppendsPiece (HasPiece (pattern_captures_view found.now) shape.entry)
         written.old.items written.new.items) }
 {
     match shape {

@@ -39,5 +39,5 @@ abbrev pub named_captures : (names : List (String Global))
 named_captures names captures = zip (texts_of names) (map option_text captures)
 
 -- `new` is `old` with `text` appended.
-abbrev pub GetsBytes : (old new : String Global) → List ℕ → Type 0
-GetsBytes old new text = string_bytes new ≡ string_bytes old ++ text
+abbrev pub AppendsBytes : (old new : String Global) → List ℕ → Type 0
+AppendsBytes old new text = string_bytes new ≡ string_bytes old ++ text

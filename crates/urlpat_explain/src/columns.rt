@@ -3,8 +3,8 @@
 ghost use Rattle.std.specs.List.{flat_map};
 ghost use Rattle.std.specs.Prelude.{◌≡◌, length, string_bytes, IfOk, OnOk};
 ghost use Rattle.std.specs.Str.{chars};
-ghost use Rattle.urlpat_matching.specs.GroupLines.{GetsLines};
-ghost use Rattle.urlpat_explain.specs.Explained.{GetsBytes, named_captures};
+ghost use Rattle.urlpat_matching.specs.GroupLines.{AppendsLines};
+ghost use Rattle.urlpat_explain.specs.Explained.{AppendsBytes, named_captures};
 ghost use Rattle.urlpat_explain.specs.Rows.{IsMatchTable, IsVerdict, column, group_cell, pattern_cell, pattern_table, shown, text_cell, widest};
 ghost use Rattle.urlpattern_matcher.specs.Components.{component_view};
 ghost use Rattle.urlpattern_matches.specs.GroupTexts.{borrowed_texts};
@@ -117,7 +117,7 @@ fn length_of(text: &str) -> usize
 
 /// Appends a text, spaces up to `width` characters, and two more spaces.
 fn push_column(alloc: Global, row: &mut String, text: &str, width: usize) -> Result<(), AllocError>
-    ensures { OnOk result (GetsBytes row.old row.new (column width text.now)) }
+    ensures { OnOk result (AppendsBytes row.old row.new (column width text.now)) }
 {
     let missing = width.saturating_sub(length_of(text));
     let spaces = " ".repeat(alloc, missing)?;
@@ -134,7 +134,7 @@ fn push_verdict(
     text: &str,
 ) -> Result<(), Error>
     ensures { OnOk result
-        (GetsLines (IsVerdict (component_view component.now) (chars text.now)) row.old row.new) }
+        (AppendsLines (IsVerdict (component_view component.now) (chars text.now)) row.old row.new) }
 {
     let Some(captures) = component.matcher.matches(alloc, text)? else {
         row.push_str("differs")?;
@@ -151,8 +151,8 @@ fn push_group_cells(
     names: &[String],
     captures: &[Option<&str>],
 ) -> Result<(), AllocError>
-    ensures { OnOk result
-        (GetsBytes row.old row.new (flat_map group_cell (named_captures names.now captures.now))) }
+    ensures { OnOk result (AppendsBytes row.old row.new
+        (flat_map group_cell (named_captures names.now captures.now))) }
 {
     for (name, capture) in names.iter().zip(captures) {
         push_group_cell(row, name, *capture)?;
@@ -163,7 +163,7 @@ fn push_group_cells(
 /// Appends the cell of a group: its name, and its capture if it took part (`Some`).
 fn push_group_cell(row: &mut String, name: &str, capture: Option<&str>) -> Result<(), AllocError>
     ensures { OnOk result
-        (GetsBytes row.old row.new (group_cell (chars name.now, option_text capture.entry))) }
+        (AppendsBytes row.old row.new (group_cell (chars name.now, option_text capture.entry))) }
 {
     row.push_str("  ")?;
     row.push_str(name)?;

@@ -2,8 +2,8 @@
 //! the base URL, what it leaves out, and what its port is.
 
 ghost use Rattle.std.specs.Prelude.{◌≡◌, string_bytes, IfOk, OnOk};
-ghost use Rattle.urlpat_matching.specs.GroupLines.{GetsLines};
-ghost use Rattle.urlpat_explain.specs.Explained.{explained_view, GetsBytes};
+ghost use Rattle.urlpat_matching.specs.GroupLines.{AppendsLines};
+ghost use Rattle.urlpat_explain.specs.Explained.{explained_view, AppendsBytes};
 ghost use Rattle.urlpat_explain.specs.OriginNotes.{AreNotes, ArePlaces, inherited_name, left_out_name, names_line, port_note, value_notes};
 ghost use Rattle.urlpat_explain.specs.ComponentPlaces.{place_cell};
 ghost use Rattle.urlpattern_init.specs.Inheritance.{values_view};
@@ -37,7 +37,8 @@ pub fn push_notes(
     text: &mut String,
     explained: &Explained<'_>,
 ) -> Result<(), AllocError>
-    ensures { OnOk result (GetsLines (AreNotes (explained_view explained.now)) text.old text.new) }
+    ensures { OnOk result
+        (AppendsLines (AreNotes (explained_view explained.now)) text.old text.new) }
 {
     let places = places_of(alloc, explained)?;
     let notes = value_notes(alloc, explained.init, explained.values)?;
@@ -65,7 +66,7 @@ fn push_place(
     name: ComponentName,
     place: Option<Span>,
 ) -> Result<(), AllocError>
-    ensures { OnOk result (GetsBytes cells.old cells.new (place_cell name place)) }
+    ensures { OnOk result (AppendsBytes cells.old cells.new (place_cell name place)) }
 {
     let Some(Span { start, end }) = place else {
         return Ok(());
@@ -110,7 +111,7 @@ fn push_inherited(
     given: Option<&str>,
     value: Option<&str>,
 ) -> Result<(), AllocError>
-    ensures { OnOk result (GetsBytes names.old names.new
+    ensures { OnOk result (AppendsBytes names.old names.new
         (inherited_name name (option_text given.entry) (option_text value.entry))) }
 {
     if given.is_none() && value.is_some() {
@@ -127,7 +128,7 @@ fn push_left_out(
     value: Option<&str>,
 ) -> Result<(), AllocError>
     ensures { OnOk result
-        (GetsBytes names.old names.new (left_out_name name (option_text value.entry))) }
+        (AppendsBytes names.old names.new (left_out_name name (option_text value.entry))) }
 {
     if value.is_none() {
         names.push(' ')?;
@@ -138,7 +139,7 @@ fn push_left_out(
 
 /// Appends a line of `lead` and `names`, unless `names` is empty.
 fn push_names(notes: &mut String, lead: &str, names: &str) -> Result<(), AllocError>
-    ensures { OnOk result (GetsBytes notes.old notes.new (names_line lead.now names.now)) }
+    ensures { OnOk result (AppendsBytes notes.old notes.new (names_line lead.now names.now)) }
 {
     if names.is_empty() {
         return Ok(());
@@ -154,7 +155,7 @@ fn push_port_note(
     given: Option<&str>,
     value: Option<&str>,
 ) -> Result<(), AllocError>
-    ensures { OnOk result (GetsBytes notes.old notes.new
+    ensures { OnOk result (AppendsBytes notes.old notes.new
         (port_note (option_text given.entry) (option_text value.entry))) }
 {
     let (Some(given), Some(value)) = (given, value) else {

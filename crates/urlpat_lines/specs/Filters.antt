@@ -12,18 +12,18 @@ use Rattle.urlpat_lines.specs.declared.query.Shape.{Shape}
 use Rattle.urlpat_lines.specs.declared.query.Shape.TheVariants as shapes
 
 -- What is written for a line that matches, after what is printed of its match.
-abbrev pub rest_text : Shape → (line : List ℕ) → List ℕ
-rest_text shapes.Line line = line
-rest_text shapes.Count line = []
-rest_text (shapes.Group component name) line = codes "\n"
-rest_text shapes.Json line = []
+abbrev pub text_after_match : Shape → (line : List ℕ) → List ℕ
+text_after_match shapes.Line line = line
+text_after_match shapes.Count line = []
+text_after_match (shapes.Group component name) line = codes "\n"
+text_after_match shapes.Json line = []
 
 -- What is written for a line that does not match, if the query is inverted.
-abbrev pub other_text : Shape → (line : List ℕ) → List ℕ
-other_text shapes.Line line = line
-other_text shapes.Count line = []
-other_text (shapes.Group component name) line = []
-other_text shapes.Json line = []
+abbrev pub text_without_match : Shape → (line : List ℕ) → List ℕ
+text_without_match shapes.Line line = line
+text_without_match shapes.Count line = []
+text_without_match (shapes.Group component name) line = []
+text_without_match shapes.Json line = []
 
 -- The shape with which a line is matched: `Count`, which prints nothing of a match, if the query is
 -- inverted.
@@ -32,14 +32,14 @@ asked_shape true shape = shapes.Count
 asked_shape false shape = shape
 
 -- `new` is `old` with a piece appended for which `IsSuch` is true.
-abbrev pub GetsPiece : (IsSuch : List ℕ → Type 0) → (old new : List ℕ) → Type 0
-GetsPiece IsSuch old new = (piece : List ℕ) × (new ≡ old ++ piece) × IsSuch piece
+abbrev pub AppendsPiece : (IsSuch : List ℕ → Type 0) → (old new : List ℕ) → Type 0
+AppendsPiece IsSuch old new = (piece : List ℕ) × (new ≡ old ++ piece) × IsSuch piece
 
 -- The outcome of matching a text. `Match`: what is printed of the match is appended, a piece for
 -- which `Matches` is true. Otherwise `Differs` holds, and nothing is appended.
 abbrev pub IsOutcome : (Matches : (piece : List ℕ) → Type 0) → (Differs : Type 0)
     → (old new : List ℕ) → Outcome → Type 0
-IsOutcome Matches Differs old new outcomes.Match = GetsPiece Matches old new
+IsOutcome Matches Differs old new outcomes.Match = AppendsPiece Matches old new
 IsOutcome Matches Differs old new outcomes.NoMatch = Differs × (new ≡ old)
 IsOutcome Matches Differs old new outcomes.NoUrl = Differs × (new ≡ old)
 
@@ -49,14 +49,14 @@ abbrev pub AnswersMatched : (inverted : Bool) → Shape → (line : List ℕ) �
     → (written : List ℕ) → Type 0
 AnswersMatched true shape line verdict written = (verdict ≡ verdicts.Passed) × (written ≡ [])
 AnswersMatched false shape line verdict written =
-    (verdict ≡ verdicts.Selected) × (written ≡ rest_text shape line)
+    (verdict ≡ verdicts.Selected) × (written ≡ text_after_match shape line)
 
 -- The verdict on a line that does not match, and what is written for it. The line is selected if
 -- the query is inverted.
 abbrev pub AnswersUnmatched : (inverted : Bool) → Shape → (line : List ℕ) → Verdict
     → (written : List ℕ) → Type 0
 AnswersUnmatched true shape line verdict written =
-    (selected_by verdict ≡ 1) × (written ≡ other_text shape line)
+    (selected_by verdict ≡ 1) × (written ≡ text_without_match shape line)
 AnswersUnmatched false shape line verdict written = (selected_by verdict ≡ 0) × (written ≡ [])
 
 -- The verdict of `filter` on a line, and what is written for it. `Matches` holds of a text that

@@ -15,7 +15,7 @@ IsAppended old new part = (new ≡ old ++ part) ⊎ ((LONGEST < length old) × (
 -- A part of the bytes that a reader has left is consumed and appended to the line `old`. `ended`
 -- says whether the line is complete: the part ends with a line end, or is empty at the end of the
 -- input. `before` and `after` are the bytes that are left, if known.
-pub record GetsPart (before after : Option (List ℕ)) (old new : List ℕ) (ended : Bool) : Type 0
+pub record ReadsPart (before after : Option (List ℕ)) (old new : List ℕ) (ended : Bool) : Type 0
   where
     pub part : List ℕ
     pub consumed : Consumes before after part
@@ -25,6 +25,7 @@ pub record GetsPart (before after : Option (List ℕ)) (old new : List ℕ) (end
         (IsEmptyOrEndsWith part 10 × (length part ≡ 0 → OnSome before (IsAtEnd after)))
         (All (λ byte. byte ≢ 10) part)
 
--- `GetsPart` as a function, to be applied to `ended`.
-abbrev pub Gets : (before after : Option (List ℕ)) → (old new : List ℕ) → (ended : Bool) → Type 0
-Gets before after old new ended = GetsPart before after old new ended
+-- `ReadsPart` as a function, to be applied to `ended`.
+abbrev pub AppendsSome : (before after : Option (List ℕ)) → (old new : List ℕ)
+    → (ended : Bool) → Type 0
+AppendsSome before after old new ended = ReadsPart before after old new ended

@@ -65,9 +65,9 @@ IsQueryOf json words query = ⊥
 -- ---- invalid arguments
 
 -- `IsAsked` holds of no query.
-abbrev pub AsksNothing : (IsAsked : Bool × Shape → Type 0) → Type 0
-AsksNothing IsAsked = (asked : Bool × Shape) → ¬ IsAsked asked
+abbrev pub HasNoQuery : (IsAsked : Bool × Shape → Type 0) → Type 0
+HasNoQuery IsAsked = (asked : Bool × Shape) → ¬ IsAsked asked
 
 -- The arguments of `filter` are not a query.
-abbrev pub AskForNoQuery : (json : Bool) → (words : List (List ℕ)) → Type 0
-AskForNoQuery json words = (query : Query) → ¬ IsQueryOf json words query
+abbrev pub AreNoQuery : (json : Bool) → (words : List (List ℕ)) → Type 0
+AreNoQuery json words = (query : Query) → ¬ IsQueryOf json words query

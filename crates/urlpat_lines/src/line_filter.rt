@@ -1,7 +1,7 @@
 //! The command `filter`, for any matcher of lines.
 ghost use Rattle.std.specs.Prelude.{◌≡◌, ℕ, List, IfOk, IfSome, OnOk, None, nat_lt};
 ghost use Rattle.std.specs.Io.KnownBytes.{Appends};
-ghost use Rattle.urlpat_lines.specs.Filters.{AnswersMatched, AnswersUnmatched, FilterAnswers, Filters, FiltersFor, GetsPiece, IsOutcome, asked_shape, count_line};
+ghost use Rattle.urlpat_lines.specs.Filters.{AnswersMatched, AnswersUnmatched, AppendsPiece, FilterAnswers, Filters, FiltersFor, IsOutcome, asked_shape, count_line};
 ghost use Rattle.urlpat_lines.specs.LineAnswers.{selected_by};
 ghost use Rattle.urlpat_lines.specs.declared.query.Shape.{Shape as Asked};
 
@@ -204,7 +204,7 @@ fn answer_match(
     written: &mut Vec<u8>,
 ) -> Result<Verdict, AllocError>
     ensures { IfOk result (λ verdict.
-        GetsPiece (AnswersMatched inverted shape.entry line.now verdict) written.old.items
+        AppendsPiece (AnswersMatched inverted shape.entry line.now verdict) written.old.items
         written.new.items) }
 {
     if inverted {
@@ -229,7 +229,7 @@ fn answer_other(
 ) -> Result<Verdict, AllocError>
     requires { selected_by verdict ≡ 0 }
     ensures { IfOk result (λ answer.
-        GetsPiece (AnswersUnmatched inverted shape.entry line.now answer) written.old.items
+        AppendsPiece (AnswersUnmatched inverted shape.entry line.now answer) written.old.items
         written.new.items) }
 {
     if !inverted {

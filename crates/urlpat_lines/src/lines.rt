@@ -4,7 +4,7 @@ ghost use Rattle.std.specs.Io.BufRead.{drop_through, take_through};
 ghost use Rattle.std.specs.Io.{IsEmptyOrEndsWith, StopsAt};
 ghost use Rattle.bstr.specs.Text.{without_terminator};
 ghost use Rattle.bstr.specs.Records.{trim_record};
-ghost use Rattle.urlpat_lines.specs.Lines.{Gets, IsAppended, IsLineKept};
+ghost use Rattle.urlpat_lines.specs.Lines.{AppendsSome, IsAppended, IsLineKept};
 
 use std::alloc::AllocError;
 use std::io;
@@ -37,8 +37,8 @@ pub fn read_line<In: BufRead>(input: &mut In, line: &mut Vec<u8>) -> io::Result<
 /// Appends to a line what a reader has in its buffer, through the first line end. Returns whether
 /// the line is complete, by its end or by that of the input. An interrupted read appends nothing.
 fn append_some<In: BufRead>(input: &mut In, line: &mut Vec<u8>) -> io::Result<bool>
-    ensures { IfOk result
-        (Gets (In.remaining input.old) (In.remaining input.new) line.old.items line.new.items) }
+    ensures { IfOk result (AppendsSome (In.remaining input.old) (In.remaining input.new)
+        line.old.items line.new.items) }
 {
     let filled = match input.fill_buf() {
         Ok(filled) => filled,

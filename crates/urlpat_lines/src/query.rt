@@ -1,7 +1,7 @@
 //! Parses the arguments of `filter`.
 
 ghost use Rattle.std.specs.Prelude.{◌≡◌, true, false, IfNone, IfSome};
-ghost use Rattle.urlpat_lines.specs.Queries.{AsksNothing, AskForNoQuery, IsQuery, IsAskedByFlags, IsAskedByOne, IsAskedByTwo, IsQueryOf, NamesGroup};
+ghost use Rattle.urlpat_lines.specs.Queries.{HasNoQuery, AreNoQuery, IsQuery, IsAskedByFlags, IsAskedByOne, IsAskedByTwo, IsQueryOf, NamesGroup};
 ghost use Rattle.urlpat_lines.specs.declared.query.Shape.TheVariants as shapes;
 ghost use Rattle.urlpat_lines.specs.Words.{words_view};
 
@@ -37,7 +37,7 @@ pub struct Query<'a> {
 /// invalid.
 pub fn query_of(words: &[String], json: bool) -> Option<Query<'_>>
     ensures asked { IfSome result (IsQueryOf json (words_view words.now)) }
-    ensures other { IfNone result (AskForNoQuery json (words_view words.now)) }
+    ensures other { IfNone result (AreNoQuery json (words_view words.now)) }
 {
     let [pattern, base, rest @ ..] = words else {
         return None;
@@ -59,7 +59,7 @@ pub fn query_of(words: &[String], json: bool) -> Option<Query<'_>>
 /// printed. `None`: there are arguments.
 fn asked_as_json(words: &[String]) -> Option<(bool, Shape<'_>)>
     ensures asked { IfSome result (IsQuery true (words_view words.now)) }
-    ensures other { IfNone result (AsksNothing (IsQuery true (words_view words.now))) }
+    ensures other { IfNone result (HasNoQuery (IsQuery true (words_view words.now))) }
 {
     if words.is_empty() {
         Some((false, Shape::Json))
@@ -72,7 +72,7 @@ fn asked_as_json(words: &[String]) -> Option<(bool, Shape<'_>)>
 /// selected, and what is printed for a selected line. `None`: the arguments are invalid.
 fn asked_by(flags: &[String]) -> Option<(bool, Shape<'_>)>
     ensures asked { IfSome result (IsAskedByFlags (words_view flags.now)) }
-    ensures other { IfNone result (AsksNothing (IsAskedByFlags (words_view flags.now))) }
+    ensures other { IfNone result (HasNoQuery (IsAskedByFlags (words_view flags.now))) }
 {
     match flags {
         [] => Some((false, Shape::Line)),
@@ -85,7 +85,7 @@ fn asked_by(flags: &[String]) -> Option<(bool, Shape<'_>)>
 /// Parses a single argument after the base URL: `--not` or `--count`. `None`: it is neither.
 fn asked_by_one(flag: &str) -> Option<(bool, Shape<'_>)>
     ensures asked { IfSome result (IsAskedByOne flag.now) }
-    ensures other { IfNone result (AsksNothing (IsAskedByOne flag.now)) }
+    ensures other { IfNone result (HasNoQuery (IsAskedByOne flag.now)) }
 {
     match flag {
         "--not" => Some((true, Shape::Line)),
@@ -98,7 +98,7 @@ fn asked_by_one(flag: &str) -> Option<(bool, Shape<'_>)>
 /// group. `None`: the arguments are invalid.
 fn asked_by_two<'a>(first: &str, second: &'a str) -> Option<(bool, Shape<'a>)>
     ensures asked { IfSome result (IsAskedByTwo first.now second.now) }
-    ensures other { IfNone result (AsksNothing (IsAskedByTwo first.now second.now)) }
+    ensures other { IfNone result (HasNoQuery (IsAskedByTwo first.now second.now)) }
 {
     match first {
         "--not" => others_counted(second == "--count"),
@@ -125,7 +125,7 @@ fn others_counted<'a>(both: bool) -> Option<(bool, Shape<'a>)>
 /// `None`: the argument has no dot, or no component has the name.
 fn asked_group(word: &str) -> Option<(bool, Shape<'_>)>
     ensures asked { IfSome result (NamesGroup word.now) }
-    ensures other { IfNone result (AsksNothing (NamesGroup word.now)) }
+    ensures other { IfNone result (HasNoQuery (NamesGroup word.now)) }
 {
     let (component, name) = word.split_once('.')?;
     let component = ComponentName::from_name(component)?;

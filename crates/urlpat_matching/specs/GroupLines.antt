@@ -53,8 +53,8 @@ AreLines (component ∷ rest) text =
     × AreLines rest others
 
 -- `new` is `old` with lines appended for which `AreSuch` is true.
-abbrev pub GetsLines : (AreSuch : List ℕ → Type 0) → (old new : String Global) → Type 0
-GetsLines AreSuch old new =
+abbrev pub AppendsLines : (AreSuch : List ℕ → Type 0) → (old new : String Global) → Type 0
+AppendsLines AreSuch old new =
     (lines : List ℕ) × (string_bytes new ≡ string_bytes old ++ lines) × AreSuch lines
 
 -- The results of components, with the names of the components.

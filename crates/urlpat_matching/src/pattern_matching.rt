@@ -3,7 +3,7 @@
 ghost use Rattle.std.specs.Map.{keys_of};
 ghost use Rattle.std.specs.Prelude.{◌≡◌, ◌++◌, ◌∷◌, [], map, option_copied, string_bytes, IfErr, IfOk, IfSome, OnOk};
 ghost use Rattle.std.specs.Str.{chars};
-ghost use Rattle.urlpat_matching.specs.GroupLines.{AreGroupLines, AreLines, AreNames, GetsLines, group_bytes, all_named_results, group_line};
+ghost use Rattle.urlpat_matching.specs.GroupLines.{AreGroupLines, AreLines, AreNames, AppendsLines, group_bytes, all_named_results, group_line};
 ghost use Rattle.urlpat_matching.specs.MatchTexts.{FindsMatch, FindsMatchBy, ShowsMatch};
 ghost use Rattle.urlpat_matching.specs.PatternWords.{IsPatternOf, KeepsPartsOfWord, RejectsPatternOf, base_of};
 ghost use Rattle.urlpattern_matches.specs.BorrowedMatches.{pattern_captures_view, groups_view};
@@ -127,7 +127,7 @@ pub fn push_match(
     text: &mut String,
     found: &UrlPatternCaptures<'_, '_>,
 ) -> Result<(), AllocError>
-    ensures { OnOk result (GetsLines
+    ensures { OnOk result (AppendsLines
         (AreLines (all_named_results (pattern_captures_view found.now))) text.old text.new) }
 {
     for name in ComponentName::all() {
@@ -143,7 +143,7 @@ fn push_group_lines(
     found: &UrlPatternCaptures<'_, '_>,
     name: ComponentName,
 ) -> Result<(), AllocError>
-    ensures { OnOk result (GetsLines
+    ensures { OnOk result (AppendsLines
         (AreGroupLines (name_text name) (pattern_captures_view found.now name)) text.old text.new) }
 {
     if let Some(group) = only_group(found, name) {

@@ -18,14 +18,14 @@ use Rattle.urlpattern_compare.specs.declared.pattern_parts.PatternParts.{Pattern
 
 -- The pattern is known not to cover the asked one: the asked one matches eight texts, and the
 -- pattern does not match one of them.
-abbrev pub IsParted : (asked pattern : PatternParts) → Type 0
-IsParted asked pattern = (parting : Parting) × IsParting pattern asked parting
+abbrev pub HasParting : (asked pattern : PatternParts) → Type 0
+HasParting asked pattern = (parting : Parting) × IsParting pattern asked parting
 
 -- Whether some pattern of the list covers the asked one is known: one is known to cover it, or each
 -- is known not to.
 abbrev pub IsDecided : List PatternParts → (asked : PatternParts) → Type 0
 IsDecided patterns asked =
-    ((index : ℕ) × CoversAt patterns asked index) ⊎ All (IsParted asked) patterns
+    ((index : ℕ) × CoversAt patterns asked index) ⊎ All (HasParting asked) patterns
 
 -- No pattern of the list is known to cover the asked one. The doubt has the index of the first
 -- pattern for which it is not known, and the component and the reason to which that is due.
@@ -34,7 +34,7 @@ pub record IsInDoubt (patterns : List PatternParts) (asked : PatternParts) (doub
   pub pattern : PatternParts
   pub is_there : slice_get patterns doubt.by ≡ Some pattern
   pub why : IsReasonIn pattern asked doubt.component doubt.reason
-  pub parted : All (IsParted asked) (take doubt.by patterns)
+  pub parted : All (HasParting asked) (take doubt.by patterns)
   pub uncovered : All (IsNotKnownToCover asked) patterns
 
 -- `found` is the doubt whether a pattern of the list covers the asked one, whose index is `index`.

@@ -146,13 +146,14 @@ RoutesLines flags Has words status input old new =
 -- ---- unless the run failed
 
 -- `RoutesBy` unless the run failed.
-abbrev pub RoutesTable : Flags → (table : List ℕ) → (base : Option (Bor (List ℕ)))
+abbrev pub RoutesByUnlessFailed : Flags → (table : List ℕ) → (base : Option (Bor (List ℕ)))
     → (status : ℕ) → (input old new : Option (List ℕ)) → Type 0
-RoutesTable flags table base status input old new =
+RoutesByUnlessFailed flags table base status input old new =
     status ≢ FAILED → RoutesBy flags table (option_copied base) status input old new
 
 -- `RoutesLines` unless the run failed.
-abbrev pub Replies : Flags → (Has : (name table : List ℕ) → Type 0) → (words : List (String Global))
+abbrev pub RoutesLinesUnlessFailed : Flags
+    → (Has : (name table : List ℕ) → Type 0) → (words : List (String Global))
     → (status : ℕ) → (input old new : Option (List ℕ)) → Type 0
-Replies flags Has words status input old new =
+RoutesLinesUnlessFailed flags Has words status input old new =
     status ≢ FAILED → RoutesLines flags Has (words_view words) status input old new

@@ -2,7 +2,7 @@
 
 ghost use Rattle.std.specs.Prelude.{◌≡◌, ◌⊎◌, option_copied, IfSome};
 ghost use Rattle.urlpattern_canonical.specs.BaseUrls.{kept_base};
-ghost use Rattle.urlpat_rules.specs.TableRoutes.{AreRoutesOf, IsLineAnswered, Replies, RoutesTable, unmatched_text};
+ghost use Rattle.urlpat_rules.specs.TableRoutes.{AreRoutesOf, IsLineAnswered, RoutesByUnlessFailed, RoutesLinesUnlessFailed, unmatched_text};
 ghost use Rattle.urlpat_lines.specs.Tables.{entries_view};
 
 use crate::row::push_route;
@@ -42,8 +42,8 @@ pub fn route<T: Tables, In: BufRead, Out: Write, Err: Write>(
     err: &mut Err,
 ) -> u8
     ensures status { (result ≡ DONE) ⊎ (result ≡ NO_MATCH) ⊎ (result ≡ FAILED) }
-    ensures answers { Replies flags (T.Has tables.now) words.now result (In.remaining input.old)
-        (Out.contents out.old) (Out.contents out.new) }
+    ensures answers { RoutesLinesUnlessFailed flags (T.Has tables.now) words.now result
+        (In.remaining input.old) (Out.contents out.old) (Out.contents out.new) }
 {
     let Some((name, base)) = table_words(words) else {
         let _ = err.write_all(ROUTE_USAGE.as_bytes());
@@ -69,8 +69,8 @@ fn route_by<In: BufRead, Out: Write, Err: Write>(
     err: &mut Err,
 ) -> u8
     ensures status { (result ≡ DONE) ⊎ (result ≡ NO_MATCH) ⊎ (result ≡ FAILED) }
-    ensures answers { RoutesTable flags table.now base.entry result (In.remaining input.old)
-        (Out.contents out.old) (Out.contents out.new) }
+    ensures answers { RoutesByUnlessFailed flags table.now base.entry result
+        (In.remaining input.old) (Out.contents out.old) (Out.contents out.new) }
 {
     let Some(entries) = read_entries(alloc, table, err) else {
         return FAILED;

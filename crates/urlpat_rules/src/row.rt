@@ -3,7 +3,7 @@
 ghost use Rattle.std.specs.List.{flat_map};
 ghost use Rattle.std.specs.Prelude.{◌≡◌, ◌++◌, IfOk, OnOk};
 ghost use Rattle.serde_json.specs.View.{view};
-ghost use Rattle.urlpat_lines.specs.Filters.{GetsPiece};
+ghost use Rattle.urlpat_lines.specs.Filters.{AppendsPiece};
 ghost use Rattle.urlpat_rules.specs.TableRoutes.{IsRouteRow, IsRowShown, bare_lines, cell_text, route_tree};
 ghost use Rattle.urlpat_lines.specs.Tables.{entry_view};
 ghost use Rattle.urlpattern.specs.BorrowedMatches.{pattern_captures_view};
@@ -28,7 +28,7 @@ pub fn push_route(
     found: &UrlPatternCaptures<'_, '_>,
     row: &mut Vec<u8>,
 ) -> Result<(), AllocError>
-    ensures { OnOk result (GetsPiece
+    ensures { OnOk result (AppendsPiece
         (IsRowShown json (entry_view entry.now) (pattern_captures_view found.now)) row.old.items
         row.new.items) }
 {
@@ -59,7 +59,7 @@ fn push_row(
     found: &UrlPatternCaptures<'_, '_>,
     row: &mut Vec<u8>,
 ) -> Result<(), AllocError>
-    ensures { OnOk result (GetsPiece
+    ensures { OnOk result (AppendsPiece
         (IsRouteRow (entry_view entry.now) (pattern_captures_view found.now)) row.old.items
         row.new.items) }
 {

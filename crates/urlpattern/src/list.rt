@@ -246,7 +246,7 @@ impl<R: RegExp> UrlPatternList<R> {
         let mut hashes = AddressHashes::new();
         hashes.fill(url_address(url));
         match self.next_candidate(&hashes, 0) {
-            Some(index) => self.listed_captures(alloc, url, &hashes, index),
+            Some(index) => self.captures_from_candidate(alloc, url, &hashes, index),
             None => Ok(None),
         }
     }
@@ -257,7 +257,7 @@ impl<R: RegExp> UrlPatternList<R> {
     /// Only an engine allocates. A function of its own, since a call clears all variables of its
     /// function, and some are needed only for a match.
     #[inline(never)]
-    fn listed_captures<'p, 'u>(
+    fn captures_from_candidate<'p, 'u>(
         &'p self,
         alloc: Global,
         url: &'u Url,
@@ -275,7 +275,7 @@ impl<R: RegExp> UrlPatternList<R> {
             CallsEngineBeforeMatchFrom R.answer (patterns_view self.now) (texts_of_url url.now)
             index) }
     {
-        Ok(self.first_listed(alloc, &url_texts(url), hashes, index)?)
+        Ok(self.first_from_candidate(alloc, &url_texts(url), hashes, index)?)
     }
 
     /// Returns the least index whose pattern matches an input that is parsed into its eight texts,

@@ -2,7 +2,7 @@
 //! and `urlpattern_version`.
 ghost use Rattle.std.specs.Prelude.{◌≡◌, None};
 ghost use Rattle.urlpattern_c.specs.Handles.{patterns_in};
-ghost use Rattle.urlpattern_c.specs.Returns.{GivesCaptures, GivesFirst, GivesGroupName, GivesLink};
+ghost use Rattle.urlpattern_c.specs.Returns.{ReportsCaptures, ReportsFirstMatch, ReportsGroupName, ReportsLink};
 ghost use Rattle.urlpattern_ffi.specs.Calls.{IsAdded, IsFirstReported, IsTested, ReturnsStatus};
 ghost use Rattle.urlpattern_ffi.specs.ReportedCoverings.{IsCoveringReported};
 ghost use Rattle.urlpattern_ffi.specs.ReportedDiagnoses.{IsDiagnosed, IsInitDiagnosed};
@@ -160,7 +160,7 @@ pub extern "C" fn urlpattern_captures(
     spans: &mut [GroupSpan],
     needed: &mut Sizes,
 ) -> u32
-    ensures answer { GivesCaptures patterns.old index url.now base.now buffer.old buffer.new
+    ensures answer { ReportsCaptures patterns.old index url.now base.now buffer.old buffer.new
         spans.old spans.new needed.new result }
     ensures unchanged { patterns_in patterns.new ≡ patterns_in patterns.old }
 {
@@ -183,7 +183,7 @@ pub extern "C" fn urlpattern_first_captures(
     spans: &mut [GroupSpan],
     needed: &mut Sizes,
 ) -> u32
-    ensures answer { GivesFirst patterns.old url.now base.now index.old index.new buffer.old
+    ensures answer { ReportsFirstMatch patterns.old url.now base.now index.old index.new buffer.old
         buffer.new spans.old spans.new needed.new result }
     ensures unchanged { patterns_in patterns.new ≡ patterns_in patterns.old }
 {
@@ -205,7 +205,7 @@ pub extern "C" fn urlpattern_link(
     buffer: &mut [u8],
     needed: &mut usize,
 ) -> u32
-    ensures answer { GivesLink patterns.old index text.now given.now buffer.old buffer.new
+    ensures answer { ReportsLink patterns.old index text.now given.now buffer.old buffer.new
         needed.new result }
     ensures unchanged { patterns_in patterns.new ≡ patterns_in patterns.old }
 {
@@ -227,7 +227,7 @@ pub extern "C" fn urlpattern_group_name(
     buffer: &mut [u8],
     needed: &mut usize,
 ) -> u32
-    ensures answer { GivesGroupName patterns.old index component group buffer.old buffer.new
+    ensures answer { ReportsGroupName patterns.old index component group buffer.old buffer.new
         needed.new result }
     ensures unchanged { patterns_in patterns.new ≡ patterns_in patterns.old }
 {

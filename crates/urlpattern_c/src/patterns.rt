@@ -40,7 +40,7 @@ impl Patterns {
     {
         let Patterns { is_made, slot } = mem::replace(self, Patterns::empty());
         if is_made {
-            Some(slot.into_loose(alloc).into_box())
+            Some(slot.into_box_parts(alloc).into_box())
         } else {
             None
         }

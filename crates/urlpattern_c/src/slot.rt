@@ -35,15 +35,15 @@ impl Slot {
     }
 
     /// The pointer to the patterns of a box that was taken apart. Owns them.
-    pub(crate) fn of(loose: BoxParts<PatternBox, Global>) -> Slot
-        ensures { result.held ≡ Some loose.value }
+    pub(crate) fn of(parts: BoxParts<PatternBox, Global>) -> Slot
+        ensures { result.held ≡ Some parts.value }
     {
-        let BoxParts { at, alloc: _ } = loose;
+        let BoxParts { at, alloc: _ } = parts;
         Slot { at: at as *mut u8 }
     }
 
     /// The parts of the box with the patterns, given the allocator that made it.
-    pub(crate) fn into_loose(self, alloc: Global) -> BoxParts<PatternBox, Global>
+    pub(crate) fn into_box_parts(self, alloc: Global) -> BoxParts<PatternBox, Global>
         requires { IsSome self.held }
         ensures { self.held ≡ Some result.value }
     {

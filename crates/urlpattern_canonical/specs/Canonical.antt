@@ -36,8 +36,9 @@ abbrev pub dummy_of_scheme : List ℕ → Parsed Parts
 dummy_of_scheme scheme = parse_url None (scheme ++ codes "://dummy.test")
 
 -- What `get` reads from the URL after `set` changed it.
-abbrev pub after : Parsed Parts → (Parts → Parsed Parts) → (Parts → List ℕ) → Parsed (List ℕ)
-after url set get = and_then url (λ old. and_then (set old) (λ new. Ok (get new)))
+abbrev pub get_after_set : Parsed Parts → (Parts → Parsed Parts) → (Parts → List ℕ)
+    → Parsed (List ℕ)
+get_after_set url set get = and_then url (λ old. and_then (set old) (λ new. Ok (get new)))
 
 -- The result, with `reason` in place of any error.
 abbrev pub rejected_as : {T : Type 0} → ParseError → Parsed T → Parsed T
@@ -51,18 +52,20 @@ protocol_of value = and_then (dummy_of_scheme value) (λ url. Ok url.scheme)
 -- The `hostname` of the URL Standard's API, without a port, after the value was set on the URL.
 abbrev pub hostname_of : List ℕ → Parsed (List ℕ)
 hostname_of value =
-    after dummy_url (λ url. rejected_as InvalidDomainCharacter (quirks.set_host url value false))
+    get_after_set dummy_url (λ url.
+    rejected_as InvalidDomainCharacter (quirks.set_host url value false))
     (λ url. host_text (host_or_empty url))
 
 -- The `port` of the URL Standard's API after `value` was set on a URL of the scheme.
 abbrev pub port_of : (scheme value : List ℕ) → Parsed (List ℕ)
 port_of scheme value =
-    after (dummy_of_scheme scheme) (λ url. rejected_as InvalidPort (quirks.set_port url value))
+    get_after_set (dummy_of_scheme scheme) (λ url.
+    rejected_as InvalidPort (quirks.set_port url value))
     (λ url. text_between url BeforePort AfterPort)
 
 -- The path of a URL after it was set to the value.
 abbrev pub path_of : Parsed Parts → List ℕ → Parsed (List ℕ)
-path_of url value = after url (λ old. Ok (set_path old value)) (λ new. new.path)
+path_of url value = get_after_set url (λ old. Ok (set_path old value)) (λ new. new.path)
 
 -- The path without an initial `/-`. The Rust crate tests for the two characters; the standard
 -- removes any two.
@@ -90,13 +93,16 @@ canonical_protocol text = canonical protocol_of text
 -- The canonical form of a user name.
 abbrev pub canonical_username : List ℕ → Parsed (List ℕ)
 canonical_username text =
-    canonical (λ value. after dummy_url (λ url. set_username url value) (λ url. url.username)) text
+    canonical
+    (λ value. get_after_set dummy_url (λ url. set_username url value) (λ url. url.username))
+    text
 
 -- The canonical form of a password.
 abbrev pub canonical_password : List ℕ → Parsed (List ℕ)
 canonical_password text =
     canonical
-    (λ value. after dummy_url (λ url. set_password url (Some value)) (λ url. url.password)) text
+    (λ value. get_after_set dummy_url (λ url. set_password url (Some value)) (λ url. url.password))
+    text
 
 -- The canonical form of a hostname.
 abbrev pub canonical_hostname : List ℕ → Parsed (List ℕ)
@@ -133,13 +139,13 @@ canonical_opaque_pathname text = canonical (path_of opaque_url) text
 -- The canonical form of a query, which has no question mark before it.
 abbrev pub canonical_search : List ℕ → Parsed (List ℕ)
 canonical_search text =
-    canonical (λ value. after dummy_url (λ url. Ok (set_query url (Some value))) (λ url.
+    canonical (λ value. get_after_set dummy_url (λ url. Ok (set_query url (Some value))) (λ url.
     unwrap_or url.query [])) text
 
 -- The canonical form of a fragment, which has no number sign before it.
 abbrev pub canonical_hash : List ℕ → Parsed (List ℕ)
 canonical_hash text =
-    canonical (λ value. after dummy_url (λ url. Ok (set_fragment url (Some value))) (λ url.
+    canonical (λ value. get_after_set dummy_url (λ url. Ok (set_fragment url (Some value))) (λ url.
     unwrap_or url.fragment [])) text
 
 -- ---- rejections

@@ -16,10 +16,10 @@ use Rattle.urlpattern_compare.specs.declared.coverage.Reason.TheVariants as reas
 use Rattle.urlpattern_meaning.specs.PartMeaning.{AreGenerated}
 use Rattle.urlpattern_syntax.specs.declared.parts.ComponentParts.{ComponentParts}
 use Rattle.urlpattern_compare.specs.declared.shadowed.Shadowed.{Shadowed}
-use Rattle.urlpattern_compare.specs.declared.pattern_parts.First.{First}
-use Rattle.urlpattern_compare.specs.declared.pattern_parts.First.TheVariants as firsts
-use Rattle.urlpattern_compare.specs.declared.pattern_parts.Lack.{Lack}
-use Rattle.urlpattern_compare.specs.declared.pattern_parts.Lack.TheVariants as lacking
+use Rattle.urlpattern_compare.specs.declared.pattern_parts.FirstUncovered.{FirstUncovered}
+use Rattle.urlpattern_compare.specs.declared.pattern_parts.FirstUncovered.TheVariants as firsts
+use Rattle.urlpattern_compare.specs.declared.pattern_parts.NoText.{NoText}
+use Rattle.urlpattern_compare.specs.declared.pattern_parts.NoText.TheVariants as lacking
 use Rattle.urlpattern_compare.specs.declared.pattern_parts.Parting.{Parting}
 use Rattle.urlpattern_compare.specs.declared.pattern_parts.PatternCovering.{PatternCovering}
 use Rattle.urlpattern_compare.specs.declared.pattern_parts.PatternCovering.TheVariants as answers
@@ -128,8 +128,8 @@ abbrev pub unnamed : List Part → List PartView
 unnamed parts = map unnamed_view parts
 
 -- In the component, case is kept or no part is a custom regular expression.
-abbrev pub IsSettled : ComponentParts → Type 0
-IsSettled component =
+abbrev pub IsCaseKeptOrGenerated : ComponentParts → Type 0
+IsCaseKeptOrGenerated component =
     (component.options.ignore_case ≡ false) ⊎ AreGenerated (parts_view component.parts.items)
 
 -- The two components are equal but for the names of groups. Case is kept, or no part is custom, so
@@ -137,7 +137,7 @@ IsSettled component =
 pub record AreSame (component other : ComponentParts) : Type 0 where
   pub options : options_view component.options ≡ options_view other.options
   pub parts : unnamed component.parts.items ≡ unnamed other.parts.items
-  pub settled : IsSettled component
+  pub kept_or_generated : IsCaseKeptOrGenerated component
 
 -- The component covers the asked one: it matches each text without line feed, or each such text
 -- that the asked one matches, or the two are equal but for the names of groups.
@@ -226,37 +226,37 @@ IsPatternOverlap pattern other (commons.Unknown name reason) =
 
 -- ---- steps
 
--- What each result of `first_parting` says. Nowhere: each component covers. At: the component does
--- not cover, by this text. Unknown: whether the component covers is not known. Whether the
+-- What each result of `first_uncovered` says. Nowhere: each component covers. At: the component
+-- does not cover, by this text. Unknown: whether the component covers is not known. Whether the
 -- component is the first is left open.
-abbrev pub IsFirst : (pattern asked : PatternParts) → First → Type 0
-IsFirst pattern asked firsts.Nowhere =
+abbrev pub IsFirstUncovered : (pattern asked : PatternParts) → FirstUncovered → Type 0
+IsFirstUncovered pattern asked firsts.Nowhere =
     (name : ComponentName)
     → IsComponentCovered (at pattern.components name) (at asked.components name)
-IsFirst pattern asked (firsts.At name text) =
+IsFirstUncovered pattern asked (firsts.At name text) =
     IsOnlyIn (at pattern.components name) (at asked.components name) text.items
-IsFirst pattern asked (firsts.Unknown name reason) =
+IsFirstUncovered pattern asked (firsts.Unknown name reason) =
     IsReasonToDoubt (at pattern.components name) (at asked.components name) reason
 
--- What each `Lack` says. `Empty` holds of a component of which no text exists, and `IsReasonAt` of
--- a component and the reason why no text is known.
-abbrev pub IsLack : (Empty : ComponentName → Type 0)
+-- What each `NoText` says. `Empty` holds of a component of which no text exists, and `IsReasonAt`
+-- of a component and the reason why no text is known.
+abbrev pub IsNoText : (Empty : ComponentName → Type 0)
     → (IsReasonAt : ComponentName → Reason → Type 0)
-    → Lack → Type 0
-IsLack Empty IsReasonAt lacking.OutOfMemory = Unit {0}
-IsLack Empty IsReasonAt (lacking.Nothing name) = Empty name
-IsLack Empty IsReasonAt (lacking.Unknown name reason) = IsReasonAt name reason
+    → NoText → Type 0
+IsNoText Empty IsReasonAt lacking.OutOfMemory = Unit {0}
+IsNoText Empty IsReasonAt (lacking.Nothing name) = Empty name
+IsNoText Empty IsReasonAt (lacking.Unknown name reason) = IsReasonAt name reason
 
--- What each `Lack` says of the asked pattern: a component matches no text, or no text of a
+-- What each `NoText` says of the asked pattern: a component matches no text, or no text of a
 -- component is known.
-abbrev pub LacksExample : (asked : PatternParts) → Lack → Type 0
+abbrev pub LacksExample : (asked : PatternParts) → NoText → Type 0
 LacksExample asked =
-    IsLack (λ name. MatchesNoLine (at asked.components name)) (λ name reason.
+    IsNoText (λ name. MatchesNoLine (at asked.components name)) (λ name reason.
     IsReasonAlone (at asked.components name) reason)
 
 -- What was found so far, with the next component, `name`, added. The first component that does not
 -- cover is kept; without one, the last of which nothing is known.
-abbrev pub first_or : First → (name : ComponentName) → Covering → First
+abbrev pub first_or : FirstUncovered → (name : ComponentName) → Covering → FirstUncovered
 first_or (firsts.At earlier text) name covering = firsts.At earlier text
 first_or firsts.Nowhere name coverings.Covered = firsts.Nowhere
 first_or firsts.Nowhere name (coverings.NotCovered text) = firsts.At name text
@@ -266,25 +266,25 @@ first_or (firsts.Unknown earlier why) name (coverings.NotCovered text) = firsts.
 first_or (firsts.Unknown earlier why) name (coverings.Unknown reason) = firsts.Unknown name reason
 
 -- What the result of `text_with` says. Ok: the component `name` of the asked pattern matches the
--- text, provided that the component `parted` matches `text`; for `parted` itself, the text is
+-- text, provided that the component `uncovered` matches `text`; for `uncovered` itself, the text is
 -- `text`. An error: why no text is known, or that memory ran out.
-abbrev pub IsTextWith : (asked : PatternParts) → (parted : ComponentName)
-    → (text : List ℕ) → ComponentName → Result (String Global) Lack → Type 0
-IsTextWith asked parted text name (Ok found) =
-    (IsMeantBy (at asked.components parted) text
+abbrev pub IsTextWith : (asked : PatternParts) → (uncovered : ComponentName)
+    → (text : List ℕ) → ComponentName → Result (String Global) NoText → Type 0
+IsTextWith asked uncovered text name (Ok found) =
+    (IsMeantBy (at asked.components uncovered) text
     → IsMeantBy (at asked.components name) (text_of found))
-    × (name ≡ parted → text_of found ≡ text)
-IsTextWith asked parted text name (Err lack) = LacksExample asked lack
+    × (name ≡ uncovered → text_of found ≡ text)
+IsTextWith asked uncovered text name (Err lack) = LacksExample asked lack
 
 -- What the result of `common_text` says. Ok: the component `name` of both patterns matches the
 -- text. An error: why no text is known, or that memory ran out.
 abbrev pub IsCommonText : (pattern other : PatternParts) → ComponentName
-    → Result (String Global) Lack → Type 0
+    → Result (String Global) NoText → Type 0
 IsCommonText pattern other name (Ok text) =
     IsMeantBy (at pattern.components name) (text_of text)
     × IsMeantBy (at other.components name) (text_of text)
 IsCommonText pattern other name (Err lack) =
-    IsLack (λ other_name.
+    IsNoText (λ other_name.
     AreApart (at pattern.components other_name) (at other.components other_name))
     (λ other_name reason.
     IsReasonFor (at pattern.components other_name) (at other.components other_name) reason) lack

@@ -50,10 +50,10 @@ with_cells made (cell ∷ cells) = with_cells (with_cell made cell) cells
 
 -- The start states that cells, in reverse order, have once they are prepended to an automaton with
 -- `count` states and the start states `starts`.
-abbrev pub heads : (starts : List ℕ) → (count : ℕ) → List Cell → List ℕ
-heads starts count [] = starts
-heads starts count (One test ∷ cells) = heads (count ∷ []) (count + 1) cells
-heads starts count (Many test ∷ cells) = heads (starts ++ count ∷ []) (count + 1) cells
+abbrev pub new_starts : (starts : List ℕ) → (count : ℕ) → List Cell → List ℕ
+new_starts starts count [] = starts
+new_starts starts count (One test ∷ cells) = new_starts (count ∷ []) (count + 1) cells
+new_starts starts count (Many test ∷ cells) = new_starts (starts ++ count ∷ []) (count + 1) cells
 
 -- Whether a part with this modifier may repeat.
 abbrev pub repeats : PartModifier → Bool
@@ -69,10 +69,10 @@ may_miss modifier = false
 
 -- The automaton `made`, to which `cells` are prepended next: if `again` is set, the start states
 -- that the cells will have are added, so that the cells may be read again.
-abbrev pub with_again : Made → Bool → List Cell → Made
-with_again made again cells = record made {
+abbrev pub with_repeat_starts : Made → Bool → List Cell → Made
+with_repeat_starts made again cells = record made {
   starts =
-      made.starts ++ (if again && has_one cells then heads [] made.count cells else []);
+      made.starts ++ (if again && has_one cells then new_starts [] made.count cells else []);
 }
 
 -- The automaton `inner`, which is `made` with cells prepended: if the flag is set, the start states
@@ -87,7 +87,7 @@ with_missing made inner missing = record inner {
 -- modifier permits. Cells of which none reads exactly one character may read nothing anyway.
 abbrev pub with_copies : Made → PartModifier → List Cell → Made
 with_copies made modifier cells =
-    with_missing made (with_cells (with_again made (repeats modifier) cells) cells)
+    with_missing made (with_cells (with_repeat_starts made (repeats modifier) cells) cells)
     (may_miss modifier && has_one cells)
 
 -- The automaton of parts, made from the last part to the first.

@@ -1,7 +1,7 @@
 //! Single components compared by their parts.
 
 ghost use Rattle.std.specs.Prelude.{◌≡◌, ◌↔◌, [], ◌∷◌, IfNone, IfOk, IfSome, IsTrue, false};
-ghost use Rattle.urlpattern_compare.specs.Comparing.{AreSame, IsComponentCovering, IsComponentOverlap, IsExample, IsKnown, IsReasonFor, IsSettled, IsUnknownBy, MatchesEveryLine, anything_part, unnamed, unnamed_view};
+ghost use Rattle.urlpattern_compare.specs.Comparing.{AreSame, IsCaseKeptOrGenerated, IsComponentCovering, IsComponentOverlap, IsExample, IsKnown, IsReasonFor, IsUnknownBy, MatchesEveryLine, anything_part, unnamed, unnamed_view};
 ghost use Rattle.urlpattern_syntax.specs.Options.{default_options, options_view};
 ghost use Rattle.urlpattern_syntax.specs.Parts.{parts_view};
 ghost use Rattle.urlpattern_syntax.specs.Text.{text_of};
@@ -95,14 +95,14 @@ fn covers_anything(alloc: Global, component: &ComponentParts) -> Result<bool, Al
 fn is_same(component: &ComponentParts, other: &ComponentParts) -> bool
     ensures { IsTrue result ↔ AreSame component.now other.now }
 {
-    is_settled(component)
+    is_case_kept_or_generated(component)
         && are_same_options(&component.options, &other.options)
         && are_same_parts(&component.parts, &other.parts)
 }
 
 /// Whether case is kept in `component`, or no part is a custom regular expression.
-fn is_settled(component: &ComponentParts) -> bool
-    ensures { IsTrue result ↔ IsSettled component.now }
+fn is_case_kept_or_generated(component: &ComponentParts) -> bool
+    ensures { IsTrue result ↔ IsCaseKeptOrGenerated component.now }
 {
     !component.options.ignore_case || !has_custom(&component.parts)
 }

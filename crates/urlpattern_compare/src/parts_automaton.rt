@@ -4,7 +4,7 @@
 ghost use Rattle.std.specs.Prelude.{◌≡◌, ◌≤◌, ◌<◌, ◌+◌, ◌++◌, [], IfNone, IfOk, OnOk, length};
 ghost use Rattle.urlpattern_compare.specs.{Answers.AcceptsMeaning, Answers.IfMade};
 ghost use Rattle.urlpattern_compare.specs.Automata.{IsWithin, named, passes};
-ghost use Rattle.urlpattern_compare.specs.Making.{HasManyStates, edges_to, heads, made, made_view, may_miss, repeats, with_again, with_cell, with_cells, with_copies};
+ghost use Rattle.urlpattern_compare.specs.Making.{HasManyStates, edges_to, made, made_view, may_miss, new_starts, repeats, with_cell, with_cells, with_copies, with_repeat_starts};
 ghost use Rattle.urlpattern_compare.specs.Searching.{IsFoundBy};
 ghost use Rattle.urlpattern_meaning.specs.PartMeaning.{AreGenerated};
 ghost use Rattle.urlpattern_syntax.specs.{Options.options_view, Parts.parts_view};
@@ -141,7 +141,7 @@ impl PartsAutomaton {
         } else {
             Vec::new(alloc)
         };
-        self.add_again(alloc, repeats(modifier), cells)?;
+        self.add_repeat_starts(alloc, repeats(modifier), cells)?;
         self.add_cells(cells)?;
         self.starts.extend_from_slice(&missing)
     }
@@ -149,14 +149,19 @@ impl PartsAutomaton {
     /// If `again` is set, adds the start states that `cells`, which are prepended next, will have,
     /// so that the cells may be read again. Nothing is added if no cell reads exactly one
     /// character.
-    fn add_again(&mut self, alloc: Global, again: bool, cells: &[Cell]) -> Result<(), AllocError>
+    fn add_repeat_starts(
+        &mut self,
+        alloc: Global,
+        again: bool,
+        cells: &[Cell],
+    ) -> Result<(), AllocError>
         requires { self.old.states + length cells.now ≤ usize.MAX }
         ensures { OnOk result
-            (made_view self.new ≡ with_again (made_view self.old) again cells.now) }
+            (made_view self.new ≡ with_repeat_starts (made_view self.old) again cells.now) }
     {
         if again && has_one(cells) {
-            let heads = heads(alloc, self.states, cells)?;
-            self.starts.extend_from_slice(&heads)?;
+            let new_starts = new_starts(alloc, self.states, cells)?;
+            self.starts.extend_from_slice(&new_starts)?;
         }
         Ok(())
     }
@@ -263,9 +268,9 @@ fn add_edges(
 
 /// Returns the new start states that `cells`, which are in reverse order, have once they are
 /// prepended to an automaton of `states` states.
-fn heads(alloc: Global, states: usize, cells: &[Cell]) -> Result<Vec<usize>, AllocError>
+fn new_starts(alloc: Global, states: usize, cells: &[Cell]) -> Result<Vec<usize>, AllocError>
     requires { states + length cells.now ≤ usize.MAX }
-    ensures { IfOk result (λ starts. starts.items ≡ heads [] states cells.now) }
+    ensures { IfOk result (λ starts. starts.items ≡ new_starts [] states cells.now) }
 {
     let mut starts = Vec::new(alloc);
     let mut count = states;

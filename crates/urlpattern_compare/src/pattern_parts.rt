@@ -102,7 +102,7 @@ pub enum PatternOverlap {
 
 /// The first component of a pattern that does not cover the component of the asked pattern.
 #[derive(Debug, Drop)]
-pub(crate) enum First {
+pub(crate) enum FirstUncovered {
     /// Every component covers that of the asked pattern.
     Nowhere,
     /// The component, and the characters of a text that only the asked pattern's component matches.
@@ -114,7 +114,7 @@ pub(crate) enum First {
 
 /// Why no text is found that a component, of one pattern or of two, matches.
 #[derive(Debug, Drop)]
-pub(crate) enum Lack {
+pub(crate) enum NoText {
     /// No text exists that this component matches.
     Nothing(ComponentName),
     /// Not known, because of this component, for this reason.
@@ -123,29 +123,29 @@ pub(crate) enum Lack {
     OutOfMemory,
 }
 
-impl From<AllocError> for Lack {
-    ghost use Rattle.urlpattern_compare.specs.declared.pattern_parts.Lack.TheVariants as lacking;
+impl From<AllocError> for NoText {
+    ghost use Rattle.urlpattern_compare.specs.declared.pattern_parts.NoText.TheVariants as lacking;
 
     ghost from_gives = { λ _ lack. lack ≡ lacking.OutOfMemory };
 
-    fn from(_error: AllocError) -> Lack {
-        Lack::OutOfMemory
+    fn from(_error: AllocError) -> NoText {
+        NoText::OutOfMemory
     }
 }
 
-impl First {
+impl FirstUncovered {
     ghost use Rattle.urlpattern_compare.specs.Comparing.{first_or};
 
     /// Adds the component `name` to what was found so far; `covering` says whether that component
     /// covers the asked pattern's. The first component that does not cover is kept; without one,
     /// the last of which nothing is known.
-    fn or(self, name: ComponentName, covering: Covering) -> First
+    fn or(self, name: ComponentName, covering: Covering) -> FirstUncovered
         ensures { result ≡ first_or self name covering }
     {
         match (self, covering) {
-            (First::At(earlier, text), _) => First::At(earlier, text),
-            (_, Covering::NotCovered(text)) => First::At(name, text),
-            (_, Covering::Unknown(reason)) => First::Unknown(name, reason),
+            (FirstUncovered::At(earlier, text), _) => FirstUncovered::At(earlier, text),
+            (_, Covering::NotCovered(text)) => FirstUncovered::At(name, text),
+            (_, Covering::Unknown(reason)) => FirstUncovered::Unknown(name, reason),
             (first, Covering::Covered) => first,
         }
     }
@@ -153,7 +153,7 @@ impl First {
 
 impl PatternParts {
     ghost use Rattle.urlpattern_compare.specs.Order.{parts_cmp};
-    ghost use Rattle.urlpattern_compare.specs.Comparing.{IsCommonText, IsFirst, IsMeantBy, IsOnlyIn, IsPatternCovering, IsPatternOverlap, IsTextWith, LacksExample, MeansEach};
+    ghost use Rattle.urlpattern_compare.specs.Comparing.{IsCommonText, IsFirstUncovered, IsMeantBy, IsOnlyIn, IsPatternCovering, IsPatternOverlap, IsTextWith, LacksExample, MeansEach};
 
     /// Returns whether this pattern covers `asked`: whether this pattern's parts match each
     /// combination of eight texts, one for each component, that the parts of `asked` match. Texts
@@ -168,10 +168,14 @@ impl PatternParts {
     pub fn covers(&self, alloc: Global, asked: &Self) -> Result<PatternCovering, AllocError>
         ensures { IfOk result (IsPatternCovering self.now asked.now) }
     {
-        match self.first_parting(alloc, asked)? {
-            First::Nowhere => Ok(PatternCovering::Covered),
-            First::At(component, text) => self.parted(alloc, asked, component, &text),
-            First::Unknown(component, reason) => Ok(PatternCovering::Unknown(component, reason)),
+        match self.first_uncovered(alloc, asked)? {
+            FirstUncovered::Nowhere => Ok(PatternCovering::Covered),
+            FirstUncovered::At(component, text) => {
+                self.extend_to_parting(alloc, asked, component, &text)
+            }
+            FirstUncovered::Unknown(component, reason) => {
+                Ok(PatternCovering::Unknown(component, reason))
+            }
         }
     }
 
@@ -183,14 +187,16 @@ impl PatternParts {
     pub fn overlaps(&self, alloc: Global, other: &Self) -> Result<PatternOverlap, AllocError>
         ensures { IfOk result (IsPatternOverlap self.now other.now) }
     {
-        let text = |name: ComponentName| -> Result<String, Lack>
+        let text = |name: ComponentName| -> Result<String, NoText>
             ensures { IsCommonText self.entry.now other.entry.now name result }
         { self.common_text(alloc, other, name) };
         match Eight::try_from_fn(text) {
             Ok(texts) => Ok(PatternOverlap::Common(texts)),
-            Err(Lack::Nothing(_)) => Ok(PatternOverlap::Apart),
-            Err(Lack::Unknown(component, reason)) => Ok(PatternOverlap::Unknown(component, reason)),
-            Err(Lack::OutOfMemory) => Err(AllocError),
+            Err(NoText::Nothing(_)) => Ok(PatternOverlap::Apart),
+            Err(NoText::Unknown(component, reason)) => {
+                Ok(PatternOverlap::Unknown(component, reason))
+            }
+            Err(NoText::OutOfMemory) => Err(AllocError),
         }
     }
 
@@ -210,10 +216,10 @@ impl PatternParts {
     }
 
     /// Returns the first component of this pattern that does not cover the component of `asked`.
-    fn first_parting(&self, alloc: Global, asked: &Self) -> Result<First, AllocError>
-        ensures { IfOk result (IsFirst self.now asked.now) }
+    fn first_uncovered(&self, alloc: Global, asked: &Self) -> Result<FirstUncovered, AllocError>
+        ensures { IfOk result (IsFirstUncovered self.now asked.now) }
     {
-        let mut first = First::Nowhere;
+        let mut first = FirstUncovered::Nowhere;
         for name in ComponentName::all() {
             let component = self.components.get(name);
             let covering = component_covers(alloc, component, asked.components.get(name))?;
@@ -225,7 +231,7 @@ impl PatternParts {
     /// Returns whether this pattern covers `asked`, where `component` of `asked` matches `text`,
     /// and that of this pattern does not. If some component of `asked` matches no text, `asked` is
     /// covered.
-    fn parted(
+    fn extend_to_parting(
         &self,
         alloc: Global,
         asked: &Self,
@@ -239,9 +245,9 @@ impl PatternParts {
         let text = string_of(alloc, text)?;
         match asked.texts_with(alloc, component, &text) {
             Ok(texts) => Ok(PatternCovering::NotCovered(Parting { component, texts })),
-            Err(Lack::Nothing(_)) => Ok(PatternCovering::Covered),
-            Err(Lack::Unknown(name, reason)) => Ok(PatternCovering::Unknown(name, reason)),
-            Err(Lack::OutOfMemory) => Err(AllocError),
+            Err(NoText::Nothing(_)) => Ok(PatternCovering::Covered),
+            Err(NoText::Unknown(name, reason)) => Ok(PatternCovering::Unknown(name, reason)),
+            Err(NoText::OutOfMemory) => Err(AllocError),
         }
     }
 
@@ -253,49 +259,54 @@ impl PatternParts {
         alloc: Global,
         component: ComponentName,
         text: &str,
-    ) -> Result<Eight<String>, Lack>
+    ) -> Result<Eight<String>, NoText>
         requires { IsMeantBy (at self.now.components component) (chars text.now) }
         ensures meant { IfOk result (MeansEach self.now) }
         ensures same { IfOk result (λ texts. text_of (at texts component) ≡ chars text.now) }
         ensures lack { IfErr result (LacksExample self.now) }
     {
-        let value = |name: ComponentName| -> Result<String, Lack>
+        let value = |name: ComponentName| -> Result<String, NoText>
             ensures { IsTextWith self.entry.now component (chars text.entry.now) name result }
         { self.text_with(alloc, name, component, text) };
         Eight::try_from_fn(value)
     }
 
-    /// Returns a text that the component `name` matches: `text` if `name` is `parted`, and an
+    /// Returns a text that the component `name` matches: `text` if `name` is `uncovered`, and an
     /// example for any other component.
     fn text_with(
         &self,
         alloc: Global,
         name: ComponentName,
-        parted: ComponentName,
+        uncovered: ComponentName,
         text: &str,
-    ) -> Result<String, Lack>
-        ensures { IsTextWith self.now parted (chars text.now) name result }
+    ) -> Result<String, NoText>
+        ensures { IsTextWith self.now uncovered (chars text.now) name result }
     {
-        if name == parted {
+        if name == uncovered {
             return Ok(String::from_str(alloc, text)?);
         }
         match component_example(alloc, self.components.get(name))? {
             Overlap::Common(text) => Ok(string_of(alloc, &text)?),
-            Overlap::Apart => Err(Lack::Nothing(name)),
-            Overlap::Unknown(reason) => Err(Lack::Unknown(name, reason)),
+            Overlap::Apart => Err(NoText::Nothing(name)),
+            Overlap::Unknown(reason) => Err(NoText::Unknown(name, reason)),
         }
     }
 
     /// Returns a text that the component `name` of this pattern and that of `other` match.
-    fn common_text(&self, alloc: Global, other: &Self, name: ComponentName) -> Result<String, Lack>
+    fn common_text(
+        &self,
+        alloc: Global,
+        other: &Self,
+        name: ComponentName,
+    ) -> Result<String, NoText>
         ensures { IsCommonText self.now other.now name result }
     {
         let component = self.components.get(name);
         let overlap = component_overlaps(alloc, component, other.components.get(name))?;
         match overlap {
             Overlap::Common(text) => Ok(string_of(alloc, &text)?),
-            Overlap::Apart => Err(Lack::Nothing(name)),
-            Overlap::Unknown(reason) => Err(Lack::Unknown(name, reason)),
+            Overlap::Apart => Err(NoText::Nothing(name)),
+            Overlap::Unknown(reason) => Err(NoText::Unknown(name, reason)),
         }
     }
 }

@@ -92,10 +92,10 @@ abbrev pub HasErrorOf : (Refuses : ErrorView → Type 0) → Diagnosis → Type 
 HasErrorOf Refuses diagnosis = Refuses (error_view diagnosis.error)
 
 -- `url` or an engine reported the error, and the fault is within the pattern.
-abbrev pub IsPartOfRejected : (pattern : List ℕ) → Error → Fault → Type 0
-IsPartOfRejected pattern (errors.Url reason) fault = IsFaultIn pattern fault
-IsPartOfRejected pattern (errors.RegExp reason) fault = IsFaultIn pattern fault
-IsPartOfRejected pattern other fault = ⊥
+abbrev pub IsFaultOfRejectedPart : (pattern : List ℕ) → Error → Fault → Type 0
+IsFaultOfRejectedPart pattern (errors.Url reason) fault = IsFaultIn pattern fault
+IsFaultOfRejectedPart pattern (errors.RegExp reason) fault = IsFaultIn pattern fault
+IsFaultOfRejectedPart pattern other fault = ⊥
 
 -- The diagnosis has the fault of the component's `pattern`, parsed with the prefix code point
 -- `point`, and moved to where the text of the diagnosis has the pattern, or else to the whole text.
@@ -103,7 +103,7 @@ abbrev pub ShowsFault : ComponentName → (pattern point : List ℕ) → Diagnos
 ShowsFault component pattern point diagnosis =
     (fault : Fault)
     × (IsFaultOf (Some component) pattern point diagnosis.error fault
-    ⊎ IsPartOfRejected pattern diagnosis.error fault)
+    ⊎ IsFaultOfRejectedPart pattern diagnosis.error fault)
     × IsFaultMoved (string_bytes diagnosis.text) pattern fault diagnosis.fault
 
 -- The fault of the diagnosis is its whole text, or the place where the colon after a special scheme
@@ -168,9 +168,9 @@ ShowsProtocol text subjects.Whole diagnosis = ShowsAll diagnosis ⊎ ShowsColon 
 ShowsProtocol text subjects.Base diagnosis = ⊥
 
 -- The text of the diagnosis has these bytes; for None it may be any text.
-abbrev pub IsOf : Option (List ℕ) → Diagnosis → Type 0
-IsOf None diagnosis = Unit {0}
-IsOf (Some bytes) diagnosis = string_bytes diagnosis.text ≡ bytes
+abbrev pub HasGivenText : Option (List ℕ) → Diagnosis → Type 0
+HasGivenText None diagnosis = Unit {0}
+HasGivenText (Some bytes) diagnosis = string_bytes diagnosis.text ≡ bytes
 
 -- What a diagnosis with this subject shows of the constructor string `bytes` and its base URL
 -- `base`: the base URL, if `url` rejects it; the string, if it is rejected when it is split; or

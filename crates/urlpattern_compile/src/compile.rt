@@ -9,7 +9,7 @@ ghost use Rattle.urlpattern_meaning.specs.FirstResults.{AcceptedText};
 ghost use Rattle.urlpattern_init.specs.{Inheritance.values_view, SpecialProtocol.IsKnownProtocol};
 ghost use Rattle.urlpattern_compile.specs.Compiled.{FirstRejected, HasEngine, IsComponentRejected, IsPathKind, RejectsInit, RejectsValues, after_protocol, canonical_in_hostname, is_ipv6_pattern, is_mark};
 ghost use Rattle.urlpattern_compile.specs.CompilerSteps.{IsCompiledWith, IsRejectedWith, compiled_values, settings_by};
-ghost use Rattle.urlpattern_compile.specs.KeptComponents.{AreCompiledKeeping, EachIsKept, IsKept, IsKeptOfInit};
+ghost use Rattle.urlpattern_compile.specs.KeptComponents.{AreCompiledWithParts, EachIsCompiledWithParts, IsCompiledWithParts, IsInitCompiledWithParts};
 ghost use Rattle.urlpattern_components.specs.declared.eight.ComponentName.{ComponentName};
 ghost use Rattle.urlpattern_syntax.specs.Errors.{MemoryOr, OnlyOutOfMemory};
 ghost use Rattle.urlpattern_syntax.specs.Options.{options_view};
@@ -51,7 +51,7 @@ pub fn compile_init<R: RegExp>(
     options: UrlPatternOptions,
 ) -> Result<Eight<ComponentWithParts<R>>, Error>
     requires { IfSome known (IsKnownProtocol R.RegExp) }
-    ensures compiled { IfOk result (IsKeptOfInit R.RegExp init options) }
+    ensures compiled { IfOk result (IsInitCompiledWithParts R.RegExp init options) }
     ensures refused { IfErr result (MemoryOr (RejectsInit R.RegExp init options)) }
 {
     let values = pattern_values(alloc, &init);
@@ -73,7 +73,7 @@ fn compile_values<R: RegExp>(
 ) -> Result<Eight<ComponentWithParts<R>>, Error>
     requires { IfSome known (IsKnownProtocol R.RegExp) }
     ensures compiled { IfOk result
-        (AreCompiledKeeping R.RegExp options.now (values_view values.now)) }
+        (AreCompiledWithParts R.RegExp options.now (values_view values.now)) }
     ensures refused { IfErr result
         (MemoryOr (RejectsValues R.RegExp options.now (values_view values.now))) }
 {
@@ -176,7 +176,7 @@ impl Compiler<'_> {
     ) -> Result<Eight<ComponentWithParts<R>>, Error>
         requires { IfSome known (IsKnownProtocol R.RegExp) }
         ensures compiled { IfOk result
-            (AreCompiledKeeping R.RegExp self.now.options.now (compiled_values self.now)) }
+            (AreCompiledWithParts R.RegExp self.now.options.now (compiled_values self.now)) }
         ensures refused { IfErr result
             (MemoryOr (RejectsValues R.RegExp self.now.options.now (compiled_values self.now))) }
     {
@@ -195,7 +195,7 @@ impl Compiler<'_> {
     ) -> Result<ComponentWithParts<R>, Error>
         requires { IfSome known (IsKnownProtocol R.RegExp) }
         ensures compiled { IfOk result
-            (IsKept R.RegExp (settings_by self.now false ComponentName.Protocol)) }
+            (IsCompiledWithParts R.RegExp (settings_by self.now false ComponentName.Protocol)) }
         ensures refused { IfErr result (MemoryOr
             (IsComponentRejected R.RegExp (settings_by self.now false ComponentName.Protocol))) }
     {
@@ -223,11 +223,12 @@ impl Compiler<'_> {
         protocol: ComponentWithParts<R>,
         hierarchical: bool,
     ) -> Result<Eight<ComponentWithParts<R>>, Error>
-        requires { IsKept R.RegExp (settings_by self.now hierarchical ComponentName.Protocol)
-            protocol }
+        requires { IsCompiledWithParts R.RegExp
+            (settings_by self.now hierarchical ComponentName.Protocol) protocol }
         ensures protocol { IfOk result (λ made.
             component_view made.protocol.component ≡ component_view protocol.component) }
-        ensures compiled { IfOk result (EachIsKept R.RegExp (settings_by self.now hierarchical)) }
+        ensures compiled { IfOk result
+            (EachIsCompiledWithParts R.RegExp (settings_by self.now hierarchical)) }
         ensures refused { IfErr result
             (MemoryOr (FirstRejected R.RegExp (settings_by self.now hierarchical) after_protocol)) }
     {
@@ -253,7 +254,7 @@ impl Compiler<'_> {
         hierarchical: bool,
     ) -> Result<ComponentWithParts<R>, Error>
         ensures compiled { IfOk result
-            (IsKept R.RegExp (settings_by self.now hierarchical component)) }
+            (IsCompiledWithParts R.RegExp (settings_by self.now hierarchical component)) }
         ensures refused { IfErr result (MemoryOr
             (IsComponentRejected R.RegExp (settings_by self.now hierarchical component))) }
     {

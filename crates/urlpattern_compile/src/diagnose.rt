@@ -7,7 +7,7 @@ ghost use Rattle.urlpattern_init.specs.Inheritance.{values_view};
 ghost use Rattle.urlpattern_compile.specs.Compiled.{RejectsInit, RejectsValues};
 ghost use Rattle.urlpattern_compile.specs.CompilerSteps.{compiled_values, settings_by};
 ghost use Rattle.urlpattern_diagnosis.specs.Faults.{IsColonFault, IsFaultIn};
-ghost use Rattle.urlpattern_compile.specs.Diagnoses.{AcceptsInit, AcceptsPatternOfText, AcceptsValues, HasErrorOf, IfAccepted, IfRejected, IsOf, IsPartOfRejected, IsWithinText, ShowsGiven, ShowsInit, ShowsPattern, ShowsProtocol, ShowsValues};
+ghost use Rattle.urlpattern_compile.specs.Diagnoses.{AcceptsInit, AcceptsPatternOfText, AcceptsValues, HasErrorOf, HasGivenText, IfAccepted, IfRejected, IsFaultOfRejectedPart, IsWithinText, ShowsGiven, ShowsInit, ShowsPattern, ShowsProtocol, ShowsValues};
 ghost use Rattle.urlpattern_compile.specs.FromString.{RejectsPatternOfText};
 ghost use Rattle.urlpattern_syntax.specs.Errors.{error_view};
 
@@ -142,7 +142,7 @@ fn init_diagnosis<R: RegExp>(
     ensures accepted { IfAccepted result (AcceptsInit R.RegExp init.now options.now) }
     ensures refused { IfRejected result (HasErrorOf (RejectsInit R.RegExp init.now options.now)) }
     ensures shows { IfRejected result (ShowsInit R.RegExp init.now options.now) }
-    ensures text { IfRejected result (IsOf (option_copied string.entry)) }
+    ensures text { IfRejected result (HasGivenText (option_copied string.entry)) }
     ensures within { IfRejected result IsWithinText }
 {
     let Ok(values) = pattern_values(alloc, init) else {
@@ -167,7 +167,7 @@ fn values_diagnosis<R: RegExp>(
     ensures refused { IfRejected result
         (HasErrorOf (RejectsValues R.RegExp options.now (values_view values.now))) }
     ensures shows { IfRejected result (ShowsValues R.RegExp options.now (values_view values.now)) }
-    ensures text { IfRejected result (IsOf (option_copied given.entry.string)) }
+    ensures text { IfRejected result (HasGivenText (option_copied given.entry.string)) }
     ensures within { IfRejected result IsWithinText }
 {
     let Ok(canonicalizer) = Canonicalizer::shared(alloc) else {
@@ -240,7 +240,7 @@ impl Compiler<'_> {
             (HasErrorOf (RejectsValues R.RegExp self.now.options.now (compiled_values self.now))) }
         ensures shows { IfOk result
             (ShowsValues R.RegExp self.now.options.now (compiled_values self.now)) }
-        ensures text { IfOk result (IsOf (option_copied given.entry.string)) }
+        ensures text { IfOk result (HasGivenText (option_copied given.entry.string)) }
         ensures within { IfOk result IsWithinText }
     {
         match self.first_rejected::<R>()? {
@@ -264,7 +264,7 @@ impl Compiler<'_> {
             diagnosis.subject ≡ subjects.Component rejection.component) }
         ensures shows { IfOk result (ShowsPattern rejection.component
             (settings_by self.now rejection.hierarchical rejection.component)) }
-        ensures text { IfOk result (IsOf (option_copied given.entry.string)) }
+        ensures text { IfOk result (HasGivenText (option_copied given.entry.string)) }
         ensures within { IfOk result IsWithinText }
     {
         let Rejection {
@@ -301,7 +301,7 @@ impl Compiler<'_> {
         error: &Error,
     ) -> Result<Option<Fault>, OutOfMemory>
         ensures part { IfOk result (λ found.
-            IfSome found (IsPartOfRejected pattern.now error.now)) }
+            IfSome found (IsFaultOfRejectedPart pattern.now error.now)) }
         ensures within { IfOk result (λ found. IfSome found (IsFaultIn pattern.now)) }
     {
         match error {

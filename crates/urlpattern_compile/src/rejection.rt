@@ -3,7 +3,7 @@
 ghost use Rattle.std.specs.Prelude.{◌≡◌, ◌≢◌, false, IfNone, IfOk, IfSome};
 ghost use Rattle.urlpattern_compile.specs.CompilerSteps.{compiled_values, settings_by};
 ghost use Rattle.urlpattern_compile.specs.Diagnoses.{AcceptsComponent, IsFirstRejection, IsRejectionOf, RejectsComponent};
-ghost use Rattle.urlpattern_compile.specs.KeptComponents.{IsKept};
+ghost use Rattle.urlpattern_compile.specs.KeptComponents.{IsCompiledWithParts};
 ghost use Rattle.urlpattern_components.specs.declared.eight.ComponentName.TheVariants as names;
 ghost use Rattle.urlpattern_syntax.specs.Errors.{ErrorView as views, error_view};
 
@@ -62,7 +62,8 @@ impl Compiler<'_> {
         &self,
         protocol: ComponentWithParts<R>,
     ) -> Result<Option<Rejection>, OutOfMemory>
-        requires { IsKept R.RegExp (settings_by self.now false names.Protocol) protocol }
+        requires { IsCompiledWithParts R.RegExp (settings_by self.now false names.Protocol)
+            protocol }
         ensures { IfOk result (λ found.
             IfSome found (IsRejectionOf R.RegExp self.now.options.now (compiled_values self.now))) }
     {
@@ -87,7 +88,7 @@ impl Compiler<'_> {
             (RejectsComponent R.RegExp (settings_by self.now hierarchical) hierarchical)) }
     {
         for name in names {
-            match self.refused::<R>(hierarchical, *name)? {
+            match self.rejection_of::<R>(hierarchical, *name)? {
                 Some(rejection) => return Ok(Some(rejection)),
                 None => {}
             }
@@ -96,7 +97,7 @@ impl Compiler<'_> {
     }
 
     /// Compiles a component, and returns its rejection. `None`: the component is accepted.
-    fn refused<R: RegExp>(
+    fn rejection_of<R: RegExp>(
         &self,
         hierarchical: bool,
         component: ComponentName,

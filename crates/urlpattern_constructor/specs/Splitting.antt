@@ -36,8 +36,8 @@ IsSource source = AreLenientTokens (text_of_source source) (tokens_of source)
 
 -- Whether the section may end before the token at `position`: one of its signs, where a colon
 -- counts as outside of square brackets, or End.
-abbrev pub may_follow : Section → List TokenView → ℕ → Bool
-may_follow section tokens position =
+abbrev pub may_end_before : Section → List TokenView → ℕ → Bool
+may_end_before section tokens position =
     is_ending section true tokens position || ends_at tokens position
 
 -- ---- turns

@@ -7,7 +7,7 @@ ghost use Rattle.std.specs.Prelude.{◌≡◌, Some, ◌+◌, ◌*◌, ◌<◌, 
 ghost use Rattle.std.specs.Str.{chars};
 ghost use Rattle.urlpattern_constructor.specs.declared.sections.Section.TheVariants.{Hostname, Pathname, Port, Search};
 ghost use Rattle.urlpattern_constructor.specs.Split.{AuthorityFrom, EndsAt, HashAt, HashFrom, HostnameFrom, IsAbsoluteSplit, IsRelativeSplit, IsTextBetween, NoAuthority, PathnameAt, PathnameFrom, PortAt, SearchAt, SearchFrom, UserinfoFrom, depth_before, ends_at, implied_pathname, is_at_sign, is_colon_sign, is_slash_sign};
-ghost use Rattle.urlpattern_constructor.specs.Splitting.{CanRead, HasRead, HasTurnForSlash, HasTurns, IsSource, NoPathname, NoSearch, may_follow, split_values, text_of_source, tokens_of};
+ghost use Rattle.urlpattern_constructor.specs.Splitting.{CanRead, HasRead, HasTurnForSlash, HasTurns, IsSource, NoPathname, NoSearch, may_end_before, split_values, text_of_source, tokens_of};
 
 use crate::sections::{Position, Section};
 use crate::tokens::Source;
@@ -178,7 +178,7 @@ impl<'t, 'a> Source<'t, 'a> {
     fn port_at(&self, end: Position, special: bool) -> Split<'a>
         requires source { IsSource self.now }
         requires reads { HasRead self.now end }
-        requires sign { IsTrue (may_follow Hostname (tokens_of self.now) end.index) }
+        requires sign { IsTrue (may_end_before Hostname (tokens_of self.now) end.index) }
         requires slash { HasTurnForSlash self.now end.index 0 end.turns }
         ensures split { PortAt (text_of_source self.now) (tokens_of self.now) special end.index
             (split_values result) }
@@ -202,7 +202,7 @@ impl<'t, 'a> Source<'t, 'a> {
     fn pathname_at(&self, end: Position, special: bool) -> Split<'a>
         requires source { IsSource self.now }
         requires reads { HasRead self.now end }
-        requires sign { IsTrue (may_follow Port (tokens_of self.now) end.index) }
+        requires sign { IsTrue (may_end_before Port (tokens_of self.now) end.index) }
         requires slash { IsTrue (is_slash_sign (tokens_of self.now) end.index)
             → HasTurns self.now end.index end.turns }
         ensures split { PathnameAt (text_of_source self.now) (tokens_of self.now) special end.index
@@ -241,7 +241,7 @@ impl<'t, 'a> Source<'t, 'a> {
     fn search_at(&self, end: Position) -> Split<'a>
         requires source { IsSource self.now }
         requires reads { HasRead self.now end }
-        requires sign { IsTrue (may_follow Pathname (tokens_of self.now) end.index) }
+        requires sign { IsTrue (may_end_before Pathname (tokens_of self.now) end.index) }
         ensures split { SearchAt (text_of_source self.now) (tokens_of self.now) end.index
             (split_values result) }
         ensures nothing { NoPathname (split_values result) }
@@ -278,7 +278,7 @@ impl<'t, 'a> Source<'t, 'a> {
     fn hash_at(&self, end: Position) -> Split<'a>
         requires source { IsSource self.now }
         requires reads { HasRead self.now end }
-        requires sign { IsTrue (may_follow Search (tokens_of self.now) end.index) }
+        requires sign { IsTrue (may_end_before Search (tokens_of self.now) end.index) }
         ensures split { HashAt (text_of_source self.now) (tokens_of self.now) end.index
             (split_values result) }
         ensures nothing { NoSearch (split_values result) }

@@ -5,10 +5,10 @@ use crate::wide::ascii_form;
 
 /// Whether no `close` matches the first `open` at or after `place`. Escaped bytes do not count.
 /// `false` if there is no `open`.
-pub(crate) fn is_unclosed(part: &str, place: usize, open: u8, close: u8) -> bool {
+pub(crate) fn is_unclosed(pattern: &str, place: usize, open: u8, close: u8) -> bool {
     let mut depth = 0usize;
     let mut is_escaped = false;
-    for byte in part.as_bytes().iter().skip(place) {
+    for byte in pattern.as_bytes().iter().skip(place) {
         if is_escaped {
             is_escaped = false;
         } else if *byte == b'\\' {
@@ -26,10 +26,10 @@ pub(crate) fn is_unclosed(part: &str, place: usize, open: u8, close: u8) -> bool
 }
 
 /// Whether `place` is within square brackets that begin at or after `start`.
-pub(crate) fn is_in_class(part: &str, start: usize, place: usize) -> bool {
+pub(crate) fn is_in_class(pattern: &str, start: usize, place: usize) -> bool {
     let mut is_open = false;
     let mut is_escaped = false;
-    for byte in part.as_bytes().iter().take(place).skip(start) {
+    for byte in pattern.as_bytes().iter().take(place).skip(start) {
         match byte {
             _ if is_escaped => is_escaped = false,
             b'\\' => is_escaped = true,
@@ -43,11 +43,11 @@ pub(crate) fn is_in_class(part: &str, start: usize, place: usize) -> bool {
 
 /// Whether, between two places, a `)` within square brackets is followed by their `]` before
 /// another `[`, so that the `)` ends a custom expression in the middle of a class.
-pub(crate) fn has_cut_class(part: &str, start: usize, end: usize) -> bool {
+pub(crate) fn has_cut_class(pattern: &str, start: usize, end: usize) -> bool {
     let mut is_open = false;
     let mut is_cut = false;
     let mut is_escaped = false;
-    for byte in part.as_bytes().iter().take(end).skip(start) {
+    for byte in pattern.as_bytes().iter().take(end).skip(start) {
         match byte {
             _ if is_escaped => is_escaped = false,
             b'\\' => is_escaped = true,
@@ -64,10 +64,10 @@ pub(crate) fn has_cut_class(part: &str, start: usize, end: usize) -> bool {
 
 /// Returns the first `]` or `}` at or after a place that closes neither a class nor a count.
 /// `None`: each closes one.
-pub(crate) fn stray_bracket(part: &str, place: usize) -> Option<char> {
+pub(crate) fn stray_bracket(pattern: &str, place: usize) -> Option<char> {
     let mut is_escaped = false;
     let mut awaited = b' ';
-    for byte in part.as_bytes().iter().skip(place) {
+    for byte in pattern.as_bytes().iter().skip(place) {
         match *byte {
             _ if is_escaped => is_escaped = false,
             b'\\' => is_escaped = true,
@@ -83,8 +83,8 @@ pub(crate) fn stray_bracket(part: &str, place: usize) -> Option<char> {
 
 /// Returns the ASCII form of the first full-width mark before a place: of `(`, `)`, `{`, `}`, `:`,
 /// `*` or `\`. `None`: there is no such mark.
-pub(crate) fn wide_mark(part: &str, place: usize) -> Option<char> {
-    for (index, c) in part.char_indices() {
+pub(crate) fn wide_mark(pattern: &str, place: usize) -> Option<char> {
+    for (index, c) in pattern.char_indices() {
         if index >= place {
             return None;
         }
@@ -97,8 +97,8 @@ pub(crate) fn wide_mark(part: &str, place: usize) -> Option<char> {
 }
 
 /// Whether `*`, `+` or `?` is right before a place, and not escaped.
-pub(crate) fn is_after_modifier(part: &str, place: usize) -> bool {
-    let bytes = part.as_bytes();
+pub(crate) fn is_after_modifier(pattern: &str, place: usize) -> bool {
+    let bytes = pattern.as_bytes();
     match place.checked_sub(1) {
         Some(last) => {
             matches!(bytes.get(last), Some(b'*' | b'+' | b'?'))
@@ -110,8 +110,8 @@ pub(crate) fn is_after_modifier(part: &str, place: usize) -> bool {
 
 /// Whether a regular expression seems to end right before a place: with `]`, `.`, or a backslash
 /// and a letter.
-pub(crate) fn is_after_expression(part: &str, place: usize) -> bool {
-    let bytes = part.as_bytes();
+pub(crate) fn is_after_expression(pattern: &str, place: usize) -> bool {
+    let bytes = pattern.as_bytes();
     match bytes.get(place.saturating_sub(1)) {
         Some(b']' | b'.') => true,
         Some(byte) if byte.is_ascii_alphabetic() => {
@@ -122,8 +122,8 @@ pub(crate) fn is_after_expression(part: &str, place: usize) -> bool {
 }
 
 /// Returns the `-` or `^` at a place. `None`: another character is there.
-pub(crate) fn sign_at(part: &str, place: usize) -> Option<char> {
-    match part.as_bytes().get(place) {
+pub(crate) fn sign_at(pattern: &str, place: usize) -> Option<char> {
+    match pattern.as_bytes().get(place) {
         Some(b'-') => Some('-'),
         Some(b'^') => Some('^'),
         _ => None,
@@ -132,10 +132,10 @@ pub(crate) fn sign_at(part: &str, place: usize) -> Option<char> {
 
 /// Whether only a word, as a name without `:`, is between the brace of a group, which is the
 /// earlier part of the fault, and the part at fault.
-pub(crate) fn is_after_word(part: &str, fault: Fault) -> bool {
+pub(crate) fn is_after_word(pattern: &str, fault: Fault) -> bool {
     let Some(open) = fault.earlier else {
         return false;
     };
-    let word = part.get(open.end..fault.span.start).unwrap_or("");
+    let word = pattern.get(open.end..fault.span.start).unwrap_or("");
     !word.is_empty() && !word.contains([':', '*', '(', ']', '}', '\\', '.', '/', '-', ' '])
 }

@@ -83,7 +83,7 @@ impl Diagnosis {
         Self::of_fault(alloc, error, subject, text, fault, hint)
     }
 
-    /// Creates a diagnosis of `fault`, a fault of the pattern `part`, which is at `place` in
+    /// Creates a diagnosis of `fault`, a fault of `pattern`, which is at `place` in
     /// `text`. `None`: the text lacks the pattern, and the fault of the diagnosis is the whole
     /// text.
     pub fn of_part(
@@ -91,24 +91,24 @@ impl Diagnosis {
         error: Error,
         subject: Subject,
         text: &str,
-        part: &str,
+        pattern: &str,
         fault: Fault,
         place: Option<PatternOffset>,
     ) -> Result<Self, AllocError>
-        requires place { IfSome place (IsPlaceOf text.now part.now) }
-        requires within { IsFaultIn part.now fault }
+        requires place { IfSome place (IsPlaceOf text.now pattern.now) }
+        requires within { IsFaultIn pattern.now fault }
         ensures error { IfOk result (λ diagnosis. diagnosis.error ≡ error) }
         ensures subject { IfOk result (λ diagnosis. diagnosis.subject ≡ subject) }
         ensures text { IfOk result (λ diagnosis. string_bytes diagnosis.text ≡ text.now) }
         ensures fault { IfOk result (λ diagnosis.
-            IsFaultMoved text.now part.now fault diagnosis.fault) }
+            IsFaultMoved text.now pattern.now fault diagnosis.fault) }
         ensures within { IfOk result (λ diagnosis. IsFaultIn text.now diagnosis.fault) }
     {
         let moved = match place {
-            Some(place) => place.moved(text, part, fault),
+            Some(place) => place.moved(text, pattern, fault),
             None => Fault::whole(text),
         };
-        let hint = Hint::of_part(&error, subject, text, part, fault, place);
+        let hint = Hint::of_part(&error, subject, text, pattern, fault, place);
         Self::of_fault(alloc, error, subject, text, moved, hint)
     }
 

@@ -82,30 +82,30 @@ impl Hint {
         }
     }
 
-    /// Returns the hint for `fault`, a fault of the pattern `part`, which is at `place` in `text`,
+    /// Returns the hint for `fault`, a fault of `pattern`, which is at `place` in `text`,
     /// if the text has it.
     pub(crate) fn of_part(
         error: &Error,
         subject: Subject,
         text: &str,
-        part: &str,
+        pattern: &str,
         fault: Fault,
         place: Option<PatternOffset>,
     ) -> Self {
-        let search = search_after(text, part, place);
+        let search = search_after(text, pattern, place);
         match error {
             Error::Tokenizer(TokenizerError::InvalidName, _) => {
-                colon_hint(subject, part, fault.span.end)
+                colon_hint(subject, pattern, fault.span.end)
             }
             Error::Tokenizer(TokenizerError::InvalidRegex(reason), _) => {
-                expression_hint(*reason, text, part, fault, search)
+                expression_hint(*reason, text, pattern, fault, search)
             }
-            Error::Parser(ParserError::DuplicateName(_)) => name_hint(part, fault),
+            Error::Parser(ParserError::DuplicateName(_)) => name_hint(pattern, fault),
             Error::Parser(ParserError::ExpectedToken(_, TokenType::Open, _)) => brace_hint(fault),
             Error::Parser(ParserError::ExpectedToken(expected, TokenType::OtherModifier, _)) => {
-                modifier_hint(part, fault, *expected == TokenType::Close)
+                modifier_hint(pattern, fault, *expected == TokenType::Close)
             }
-            Error::RegExp(()) if has_cut_class(part, outer(fault).start, part.len()) => {
+            Error::RegExp(()) if has_cut_class(pattern, outer(fault).start, pattern.len()) => {
                 Hint::Brackets
             }
             _ => match search {
@@ -117,15 +117,15 @@ impl Hint {
 }
 
 /// Returns the hint for a colon that no name follows; `place` is where the part at fault ends.
-fn colon_hint(subject: Subject, part: &str, place: usize) -> Hint {
+fn colon_hint(subject: Subject, pattern: &str, place: usize) -> Hint {
     match subject {
-        Subject::Component(ComponentName::Hostname) if is_in_class(part, 0, place) => {
+        Subject::Component(ComponentName::Hostname) if is_in_class(pattern, 0, place) => {
             Hint::Brackets
         }
-        Subject::Component(ComponentName::Hostname) if is_unclosed(part, place, b'{', b'}') => {
+        Subject::Component(ComponentName::Hostname) if is_unclosed(pattern, place, b'{', b'}') => {
             Hint::OpenGroup
         }
-        _ => next_hint(part.as_bytes().get(place)),
+        _ => next_hint(pattern.as_bytes().get(place)),
     }
 }
 
@@ -161,28 +161,30 @@ fn brace_hint(fault: Fault) -> Hint {
 }
 
 /// Returns the hint for a parenthesis that does not begin a custom expression. `search` is the
-/// place in `text` of the `?` right after the pattern `part`, if there is one.
+/// place in `text` of the `?` right after `pattern`, if there is one.
 fn expression_hint(
     reason: RegexFault,
     text: &str,
-    part: &str,
+    pattern: &str,
     fault: Fault,
     search: Option<usize>,
 ) -> Hint {
     match (reason, fault.earlier) {
-        (RegexFault::MissingClose, _) => match (stray_bracket(part, fault.span.end), search) {
+        (RegexFault::MissingClose, _) => match (stray_bracket(pattern, fault.span.end), search) {
             (Some(bracket), _) => Hint::ClosedBy(bracket),
-            (_, Some(sign)) if fault.span.end == part.len() => question_hint(text, sign),
+            (_, Some(sign)) if fault.span.end == pattern.len() => question_hint(text, sign),
             (_, Some(_)) => Hint::Search,
-            _ if part.contains("\\)") => Hint::Escaped,
+            _ if pattern.contains("\\)") => Hint::Escaped,
             _ => Hint::Nothing,
         },
         (RegexFault::NestedGroupCaptures | RegexFault::NestedGroupNotClosed, Some(open))
-            if is_in_class(part, open.start, fault.span.start) => { Hint::Brackets }
+            if is_in_class(pattern, open.start, fault.span.start) => { Hint::Brackets }
         (RegexFault::NestedGroupCaptures | RegexFault::NestedGroupNotClosed, Some(open))
-            if is_unclosed(part, open.start, b'(', b')') => { Hint::Open }
-        (RegexFault::BadCharacter, None) => question_hint(part, fault.span.end.saturating_sub(1)),
-        (RegexFault::BadCharacter | RegexFault::BadEscape, Some(_)) => letter_hint(part, fault),
+            if is_unclosed(pattern, open.start, b'(', b')') => { Hint::Open }
+        (RegexFault::BadCharacter, None) => {
+            question_hint(pattern, fault.span.end.saturating_sub(1))
+        }
+        (RegexFault::BadCharacter | RegexFault::BadEscape, Some(_)) => letter_hint(pattern, fault),
         _ => Hint::Nothing,
     }
 }
@@ -201,22 +203,22 @@ fn question_hint(text: &str, place: usize) -> Hint {
 
 /// Returns the hint for a character of a custom expression that is not ASCII: full-width, in a
 /// class, or repeated.
-fn letter_hint(part: &str, fault: Fault) -> Hint {
-    let letter = part.get(fault.span.start..fault.span.end).unwrap_or("");
+fn letter_hint(pattern: &str, fault: Fault) -> Hint {
+    let letter = pattern.get(fault.span.start..fault.span.end).unwrap_or("");
     if let Some(sign) = ascii_form_of(letter) {
         return Hint::Wide(sign);
     }
-    match part.as_bytes().get(fault.span.end) {
-        _ if is_in_class(part, 0, fault.span.start) => Hint::Brackets,
+    match pattern.as_bytes().get(fault.span.end) {
+        _ if is_in_class(pattern, 0, fault.span.start) => Hint::Brackets,
         Some(b'*' | b'+' | b'?' | b'{') => Hint::Repeated,
         _ => Hint::Nothing,
     }
 }
 
 /// Returns the hint for a name that occurs twice: whether `-` or `^` ends the first or the second.
-fn name_hint(part: &str, fault: Fault) -> Hint {
+fn name_hint(pattern: &str, fault: Fault) -> Hint {
     let first = fault.earlier.unwrap_or(fault.span);
-    match sign_at(part, first.end).or(sign_at(part, fault.span.end)) {
+    match sign_at(pattern, first.end).or(sign_at(pattern, fault.span.end)) {
         Some(sign) => Hint::NameEnds(sign),
         None => Hint::Nothing,
     }
@@ -224,26 +226,26 @@ fn name_hint(part: &str, fault: Fault) -> Hint {
 
 /// Returns the hint for a modifier that follows nothing that it could repeat. `is_in_group` says
 /// whether the modifier is within a group.
-fn modifier_hint(part: &str, fault: Fault, is_in_group: bool) -> Hint {
+fn modifier_hint(pattern: &str, fault: Fault, is_in_group: bool) -> Hint {
     let place = fault.span.start;
-    if !is_in_group && is_after_modifier(part, place) {
+    if !is_in_group && is_after_modifier(pattern, place) {
         return Hint::SecondModifier;
     }
-    if part == "https?" {
+    if pattern == "https?" {
         return Hint::Scheme;
     }
-    if is_in_group && is_after_word(part, fault) {
+    if is_in_group && is_after_word(pattern, fault) {
         return Hint::Word;
     }
     let mut sign = None;
     let mut is_after_name = false;
-    for (index, byte) in part.as_bytes().iter().take(place).enumerate() {
+    for (index, byte) in pattern.as_bytes().iter().take(place).enumerate() {
         match *byte {
             b':' => {
                 is_after_name = true;
                 sign = None;
             }
-            b'-' | b'^' if is_after_name => sign = sign_at(part, index),
+            b'-' | b'^' if is_after_name => sign = sign_at(pattern, index),
             b'a'..=b'z' | b'A'..=b'Z' | b'0'..=b'9' | b'_' | b'$' | 0x80.. => {}
             _ => {
                 is_after_name = false;
@@ -253,20 +255,20 @@ fn modifier_hint(part: &str, fault: Fault, is_in_group: bool) -> Hint {
     }
     match sign {
         Some(sign) => Hint::NameEnds(sign),
-        None => unread_hint(part, place),
+        None => misplaced_modifier_hint(pattern, place),
     }
 }
 
 /// Returns the hint for a misplaced modifier, by what is before it: a class with a `)`, a
 /// full-width mark, or a regular expression without parentheses; or by an unclosed group after it.
-fn unread_hint(part: &str, place: usize) -> Hint {
-    if has_cut_class(part, part.find('(').unwrap_or(place), place) {
+fn misplaced_modifier_hint(pattern: &str, place: usize) -> Hint {
+    if has_cut_class(pattern, pattern.find('(').unwrap_or(place), place) {
         return Hint::Brackets;
     }
-    match wide_mark(part, place) {
+    match wide_mark(pattern, place) {
         Some(mark) => Hint::Wide(mark),
-        None if is_after_expression(part, place) => Hint::Expression,
-        None if is_unclosed(part, place, b'{', b'}') => Hint::OpenGroup,
+        None if is_after_expression(pattern, place) => Hint::Expression,
+        None if is_unclosed(pattern, place, b'{', b'}') => Hint::OpenGroup,
         None => Hint::Nothing,
     }
 }
@@ -277,11 +279,11 @@ fn outer(fault: Fault) -> Span {
     fault.earlier.unwrap_or(fault.span)
 }
 
-/// Returns the place of a `?` right after the pattern `part`, which is at `place` in `text`.
+/// Returns the place of a `?` right after `pattern`, which is at `place` in `text`.
 /// `None`: another character follows, or the text lacks the pattern.
-fn search_after(text: &str, part: &str, place: Option<PatternOffset>) -> Option<usize> {
-    let PatternOffset { start, lead } = place?;
-    let end = start.saturating_add(part.len().saturating_sub(lead));
+fn search_after(text: &str, pattern: &str, place: Option<PatternOffset>) -> Option<usize> {
+    let PatternOffset { start, missing } = place?;
+    let end = start.saturating_add(pattern.len().saturating_sub(missing));
     match text.as_bytes().get(end) {
         Some(b'?') => Some(end),
         _ => None,

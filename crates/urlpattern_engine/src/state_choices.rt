@@ -10,7 +10,7 @@ use regex_nfa::StateId;
 
 /// How far a match runs through a loop before it has to choose between the loop and its exit.
 #[derive(Clone, Copy)]
-struct Passed {
+struct LoopRun {
     /// The position up to which the match runs.
     place: usize,
     /// Whether a match may continue from either state at the position.
@@ -37,11 +37,11 @@ impl BoundedSearch<'_> {
         ensures { (cells : List ℕ)
             → FollowsMove self.now (found_from self.now cells id at) cells result }
     {
-        let Passed {
+        let LoopRun {
             place,
             is_open,
             first_fails,
-        } = self.pass(id, first, second, at);
+        } = self.run_loop(id, first, second, at);
         if first_fails {
             return StateMove::ContinueByRest(second, place);
         }
@@ -67,7 +67,7 @@ impl BoundedSearch<'_> {
     /// loop back to `id`, and the other one the exit: over the bytes that the body consumes and
     /// with which the exit cannot begin. Without a loop, no further than `at`.
     #[inline(always)]
-    fn pass(&self, id: StateId, first: StateId, second: StateId, at: usize) -> Passed
+    fn run_loop(&self, id: StateId, first: StateId, second: StateId, at: usize) -> LoopRun
         requires choice { state_in self.now id ≡ states.Split first second }
         requires states { IsState self.now first × IsState self.now second }
         requires place { IsTextPlace self.now at }
@@ -76,9 +76,9 @@ impl BoundedSearch<'_> {
         ensures fails { IsTrue result.first_fails → run_in self.now first result.place ≡ None }
     {
         if self.reads(first) {
-            self.pass_body(id, first, second, at)
+            self.run_greedy_loop(id, first, second, at)
         } else {
-            self.pass_exit(id, first, second, at)
+            self.run_lazy_loop(id, first, second, at)
         }
     }
 
@@ -86,7 +86,7 @@ impl BoundedSearch<'_> {
     /// of a greedy loop. If all remaining bytes show that the loop can be left only where the run
     /// ends, `first_fails` says so.
     #[inline(always)]
-    fn pass_body(&self, id: StateId, body: StateId, exit: StateId, at: usize) -> Passed
+    fn run_greedy_loop(&self, id: StateId, body: StateId, exit: StateId, at: usize) -> LoopRun
         requires choice { state_in self.now id ≡ states.Split body exit }
         requires states { IsState self.now body × IsState self.now exit }
         requires place { IsTextPlace self.now at }
@@ -106,9 +106,9 @@ impl BoundedSearch<'_> {
         }
         let last = self.loop_end(id, body, exit, inside, leaving, place + 1);
         if last < self.bytes.len() {
-            return self.seen(exit, place);
+            return self.open_unless_exit_fails(exit, place);
         }
-        Passed {
+        LoopRun {
             place,
             is_open: true,
             first_fails: self.fails(exit, last),
@@ -118,7 +118,7 @@ impl BoundedSearch<'_> {
     /// Returns how far a match from the choice `id` runs, if `body`, its second state, is the body
     /// of a lazy loop, which `exit` leaves.
     #[inline(always)]
-    fn pass_exit(&self, id: StateId, exit: StateId, body: StateId, at: usize) -> Passed
+    fn run_lazy_loop(&self, id: StateId, exit: StateId, body: StateId, at: usize) -> LoopRun
         requires choice { state_in self.now id ≡ states.Split exit body }
         requires states { IsState self.now exit × IsState self.now body }
         requires place { IsTextPlace self.now at }
@@ -134,7 +134,7 @@ impl BoundedSearch<'_> {
         };
         let place = self.loop_end(id, body, exit, inside, leaving, at);
         if self.is_byte_of(inside, place) {
-            self.seen(exit, place)
+            self.open_unless_exit_fails(exit, place)
         } else {
             closed(place)
         }
@@ -143,7 +143,7 @@ impl BoundedSearch<'_> {
     /// Returns `place`, before a byte with which the exit of a loop may begin: open, unless
     /// lookahead rules out a match from the exit.
     #[inline(always)]
-    fn seen(&self, exit: StateId, place: usize) -> Passed
+    fn open_unless_exit_fails(&self, exit: StateId, place: usize) -> LoopRun
         requires { IsState self.now exit }
         ensures place { result.place ≡ place }
         ensures open { result.first_fails ≡ false }
@@ -195,11 +195,11 @@ impl BoundedSearch<'_> {
 
 /// A place where a match may continue from either state of a choice.
 #[inline(always)]
-fn open(place: usize) -> Passed
+fn open(place: usize) -> LoopRun
     ensures place { result.place ≡ place }
     ensures open { result.first_fails ≡ false }
 {
-    Passed {
+    LoopRun {
         place,
         is_open: true,
         first_fails: false,
@@ -208,11 +208,11 @@ fn open(place: usize) -> Passed
 
 /// A place where the next byte, or its absence, may decide a choice.
 #[inline(always)]
-fn closed(place: usize) -> Passed
+fn closed(place: usize) -> LoopRun
     ensures place { result.place ≡ place }
     ensures open { result.first_fails ≡ false }
 {
-    Passed {
+    LoopRun {
         place,
         is_open: false,
         first_fails: false,

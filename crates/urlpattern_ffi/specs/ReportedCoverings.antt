@@ -7,7 +7,7 @@ use Rattle.urlpattern_ffi.specs.declared.status.Status.TheVariants as statuses
 use Rattle.urlpattern_compare.specs.declared.coverage.Reason.{Reason}
 use Rattle.urlpattern_components.specs.declared.eight.ComponentName.{ComponentName}
 use Rattle.urlpattern_engine.specs.declared.pattern_regexp.PatternRegexp.{PatternRegexp}
-use Rattle.urlpattern_pattern.specs.PatternComparing.{LackParts, OfBoth}
+use Rattle.urlpattern_pattern.specs.PatternComparing.{LackParts, OfPartsOfBoth}
 use Rattle.urlpattern_pattern.specs.UrlPatterns.{UrlPattern}
 use Rattle.urlpattern_pattern.specs.declared.pattern.compare.CompareError.TheVariants.{NoParts}
 use Rattle.urlpattern_compare.specs.Comparing.{IsCovered, IsParting, IsReasonIn}
@@ -15,8 +15,8 @@ use Rattle.urlpattern_compare.specs.declared.pattern_parts.{Parting.Parting, Pat
 
 -- By their parts, the asked pattern matches eight texts, and the other one does not match the text
 -- of the component with this number.
-abbrev pub IsPartedIn : (number : ℕ) → (parts asked : PatternParts) → Type 0
-IsPartedIn number parts asked =
+abbrev pub HasPartingIn : (number : ℕ) → (parts asked : PatternParts) → Type 0
+HasPartingIn number parts asked =
     (parting : Parting) × IsParting parts asked parting
     × (number ≡ component_number parting.component)
 
@@ -34,10 +34,11 @@ IsUnknownIn number parts asked =
 -- parts. `OutOfMemory`: `number` is `no_component`.
 abbrev pub AreCompared : (pattern asked : UrlPattern PatternRegexp) → (number : ℕ) → Status → Type 0
 AreCompared pattern asked number statuses.Done =
-    (number ≡ no_component) × OfBoth pattern asked IsCovered
-AreCompared pattern asked number statuses.NoMatch = OfBoth pattern asked (IsPartedIn number)
+    (number ≡ no_component) × OfPartsOfBoth pattern asked IsCovered
+AreCompared pattern asked number statuses.NoMatch =
+    OfPartsOfBoth pattern asked (HasPartingIn number)
 AreCompared pattern asked number statuses.Unknown =
-    OfBoth pattern asked (IsUnknownIn number)
+    OfPartsOfBoth pattern asked (IsUnknownIn number)
     ⊎ ((number ≡ no_component) × LackParts pattern asked NoParts)
 AreCompared pattern asked number statuses.OutOfMemory = number ≡ no_component
 AreCompared pattern asked number status = ⊥

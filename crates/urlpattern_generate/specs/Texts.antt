@@ -4,9 +4,9 @@ use Rattle.std.specs.declared.alloc.Global.{Global}
 use Rattle.urlpattern_syntax.specs.Text.{text_of}
 
 -- `new` is `old` with the text appended.
-abbrev pub GetsText : (old new : String Global) → List ℕ → Type 0
-GetsText old new text = text_of new ≡ text_of old ++ text
+abbrev pub AppendsText : (old new : String Global) → List ℕ → Type 0
+AppendsText old new text = text_of new ≡ text_of old ++ text
 
 -- If `is`, `new` is `old` with the text appended.
-abbrev pub GetsTextIf : Bool → (old new : String Global) → List ℕ → Type 0
-GetsTextIf is old new text = IsTrue is → GetsText old new text
+abbrev pub AppendsTextIf : Bool → (old new : String Global) → List ℕ → Type 0
+AppendsTextIf is old new text = IsTrue is → AppendsText old new text

@@ -87,6 +87,6 @@ LeavesRequested settings part captures index (Some next) =
     × (captures_after part.kind (drop index captures) ≡ drop next captures)
 
 -- `new` is `old` with the text of the part appended, written with the requested capture.
-abbrev pub GetsPart : WriteSettings → PartView → (old new : String Global) → Type 0
-GetsPart settings part old new =
+abbrev pub AppendsPart : WriteSettings → PartView → (old new : String Global) → Type 0
+AppendsPart settings part old new =
     (text : List ℕ) × IsWritten settings (part ∷ []) text × (text_of new ≡ text_of old ++ text)

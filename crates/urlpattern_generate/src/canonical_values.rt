@@ -125,7 +125,7 @@ fn is_kept_path(value: &[u8]) -> bool
 {
     let mut begins = false;
     for b in value {
-        if !goes_on(begins, *b) {
+        if !is_kept_path_byte(begins, *b) {
             return false;
         }
         begins = *b == b'/';
@@ -135,7 +135,7 @@ fn is_kept_path(value: &[u8]) -> bool
 
 /// Whether no path percent-encodes a character, and the character cannot begin a dot segment.
 /// `begins` says whether the character comes directly after a slash.
-fn goes_on(begins: bool, b: u8) -> bool
+fn is_kept_path_byte(begins: bool, b: u8) -> bool
     ensures { result ≡ (is_kept_character b && not (begins && is_dot_mark b)) }
 {
     is_kept_byte(b) && !(begins && matches!(b, b'.' | b'%'))

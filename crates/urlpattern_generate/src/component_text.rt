@@ -3,7 +3,7 @@
 ghost use Rattle.std.specs.Prelude.{◌≡◌, ◌≢◌, [], ◌∷◌, IfErr, IfOk, IfSome, IsTrue, OnOk, Some};
 ghost use Rattle.std.specs.Str.{chars};
 ghost use Rattle.urlpattern_generate.specs.Requested.{IsRequested};
-ghost use Rattle.urlpattern_generate.specs.WrittenTexts.{CannotWrite, GetsPart, IsWritten, RejectsPart, cow_text, settings_of_writer};
+ghost use Rattle.urlpattern_generate.specs.WrittenTexts.{AppendsPart, CannotWrite, IsWritten, RejectsPart, cow_text, settings_of_writer};
 ghost use Rattle.urlpattern_syntax.specs.ComponentParts.{kept_parts};
 ghost use Rattle.urlpattern_syntax.specs.declared.parser.PartType.TheVariants.{FixedText};
 ghost use Rattle.urlpattern_syntax.specs.Parts.{part_view};
@@ -121,7 +121,7 @@ impl<'d> Substitution<'d> {
     #[inline(always)]
     fn push_part(&self, text: &mut String, part: &Part) -> Result<(), GenerateError>
         ensures written { OnOk result
-            (GetsPart (settings_of_writer self.now) (part_view part.now) text.old text.new) }
+            (AppendsPart (settings_of_writer self.now) (part_view part.now) text.old text.new) }
         ensures refused { IfErr result
             (RejectsPart self.now.component (settings_of_writer self.now) (part_view part.now)) }
     {
@@ -150,7 +150,7 @@ impl<'d> Substitution<'d> {
         requires given { (settings_of_writer self.now).given (text_of part.now.name)
             ≡ Some (chars given.now) }
         ensures written { OnOk result
-            (GetsPart (settings_of_writer self.now) (part_view part.now) text.old text.new) }
+            (AppendsPart (settings_of_writer self.now) (part_view part.now) text.old text.new) }
         ensures refused { IfErr result
             (RejectsPart self.now.component (settings_of_writer self.now) (part_view part.now)) }
     {
@@ -176,7 +176,7 @@ impl<'d> Substitution<'d> {
         requires asked { IsRequested (settings_of_writer self.now) (part_view part.now)
             (option_text capture) }
         ensures written { OnOk result
-            (GetsPart (settings_of_writer self.now) (part_view part.now) text.old text.new) }
+            (AppendsPart (settings_of_writer self.now) (part_view part.now) text.old text.new) }
         ensures refused { IfErr result
             (RejectsPart self.now.component (settings_of_writer self.now) (part_view part.now)) }
     {

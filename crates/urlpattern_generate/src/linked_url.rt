@@ -31,7 +31,7 @@ pub fn url_of_texts(alloc: Global, texts: &Eight<CowStr<'_>>) -> Result<Url, NoL
     ensures read { IfOk result (IsReadOfTexts (cow_texts texts.now)) }
     ensures refused { IfErr result (RejectsTexts (cow_texts texts.now)) }
 {
-    let seen = seen(texts);
+    let seen = as_strs(texts);
     let line = url_line(alloc, &seen)?;
     let url = match read(alloc, &line) {
         Ok(url) => url,
@@ -44,7 +44,7 @@ pub fn url_of_texts(alloc: Global, texts: &Eight<CowStr<'_>>) -> Result<Url, NoL
 }
 
 /// Borrows each of the texts.
-fn seen<'t>(texts: &'t Eight<CowStr<'_>>) -> Eight<&'t str>
+fn as_strs<'t>(texts: &'t Eight<CowStr<'_>>) -> Eight<&'t str>
     ensures { AreSeenAs texts.now result }
 {
     let text = |name: ComponentName| -> &str

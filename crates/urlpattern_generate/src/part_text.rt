@@ -3,7 +3,7 @@
 ghost use Rattle.std.specs.Prelude.{◌↔◌, ◌++◌, IfOk, IsTrue, OnOk};
 ghost use Rattle.std.specs.Str.{chars};
 ghost use Rattle.urlpattern_generate.specs.Links.{MayCapture, fewest_copies, text_of_group};
-ghost use Rattle.urlpattern_generate.specs.Texts.{GetsText, GetsTextIf};
+ghost use Rattle.urlpattern_generate.specs.Texts.{AppendsText, AppendsTextIf};
 ghost use Rattle.urlpattern_syntax.specs.Options.{options_view};
 ghost use Rattle.urlpattern_syntax.specs.Parts.{part_view};
 ghost use Rattle.urlpattern_syntax.specs.Text.{option_text, text_of};
@@ -16,7 +16,7 @@ use urlpattern_syntax::parser::{Options, Part, PartModifier};
 /// copies.
 pub fn push_fixed(text: &mut String, part: &Part) -> Result<(), AllocError>
     ensures { OnOk result
-        (GetsText text.old text.new (fewest_copies part.now.modifier (text_of part.now.value))) }
+        (AppendsText text.old text.new (fewest_copies part.now.modifier (text_of part.now.value))) }
 {
     match part.modifier {
         PartModifier::None | PartModifier::OneOrMore => {
@@ -42,7 +42,7 @@ pub fn push_group(
         IsTrue may
         ↔ MayCapture (options_view options.now) (part_view part.now) (option_text capture.entry)) }
     ensures written { IfOk result (λ may.
-        GetsTextIf may text.old text.new
+        AppendsTextIf may text.old text.new
         (text_of_group (part_view part.now) (option_text capture.entry))) }
 {
     let Some(capture) = capture else {
@@ -57,7 +57,7 @@ pub fn push_group(
 
 /// Appends a text, `between` the prefix and the suffix of a part.
 fn push_between(text: &mut String, part: &Part, between: &str) -> Result<(), AllocError>
-    ensures { OnOk result (GetsText text.old text.new
+    ensures { OnOk result (AppendsText text.old text.new
         (text_of part.now.prefix ++ chars between.now ++ text_of part.now.suffix)) }
 {
     text.push_str(&part.prefix)?;

@@ -96,8 +96,8 @@ forms_for forms count = group forms 0 ++ group forms count
 abbrev pub mixed_segments : (hash : ℕ) → List Bool → (hashes : List ℕ) → ℕ
 mixed_segments hash [] hashes = hash
 mixed_segments hash (has_text ∷ segments) [] = hash
-mixed_segments hash (has_text ∷ segments) (own ∷ hashes) =
-    mixed_segments (mixed hash (if has_text then own else 1)) segments hashes
+mixed_segments hash (has_text ∷ segments) (actual ∷ hashes) =
+    mixed_segments (mixed hash (if has_text then actual else 1)) segments hashes
 
 -- The key of an address with these hashes, in a form.
 abbrev pub form_key : FormView → Hashes → ℕ

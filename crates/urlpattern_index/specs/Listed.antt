@@ -108,7 +108,7 @@ Finds listing hashes number =
 
 -- From `old` to `new`, a pattern with the fixed texts `fixed` is appended, with the next number. An
 -- address that has the fixed texts finds it, and each pattern that was found before is still found.
-pub record GetsPattern (old new : Listing) (fixed : FixedTexts) : Type 0 where
+pub record AppendsPattern (old new : Listing) (fixed : FixedTexts) : Type 0 where
   pub one_more : length new.keys ≡ length old.keys + 1
   pub others : (hashes : Hashes) (number : ℕ) → Finds old hashes number → Finds new hashes number
   pub found : (address : AddressTexts) → HasTexts fixed address

@@ -6,11 +6,11 @@ use Rattle.urlpattern_index.specs.Paths.{FitsPath, PathView}
 use Rattle.urlpattern_index.specs.declared.form.FormKey.{FormKey}
 use Rattle.urlpattern_index.specs.declared.path_segments.PathSegments.{PathSegments}
 
--- `hashes` and `own`, hashes of segments, result in equal keys, where only the segments that are
+-- `hashes` and `actual`, hashes of segments, result in equal keys, where only the segments that are
 -- true in `are_fixed` count.
-abbrev pub HaveEqualKeys : (are_fixed : List Bool) → (hashes own : List ℕ) → Type 0
-HaveEqualKeys are_fixed hashes own =
-    (hash : ℕ) → mixed_segments hash are_fixed own ≡ mixed_segments hash are_fixed hashes
+abbrev pub HaveEqualKeys : (are_fixed : List Bool) → (hashes actual : List ℕ) → Type 0
+HaveEqualKeys are_fixed hashes actual =
+    (hash : ℕ) → mixed_segments hash are_fixed actual ≡ mixed_segments hash are_fixed hashes
 
 -- Each text that fits `path` has the segments that were read: equally many if they are exact and
 -- more otherwise, with hashes that result in equal keys.
@@ -25,8 +25,8 @@ pub record AreSegmentsOf (path : PathView) (segments : PathSegments) : Type 0 wh
 
 -- Each address that has the texts of `fixed` fits the form of `place`, and has the key of `place`
 -- in that form.
-abbrev pub IsPlaceFor : FixedTexts → FormKey → Type 0
-IsPlaceFor fixed place =
+abbrev pub IsFormKeyFor : FixedTexts → FormKey → Type 0
+IsFormKeyFor fixed place =
     (address : AddressTexts) → HasTexts fixed address
     → Fits (form_view place.form) (hashes_of address)
     × (place.key ≡ form_key (form_view place.form) (hashes_of address))
@@ -54,21 +54,21 @@ pub record AddsSegment (before after : PathSegments) : Type 0 where
   pub hashes : after.hashes.items ≡ before.hashes.items ++ unwrap_or before.current 0 ∷ []
   pub current : after.current ≡ Some 0
 
--- `own` is `current`, the hash of the segment being read; for None, an arbitrary segment, it may be
--- any hash.
-abbrev pub IsCurrent : (current : Option ℕ) → (own : ℕ) → Type 0
-IsCurrent (Some hash) own = own ≡ hash
-IsCurrent None own = Unit {0}
+-- `actual` is `current`, the hash of the segment being read; for None, an arbitrary segment, it may
+-- be any hash.
+abbrev pub IsCurrent : (current : Option ℕ) → (actual : ℕ) → Type 0
+IsCurrent (Some hash) actual = actual ≡ hash
+IsCurrent None actual = Unit {0}
 
 -- `path` is read up to `rest`: `done` has the hashes of the segments before the one being read, and
--- agrees with `segments`; `own` is the hash of the text before `rest` in the segment being read.
+-- agrees with `segments`; `actual` is the hash of the text before `rest` in the segment being read.
 pub record IsReadTo (segments : PathSegments) (path rest : List ℕ) : Type 0 where
   pub done : List ℕ
-  pub own : ℕ
-  pub cut : segment_hashes 0 path ≡ done ++ segment_hashes own rest
+  pub actual : ℕ
+  pub cut : segment_hashes 0 path ≡ done ++ segment_hashes actual rest
   pub as_many : length done ≡ length segments.are_fixed.items
   pub alike : HaveEqualKeys segments.are_fixed.items segments.hashes.items done
-  pub is_current : IsCurrent segments.current own
+  pub is_current : IsCurrent segments.current actual
 
 -- `path` is read up to `rest` if `to_end`, and up to some text otherwise.
 abbrev pub ReadsTo : (to_end : Bool) → PathSegments → (path rest : List ℕ) → Type 0

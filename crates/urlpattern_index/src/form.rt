@@ -3,7 +3,7 @@ ghost use Rattle.arrayvec.specs.ArrayVec.{array_vec_len};
 ghost use Rattle.std.specs.Prelude.{◌≡◌, ◌≤◌, ◌<◌, ◌↔◌, IsTrue, IfNone, IfSome, chars, option_map, length, if◌then◌else◌};
 ghost use Rattle.urlpattern_index.specs.FixedTexts.{fixed_texts, FixedTexts};
 ghost use Rattle.urlpattern_index.specs.Keys.{HasSegmentCount, Fits, IsKeyBy, form_key, form_view, group_of_form, hashes_view, option_hash};
-ghost use Rattle.urlpattern_index.specs.Segments.{IsPlaceFor};
+ghost use Rattle.urlpattern_index.specs.Segments.{IsFormKeyFor};
 
 use crate::address::AddressHashes;
 use crate::fixed::Fixed;
@@ -90,10 +90,10 @@ impl Form {
         let protocol = part(self.uses_protocol, hashes.protocol, 0);
         let hostname = part(self.uses_hostname, hashes.hostname, 0);
         let segments = self.segments.as_slice();
-        let own = hashes.segments.as_slice();
+        let actual = hashes.segments.as_slice();
         let mut key = mixed(protocol, hostname);
         for index in 0..segments.len() {
-            key = mixed(key, part(segments[index], own[index], ANY));
+            key = mixed(key, part(segments[index], actual[index], ANY));
         }
         mixed(key, u64::from(self.is_exact))
     }
@@ -118,7 +118,7 @@ impl Form {
 impl FormKey {
     /// Returns where a pattern is listed by all of its fixed texts.
     pub(crate) fn of(fixed: Fixed<'_>) -> FormKey
-        ensures { IsPlaceFor (fixed_texts fixed.entry) result }
+        ensures { IsFormKeyFor (fixed_texts fixed.entry) result }
     {
         let segments = read_segments(fixed.pathname);
         let hashes = AddressHashes {
@@ -139,7 +139,7 @@ impl FormKey {
     /// Returns where a pattern is listed of which nothing is known: under a key that every address
     /// has.
     pub(crate) fn of_any() -> FormKey
-        ensures { (fixed : FixedTexts) → IsPlaceFor fixed result }
+        ensures { (fixed : FixedTexts) → IsFormKeyFor fixed result }
     {
         let form = Form {
             uses_protocol: false,

@@ -4,8 +4,8 @@ ghost use Rattle.std.specs.List.{remove};
 ghost use Rattle.std.specs.Prelude.{◌≡◌, ◌≤◌, ◌<◌, ◌++◌, ◌∷◌, [], if◌then◌else◌, Some, length, map, replicate, vec_capacity, vec_len, IsTrue, Contains, OnErr, OnOk};
 ghost use Rattle.urlpattern_index.specs.FixedTexts.{fixed_texts};
 ghost use Rattle.urlpattern_index.specs.Keys.{form_view, group, group_of_form, hashes_view};
-ghost use Rattle.urlpattern_index.specs.Listed.{Finds, FindsByFrom, FindsFrom, GetsPattern, IsFirstFrom, IsLeast, lesser};
-ghost use Rattle.urlpattern_index.specs.Segments.{IsPlaceFor};
+ghost use Rattle.urlpattern_index.specs.Listed.{AppendsPattern, Finds, FindsByFrom, FindsFrom, IsFirstFrom, IsLeast, lesser};
+ghost use Rattle.urlpattern_index.specs.Segments.{IsFormKeyFor};
 
 use crate::address::AddressHashes;
 use crate::fixed::Fixed;
@@ -65,10 +65,11 @@ impl Index {
     ///
     /// If memory runs out, the index is unchanged.
     pub fn push(&mut self, fixed: Fixed<'_>) -> Result<(), AllocError>
-        ensures appended { OnOk result (GetsPattern self.old self.new (fixed_texts fixed.entry)) }
+        ensures appended { OnOk result
+            (AppendsPattern self.old self.new (fixed_texts fixed.entry)) }
         ensures unchanged { OnErr result (self.new ≡ self.old) }
     {
-        let FormKey { form, key } = self.place_for(fixed);
+        let FormKey { form, key } = self.form_key_for(fixed);
         let is_new = !self.has_form(&form);
         let group = form.group();
         let number = self.keys.len();
@@ -140,8 +141,8 @@ impl Index {
 
     /// Returns where to list a pattern: by its fixed texts, or, if their form is new and its group
     /// is full, as a pattern of which nothing is known.
-    fn place_for(&self, fixed: Fixed<'_>) -> FormKey
-        ensures { IsPlaceFor (fixed_texts fixed.entry) result }
+    fn form_key_for(&self, fixed: Fixed<'_>) -> FormKey
+        ensures { IsFormKeyFor (fixed_texts fixed.entry) result }
     {
         let place = FormKey::of(fixed);
         if self.forms[place.form.group()].len() < FORMS || self.has_form(&place.form) {

@@ -48,8 +48,8 @@ HasProtocolOrBase init = ¬ ((init.protocol ≡ None) × (init.base_url ≡ None
 
 -- Two splits of a text are equal, unless `IsSpecial` relates its protocol both to true and to
 -- false.
-abbrev pub SplitsAreOneOrInDoubt : (IsSpecial : List ℕ → Bool → Type 0) → Type 0
-SplitsAreOneOrInDoubt IsSpecial = (text : List ℕ) (components others : Values) →
+abbrev pub SplitsAreOneUnlessAmbiguous : (IsSpecial : List ℕ → Bool → Type 0) → Type 0
+SplitsAreOneUnlessAmbiguous IsSpecial = (text : List ℕ) (components others : Values) →
     SplitsInto IsSpecial text components → SplitsInto IsSpecial text others →
     (components ≡ others)
     ⊎ HasProtocol text (λ protocol. IsSpecial protocol true × IsSpecial protocol false)

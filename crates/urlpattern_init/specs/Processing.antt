@@ -93,7 +93,7 @@ IsFailureIn processing protocol protocol_bytes component =
 
 -- `result` is the processed value of `component` under `protocol`, or its error. For the protocol
 -- itself it may be any value.
-pub record IsValueAfter (processing : Processing) (protocol : Option (List ℕ))
+pub record IsValueUnlessProtocol (processing : Processing) (protocol : Option (List ℕ))
     (component : ComponentName) (result : Result (Option (String Global)) Error) : Type 0 where
   pub ok : IfOk result (λ value.
       component ≢ ComponentName.Protocol

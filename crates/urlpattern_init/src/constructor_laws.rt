@@ -4,7 +4,7 @@
 
 ghost use Rattle.std.specs.Prelude.{ℕ, Bool, List};
 ghost use Rattle.url.specs.Parts.{IsValid};
-ghost use Rattle.urlpattern_init.specs.ConstructorString.{SplitsAreOneOrInDoubt, SplitsAs};
+ghost use Rattle.urlpattern_init.specs.ConstructorString.{SplitsAreOneUnlessAmbiguous, SplitsAs};
 ghost use Rattle.urlpattern_init.specs.Inheritance.{texts_of_url};
 ghost use Rattle.urlpattern_init.specs.SpecialProtocol.{IsSpecialTo};
 ghost use Rattle.urlpattern_init.specs.UrlTexts.{EachIsLine, TextsOfUrlsAreLines};
@@ -20,7 +20,7 @@ pub fn splits_are_one<R: RegExp>()
     ensures exist { (text : List ℕ) (special : Bool)
         → (components : Values) × SplitsAs text special components }
     ensures given { (text : List ℕ) (special : Bool) → AtMostOne (SplitsAs text special) }
-    ensures computed { SplitsAreOneOrInDoubt (IsSpecialTo R.RegExp) }
+    ensures computed { SplitsAreOneUnlessAmbiguous (IsSpecialTo R.RegExp) }
 {}
 
 /// Each of the eight texts of a valid URL is a line: it consists of characters, none of them a line

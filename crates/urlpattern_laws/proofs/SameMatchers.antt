@@ -75,7 +75,7 @@ module _ {E : Type 0} (IsEngine : List ℕ → Result E ErrorView → Type 0) (o
     front = option_map nameless made.front;
     middle = all_nameless made.middle;
     back = option_map nameless made.back;
-    are_peeled = peeled_changed nameless (λ part. refl) parts made.front made.middle made.back made.are_peeled;
+    are_stripped = peeled_changed nameless (λ part. refl) parts made.front made.middle made.back made.are_stripped;
     is_made =
         subst (λ (begin : List ℕ). IsMadeBetween IsEngine options begin (all_nameless made.middle) (end_text (option_map nameless made.back)) matcher) (end_nameless made.front)
         (subst (λ (end : List ℕ). IsMadeBetween IsEngine options (end_text made.front) (all_nameless made.middle) end matcher) (end_nameless made.back)
@@ -120,7 +120,7 @@ module _ {E : Type 0} (engine : Engine E) (alike : ExpressionsReturnAlike engine
     where
       settled_middle : Settled parts → Settled made.middle
       settled_middle (inl kept) = inl kept
-      settled_middle (inr generated) = inr (middle_generated parts made.front made.middle made.back made.are_peeled generated)
+      settled_middle (inr generated) = inr (middle_generated parts made.front made.middle made.back made.are_stripped generated)
 
       by : AreAlike IsEngine options (end_text made.front) made.middle (end_text made.back) matcher other → IsMatched engine.answer matcher text
       by (inl same) = subst (λ (m : MatcherView E). IsMatched engine.answer m text) (sym same) matched

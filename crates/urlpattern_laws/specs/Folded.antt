@@ -52,13 +52,13 @@ pub record IsFoldedMatch (options : OptionsView) (part : PartView) (substring : 
 
 -- The text is split into one substring for each part, and each part means its substring, case
 -- ignored, with its share of the captures.
-abbrev pub FoldedMean : OptionsView → List PartView → List ℕ → Captures → Type 0
-FoldedMean options [] text captures = (text ≡ []) × (captures ≡ [])
-FoldedMean options (part ∷ parts) text captures =
+abbrev pub PartsMeanFolded : OptionsView → List PartView → List ℕ → Captures → Type 0
+PartsMeanFolded options [] text captures = (text ≡ []) × (captures ≡ [])
+PartsMeanFolded options (part ∷ parts) text captures =
     (first rest : List ℕ) × (own others : Captures)
     × (text ≡ first ++ rest)
     × (captures ≡ own ++ others)
-    × IsFoldedMatch options part first own × FoldedMean options parts rest others
+    × IsFoldedMatch options part first own × PartsMeanFolded options parts rest others
 
 -- Folded, the captures are those of the first way in which the folded parts match the folded text,
 -- or `None` if they do not match it. Unfolded, the captures are substrings of the text.
@@ -66,7 +66,7 @@ pub record IsFoldedFirst (options : OptionsView) (parts : List PartView) (text :
     (captures : Option Captures) : Type 0 where
   pub is_first : IsFirstOf (folded_options options) (folded_parts parts) (folded true text)
       (option_map folded_captures captures)
-  pub are_pieces : IfSome captures (FoldedMean options parts text)
+  pub are_pieces : IfSome captures (PartsMeanFolded options parts text)
 
 -- The pattern text reads as parts, and `captures` are those of the first way in which these match
 -- the text, case ignored; `None` if there is no way.
@@ -109,7 +109,7 @@ pub record IsFirstBetween (options : OptionsView) (parts : List PartView) (text 
   pub front : Option PartView
   pub middle : List PartView
   pub back : Option PartView
-  pub are_peeled : AreStripped parts front middle back
+  pub are_stripped : AreStripped parts front middle back
   pub head : List ℕ
   pub inner : List ℕ
   pub tail : List ℕ
@@ -124,7 +124,7 @@ pub record IsFirstBetween (options : OptionsView) (parts : List PartView) (text 
 -- other, or between an initial and a final fixed text.
 abbrev pub AreInPlace : OptionsView → List PartView → (text : List ℕ) → Captures → Type 0
 AreInPlace options parts text captures =
-    FoldedMean options parts text captures ⊎ IsFirstBetween options parts text captures
+    PartsMeanFolded options parts text captures ⊎ IsFirstBetween options parts text captures
 
 -- The pattern text reads as parts. Folded, the captures are those of the first way in which the
 -- folded parts match the folded text, or `None` if there is no way. Unfolded, the captures are at

@@ -71,17 +71,17 @@ IsCapturedByParts options parts text (Some captures) = PartsCapture options part
 IsCapturedByParts options parts text None = ¬ PartsMatch options parts text
 
 -- A condition on regular expressions, such as a limit on their length.
-abbrev pub Room : Type 1
-Room = (regexp : List ℕ) → Type 0
+abbrev pub RegexpCondition : Type 1
+RegexpCondition = (regexp : List ℕ) → Type 0
 
 -- The regular expression is so short that the grammar has a number for each of its groups.
-abbrev pub HasNumbers : Room
+abbrev pub HasNumbers : RegexpCondition
 HasNumbers regexp = length regexp ≤ 2 ^ 32
 
 -- A value that the engine made of the regular expression of parts returns captures for a text
 -- exactly if the parts match the text. Premises: `Keeps` holds of the flags and `Fits` of the
 -- expression, and custom expressions stand alone.
-abbrev pub ValuesReturnIfMatched : {E : Type 0} → Engine E → Keeping → Room → Type 0
+abbrev pub ValuesReturnIfMatched : {E : Type 0} → Engine E → Keeping → RegexpCondition → Type 0
 ValuesReturnIfMatched {E} engine Keeps Fits =
     (options : OptionsView) (flags : List ℕ) (parts : List PartView) (value : E) → Keeps flags →
     AllStandAlone parts → Fits (regexp_text options parts) →
@@ -92,7 +92,7 @@ ValuesReturnIfMatched {E} engine Keeps Fits =
 -- A value that the engine made of the regular expression of parts returns captures that the parts
 -- have in the text, or `None` if they do not match. Premises: `Keeps` holds of the flags and `Fits`
 -- of the expression, and custom expressions stand alone and capture nothing themselves.
-abbrev pub ValuesCapture : {E : Type 0} → Engine E → Keeping → Room → Type 0
+abbrev pub ValuesCapture : {E : Type 0} → Engine E → Keeping → RegexpCondition → Type 0
 ValuesCapture {E} engine Keeps Fits =
     (options : OptionsView) (flags : List ℕ) (parts : List PartView) (value : E) → Keeps flags →
     AllStandAlone parts → AllCaptureNothing parts → Fits (regexp_text options parts) →
@@ -103,7 +103,7 @@ ValuesCapture {E} engine Keeps Fits =
 -- The premises on a matcher: the engine made it of the parts, custom expressions stand alone,
 -- `Fits` holds of the regular expression, case is kept, and `Accepted` says that the engine, where
 -- one is needed, accepted its text.
-pub record IsTakenAlone {E : Type 0} (engine : Engine E) (Fits : (regexp : List ℕ) → Type 0)
+pub record HasMatcherPremises {E : Type 0} (engine : Engine E) (Fits : (regexp : List ℕ) → Type 0)
     (Accepted : Acceptance E)
     (options : OptionsView) (flags : List ℕ) (parts : List PartView) (matcher : MatcherView E) :
     Type 0 where
@@ -113,21 +113,22 @@ pub record IsTakenAlone {E : Type 0} (engine : Engine E) (Fits : (regexp : List 
   pub case_kept : options.ignore_case ≡ false
   pub took : Accepted options flags matcher.inner
 
--- A matcher made of parts, under the premises of `IsTakenAlone`, returns captures for a text
+-- A matcher made of parts, under the premises of `HasMatcherPremises`, returns captures for a text
 -- without line feeds exactly if the parts match the text.
-abbrev pub MatchersReturnIfMatched : {E : Type 0} → Engine E → Room → Acceptance E → Type 0
+abbrev pub MatchersReturnIfMatched : {E : Type 0} → Engine E → RegexpCondition → Acceptance E
+    → Type 0
 MatchersReturnIfMatched {E} engine Fits Accepted =
     (options : OptionsView) (flags : List ℕ) (parts : List PartView) (matcher : MatcherView E) →
-    IsTakenAlone engine Fits Accepted options flags parts matcher →
+    HasMatcherPremises engine Fits Accepted options flags parts matcher →
     EachResultIs engine.answer matcher (IsSomeIfMatched options parts)
 
--- A matcher made of parts, under the premises of `IsTakenAlone`, returns captures that the parts
--- have in a text without line feeds, or `None` if they do not match. Custom expressions capture
--- nothing themselves.
-abbrev pub MatchersCapture : {E : Type 0} → Engine E → Room → Acceptance E → Type 0
+-- A matcher made of parts, under the premises of `HasMatcherPremises`, returns captures that the
+-- parts have in a text without line feeds, or `None` if they do not match. Custom expressions
+-- capture nothing themselves.
+abbrev pub MatchersCapture : {E : Type 0} → Engine E → RegexpCondition → Acceptance E → Type 0
 MatchersCapture {E} engine Fits Accepted =
     (options : OptionsView) (flags : List ℕ) (parts : List PartView) (matcher : MatcherView E) →
-    IsTakenAlone engine Fits Accepted options flags parts matcher → AllCaptureNothing parts →
+    HasMatcherPremises engine Fits Accepted options flags parts matcher → AllCaptureNothing parts →
     EachResultIs engine.answer matcher (IsCapturedByParts options parts)
 
 -- The flags ignore case if and only if the options do, and the engine, where one is needed,
@@ -139,7 +140,7 @@ AcceptedAlone options flags inner = FlagsAgree options flags × AcceptedText (λ
 -- line feeds, or `None` if they do not match. Premises: custom expressions stand alone and capture
 -- nothing themselves, `Fits` holds of the regular expression, case is kept, and the engine, where
 -- one is needed, accepted its text.
-abbrev pub ComponentsCapture : {E : Type 0} → Engine E → Room → Type 0
+abbrev pub ComponentsCapture : {E : Type 0} → Engine E → RegexpCondition → Type 0
 ComponentsCapture {E} engine Fits =
     (options : OptionsView) (parts : List PartView) (component : ComponentView E)
     → IsComponentOf engine options parts component

@@ -68,7 +68,7 @@ AreCanonical canonical captures = All (IsCanonicalCapture canonical) captures
 -- parts has a modifier; if the matcher returns the captures for the text, the parts mean the text
 -- with them; the values given for the groups are the captures; and each captured text is its own
 -- canonical form.
-pub record IsWrittenBack {E : Type 0} (answer : E → List ℕ → Option Captures)
+pub record IsWritableFromCaptures {E : Type 0} (answer : E → List ℕ → Option Captures)
     (matcher : MatcherView E) (settings : WriteSettings) (parts : List PartView) (text : List ℕ)
     (captures : Captures) : Type 0 where
   pub plain : HavePlainTexts parts
@@ -77,16 +77,18 @@ pub record IsWrittenBack {E : Type 0} (answer : E → List ℕ → Option Captur
   pub are_given : map settings.given (group_names parts) ≡ captures
   pub are_canonical : AreCanonical settings.canonical captures
 
--- `IsWrittenBack` holds of a component of the pattern, with the text, the captures and the groups
--- of a link.
-abbrev pub TextIsWrittenBack : {E : Type 0} → (answer : E → List ℕ → Option Captures) → UrlPattern E
+-- `IsWritableFromCaptures` holds of a component of the pattern, with the text, the captures and the
+-- groups of a link.
+abbrev pub TextIsWritableFromCaptures : {E : Type 0} → (answer : E → List ℕ → Option Captures)
+    → UrlPattern E
     → List GivenView → ComponentName → (text : List ℕ) → Captures → Type 0
-TextIsWrittenBack answer pattern groups component text captures =
+TextIsWritableFromCaptures answer pattern groups component text captures =
     OfItsParts pattern groups component (λ settings parts.
-    IsWrittenBack answer (pattern_view pattern component).matcher settings parts text captures)
+    IsWritableFromCaptures answer (pattern_view pattern component).matcher settings parts text
+    captures)
 
--- A link whose groups are the captures of eight texts has these texts, if `TextIsWrittenBack` holds
--- of each component.
+-- A link whose groups are the captures of eight texts has these texts, if
+-- `TextIsWritableFromCaptures` holds of each component.
 abbrev pub LinksOfCapturesAreTheTexts : {E : Type 0} → (answer : E → List ℕ → Option Captures)
     → Type 0
 LinksOfCapturesAreTheTexts {E} answer =
@@ -95,7 +97,7 @@ LinksOfCapturesAreTheTexts {E} answer =
     →
     IsLink answer pattern groups url → AreResults answer (pattern_view pattern) texts captures →
     ((component : ComponentName)
-    → TextIsWrittenBack answer pattern groups component (at texts component)
+    → TextIsWritableFromCaptures answer pattern groups component (at texts component)
     (captures component))
     →
     texts_of_url url ≡ texts

@@ -75,7 +75,7 @@ GroupsOfMatchesDiffer {E} engine =
 -- parts has a modifier; if the matcher returns the captures for the text, the parts mean the text
 -- with them; the component's names are those of the parts and differ; and each captured text is its
 -- own canonical form.
-pub record IsReadBackFrom {E : Type 0} (answer : E → List ℕ → Option Captures)
+pub record IsWritableFromMatch {E : Type 0} (answer : E → List ℕ → Option Captures)
     (compiled : ComponentView E) (settings : WriteSettings) (parts : List PartView) (text : List ℕ)
     (captures : Captures) : Type 0 where
   pub plain : HavePlainTexts parts
@@ -85,16 +85,17 @@ pub record IsReadBackFrom {E : Type 0} (answer : E → List ℕ → Option Captu
   pub names_differ : NamesDiffer (group_names parts)
   pub are_canonical : AreCanonical settings.canonical captures
 
--- `IsReadBackFrom` holds of a component of the pattern, with the text, the captures and the groups
--- of a link.
-abbrev pub TextIsReadBack : {E : Type 0} → (answer : E → List ℕ → Option Captures) → UrlPattern E
+-- `IsWritableFromMatch` holds of a component of the pattern, with the text, the captures and the
+-- groups of a link.
+abbrev pub TextIsWritableFromMatch : {E : Type 0} → (answer : E → List ℕ → Option Captures)
+    → UrlPattern E
     → List GivenView → ComponentName → (text : List ℕ) → Captures → Type 0
-TextIsReadBack answer pattern groups component text captures =
+TextIsWritableFromMatch answer pattern groups component text captures =
     OfItsParts pattern groups component (λ settings parts.
-    IsReadBackFrom answer (pattern_view pattern component) settings parts text captures)
+    IsWritableFromMatch answer (pattern_view pattern component) settings parts text captures)
 
--- A link with the groups of a match of eight texts has these texts, if `TextIsReadBack` holds of
--- each component.
+-- A link with the groups of a match of eight texts has these texts, if `TextIsWritableFromMatch`
+-- holds of each component.
 abbrev pub LinksOfMatchesAreTheTexts : {E : Type 0} → (answer : E → List ℕ → Option Captures)
     → Type 0
 LinksOfMatchesAreTheTexts {E} answer =
@@ -106,7 +107,7 @@ LinksOfMatchesAreTheTexts {E} answer =
     → AreGroupsOfResult result groups
     →
     ((component : ComponentName)
-    → TextIsReadBack answer pattern groups component (at texts component)
+    → TextIsWritableFromMatch answer pattern groups component (at texts component)
     (found.captures component))
     →
     texts_of_url url ≡ texts

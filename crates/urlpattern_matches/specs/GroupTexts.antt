@@ -4,9 +4,9 @@ use Rattle.std.specs.{Borrow.Bor, HashMap.HashMap, Str.chars}
 use Rattle.std.specs.declared.alloc.{AllocError.AllocError, Global.Global}
 use Rattle.urlpattern_components.specs.declared.eight.ComponentName.{ComponentName}
 use Rattle.urlpattern_components.specs.declared.eight.Eight.{Eight}
-use Rattle.urlpattern_matches.specs.declared.{captures.GroupCaptures.GroupCaptures, captures.Missed.Missed}
+use Rattle.urlpattern_matches.specs.declared.{captures.GroupCaptures.GroupCaptures, captures.NoCaptures.NoCaptures}
 use Rattle.urlpattern_matches.specs.declared.captures.GroupCaptures.TheVariants as captured
-use Rattle.urlpattern_matches.specs.declared.captures.Missed.TheVariants as missed
+use Rattle.urlpattern_matches.specs.declared.captures.NoCaptures.TheVariants as missed
 use Rattle.urlpattern_matches.specs.declared.result.UrlPatternResult.{UrlPatternResult}
 use Rattle.urlpattern_matches.specs.ResultViews.{group_in, group_of, result_view}
 use Rattle.urlpattern_matcher.specs.Looks.{look_result, NeedsEngine}
@@ -28,7 +28,7 @@ captures_of (captured.Groups captures) = map option_text captures.items
 -- The result of calling the engine that `look` asks for, if any: the captures, `Unmatched` if the
 -- engine does not match, or `OutOfMemory`, possible only if the look asks for an engine.
 abbrev pub IsCapturedOf : {E : Type 0} → (answer : E → List ℕ → Option Captures) → Look E
-    → Result GroupCaptures Missed → Type 0
+    → Result GroupCaptures NoCaptures → Type 0
 IsCapturedOf answer look (Ok captured) =
     look_result answer (Some look) ≡ Some (captures_of captured)
 IsCapturedOf answer look (Err missed.Unmatched) = look_result answer (Some look) ≡ None

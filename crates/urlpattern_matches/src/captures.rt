@@ -2,7 +2,7 @@
 ghost use Rattle.std.specs.Prelude.{◌≡◌, map, option_map, IfOk, IsSomeAnd};
 ghost use Rattle.std.specs.Str.{chars};
 ghost use Rattle.serde_json.specs.View.{view};
-ghost use Rattle.urlpattern_matches.specs.declared.captures.Missed.TheVariants as all_missed;
+ghost use Rattle.urlpattern_matches.specs.declared.captures.NoCaptures.TheVariants as all_missed;
 ghost use Rattle.urlpattern_matches.specs.BorrowedMatches.{all_groups_left, all_groups_view, groups_left, groups_view, borrowed_group, pattern_captures_view, texts_captured, IsCopyOfMatch};
 ghost use Rattle.urlpattern_matches.specs.GroupTexts.{IsCapturedOf, captures_of, texts_of, HasNoGroups, IsWithoutGroups};
 ghost use Rattle.urlpattern_matches.specs.ResultJson.{IsTreeOfCaptures};
@@ -265,18 +265,18 @@ fn group_named<'u>(
 
 /// Why a call of an engine returned no captures.
 #[derive(Drop)]
-pub enum Missed {
+pub enum NoCaptures {
     /// The engine does not match the text.
     Unmatched,
     /// The engine ran out of memory.
     OutOfMemory,
 }
 
-impl From<OutOfMemory> for Missed {
+impl From<OutOfMemory> for NoCaptures {
     ghost from_gives = { λ _ missed. missed ≡ all_missed.OutOfMemory };
 
-    fn from(_error: OutOfMemory) -> Missed {
-        Missed::OutOfMemory
+    fn from(_error: OutOfMemory) -> NoCaptures {
+        NoCaptures::OutOfMemory
     }
 }
 
@@ -295,7 +295,7 @@ impl<'u> GroupCaptures<'u> {
     /// Returns what the component of `look` captures, and calls the engine that `look` asks for, if
     /// any.
     #[inline(always)]
-    pub fn of_look<R: RegExp>(alloc: Global, look: Look<'_, 'u, R>) -> Result<Self, Missed>
+    pub fn of_look<R: RegExp>(alloc: Global, look: Look<'_, 'u, R>) -> Result<Self, NoCaptures>
         ensures { IsCapturedOf R.answer look.entry result }
     {
         match look {
@@ -303,7 +303,7 @@ impl<'u> GroupCaptures<'u> {
             Look::Captured(text) => Ok(GroupCaptures::One(Some(text))),
             Look::Asks { engine, middle } => match engine.matches(alloc, middle)? {
                 Some(captures) => Ok(GroupCaptures::Groups(captures)),
-                None => Err(Missed::Unmatched),
+                None => Err(NoCaptures::Unmatched),
             },
         }
     }

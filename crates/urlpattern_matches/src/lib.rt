@@ -14,7 +14,7 @@ pub mod result_laws;
 mod texts;
 
 pub use captures::{
-    GroupCaptures, Missed, UrlPatternCaptures, UrlPatternCapturesIter, UrlPatternGroups,
+    GroupCaptures, NoCaptures, UrlPatternCaptures, UrlPatternCapturesIter, UrlPatternGroups,
     assemble_match,
 };
 pub use input_parsing::parse_match_input;

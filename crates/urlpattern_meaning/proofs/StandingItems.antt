@@ -12,7 +12,7 @@ use Rattle.urlpattern_syntax.specs.Errors.{ErrorView}
 use Rattle.urlpattern_syntax.specs.Options.{OptionsView}
 use Rattle.urlpattern_syntax.specs.Parts.{PartView, fixed_text}
 use Rattle.urlpattern_syntax.specs.Pieces.{PlaceholderKindView, Ending as endings}
-use Rattle.urlpattern_syntax.specs.Reading.{AreMet, AreParts, Capture, Encoding, FirstFails, Fixed, Item, capture_part, placeholder_regexp, demands_after, encode_fixed, value_of}
+use Rattle.urlpattern_syntax.specs.Reading.{AreMet, AreParts, Capture, Encoding, FirstFails, Fixed, Item, capture_part, placeholder_regexp, demands_after, fixed_text_demands, value_of}
 use Rattle.urlpattern_syntax.specs.RegexpText.{is_fixed_text}
 use Rattle.urlpattern_syntax.specs.Tokens.{TokenView}
 use Rattle.urlpattern_meaning.specs.Printing.{HaveTexts, encoded_texts}
@@ -112,7 +112,7 @@ distinct_new earlier (Capture prefix name match suffix modifier ∷ items) behin
 -- ---- demands
 
 demands-fixed : (earlier : List (List ℕ)) (text : List ℕ) (modifier : PartModifier) (items : List Item) (found : TokenView) →
-    demands_after earlier (Fixed text modifier ∷ items) (endings.Stops found) ≡ encode_fixed text ++ demands_after earlier items (endings.Stops found)
+    demands_after earlier (Fixed text modifier ∷ items) (endings.Stops found) ≡ fixed_text_demands text ++ demands_after earlier items (endings.Stops found)
 demands-fixed earlier text modifiers.None [] found = refl
 demands-fixed earlier text modifiers.None (x ∷ items) found = refl
 demands-fixed earlier text modifiers.Optional items found = refl

@@ -31,13 +31,13 @@ IsSpelledAt text token =
 
 -- The text, which begins at the byte `place` of a longer one, is the spellings of these tokens in
 -- order, each at its token's index, with nothing but skipped characters before each.
-abbrev pub Lays : (place : ℕ) → List TokenView → (text : List ℕ) → Type 0
-Lays place [] text = text ≡ []
-Lays place (token ∷ tokens) text =
+abbrev pub AreSpelledFrom : (place : ℕ) → List TokenView → (text : List ℕ) → Type 0
+AreSpelledFrom place [] text = text ≡ []
+AreSpelledFrom place (token ∷ tokens) text =
     (skipped rest : List ℕ) × (text ≡ skipped ++ spelling token.kind token.value ++ rest)
     × IsTrue (list_all is_ignored skipped)
     × (token.index ≡ place + byte_len skipped)
-    × Lays (token.index + byte_len (spelling token.kind token.value)) tokens rest
+    × AreSpelledFrom (token.index + byte_len (spelling token.kind token.value)) tokens rest
 
 -- ---- what every text has
 

@@ -125,12 +125,12 @@ ReadPartsArePrintable encoding = (text : List ℕ) (options : OptionsView) (part
 
 -- A property of a printed pattern, `text`, of options and an encoding, and of the parts that the
 -- pattern was printed from.
-abbrev pub Saying : Type 1
-Saying = (text : List ℕ) → OptionsView → Encoding → List PartView → Type 0
+abbrev pub PrintedProperty : Type 1
+PrintedProperty = (text : List ℕ) → OptionsView → Encoding → List PartView → Type 0
 
 -- `Says` holds of the printed pattern of each list of printable parts, under each list of encoding
 -- results that keeps the texts of the parts.
-abbrev pub OfPrintableParts : Saying → Type 0
+abbrev pub OfPrintableParts : PrintedProperty → Type 0
 OfPrintableParts Says =
     (options : OptionsView) (answers : EncodingResults) (parts : List PartView) →
     IsPrintable options parts
@@ -139,7 +139,7 @@ OfPrintableParts Says =
 
 -- `Says` holds of the printed pattern of parts that a text was read as under one list of encoding
 -- results (`WereRead`), under each list that keeps the texts of the parts.
-abbrev pub OfPartsThatWereRead : Saying → Type 0
+abbrev pub OfPartsThatWereRead : PrintedProperty → Type 0
 OfPartsThatWereRead Says =
     (text : List ℕ) (options : OptionsView) (first answers : EncodingResults)
     (parts : List PartView)

@@ -122,7 +122,7 @@ pub record IsMadeOf {E : Type 0} (IsEngine : (regexp : List ℕ) → Result E Er
   pub front : Option PartView
   pub middle : List PartView
   pub back : Option PartView
-  pub are_peeled : AreStripped parts front middle back
+  pub are_stripped : AreStripped parts front middle back
   pub is_made : IsMadeBetween IsEngine options (end_text front) middle (end_text back) matcher
 
 -- ---- matching

@@ -81,15 +81,15 @@ needs_braces options before part next =
 
 -- Whether an asterisk directly after the part, or first in a pattern (None), is parsed as a
 -- wildcard, not as a modifier of the part.
-abbrev pub admits_asterisk : Option PartView → Bool
-admits_asterisk None = true
-admits_asterisk (Some before) = is_fixed_text before.kind || not (is_unmodified before.modifier)
+abbrev pub is_wildcard_after : Option PartView → Bool
+is_wildcard_after None = true
+is_wildcard_after (Some before) = is_fixed_text before.kind || not (is_unmodified before.modifier)
 
 -- Whether the part, if it is a full wildcard, may be printed as an asterisk: it has no given name,
 -- and the asterisk cannot be parsed as a modifier of the part `before`.
 abbrev pub is_asterisk : (before : Option PartView) → PartView → (braces : Bool) → Bool
 is_asterisk before part braces =
-    not (has_custom_name part) && (admits_asterisk before || braces || not (is_empty part.prefix))
+    not (has_custom_name part) && (is_wildcard_after before || braces || not (is_empty part.prefix))
 
 -- What is printed after the name of a part of this kind: the regular expression in parentheses, an
 -- asterisk for a full wildcard if `asterisk` is set, or nothing.

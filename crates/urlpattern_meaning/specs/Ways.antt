@@ -13,8 +13,8 @@ pub record Way : Type 0 where
   pub rest : List ℕ
 
 -- A function from a text to the ways of matching a beginning of the text, the preferred ones first.
-abbrev pub Choice : Type 0
-Choice = List ℕ → List Way
+abbrev pub WaysByText : Type 0
+WaysByText = List ℕ → List Way
 
 -- ---- one way after another
 
@@ -32,14 +32,14 @@ joined_way way next = record {
 
 -- The ways, each joined with every way in which `next` matches a beginning of its rest. All that
 -- continue one way are before those that continue a later one.
-abbrev pub continued : (next : Choice) → List Way → List Way
+abbrev pub continued : (next : WaysByText) → List Way → List Way
 continued next ways = flat_map (λ way. map (joined_way way) (next way.rest)) ways
 
 -- ---- characters
 
 -- The way of matching a single character that passes the test, or no way if the text does not begin
 -- with one.
-abbrev pub one_that : (passes : ℕ → Bool) → Choice
+abbrev pub one_that : (passes : ℕ → Bool) → WaysByText
 one_that passes [] = []
 one_that passes (c ∷ text) =
     if passes c then record { taken = c ∷ []; captures = []; rest = text } ∷ [] else []
@@ -57,7 +57,7 @@ is_shorter rest text = nat_lt (length rest) (length text)
 
 -- The ways of a loop with at most `n` more rounds. In each round the atom matches a text that is
 -- not empty.
-abbrev pub more_rounds : (greedy : Bool) → Choice → (n : ℕ) → Choice
+abbrev pub more_rounds : (greedy : Bool) → WaysByText → (n : ℕ) → WaysByText
 more_rounds greedy atom zero text = empty_way 0 text ∷ []
 more_rounds greedy atom (suc n) text =
     ordered greedy (continued
@@ -67,7 +67,7 @@ more_rounds greedy atom (suc n) text =
 -- The ways of a loop with at least one round. The first round may match the empty text, which ends
 -- the loop. The number of further rounds is at most the number of characters left, since none of
 -- them is empty.
-abbrev pub looped : (greedy : Bool) → Choice → Choice
+abbrev pub looped : (greedy : Bool) → WaysByText → WaysByText
 looped greedy atom text =
     continued (λ rest.
     if is_shorter rest text then more_rounds greedy atom (length rest) rest
@@ -76,7 +76,7 @@ looped greedy atom text =
 -- ---- trees
 
 -- The ways of an atom with its quantifier, where `groups` is the number of groups in the atom.
-abbrev pub quantified_ways : Quantifier → (groups : ℕ) → Choice → Choice
+abbrev pub quantified_ways : Quantifier → (groups : ℕ) → WaysByText → WaysByText
 quantified_ways Once groups atom text = atom text
 quantified_ways Optional groups atom text = atom text ++ empty_way groups text ∷ []
 quantified_ways ZeroOrMore groups atom text = looped true atom text ++ empty_way groups text ∷ []
@@ -90,7 +90,7 @@ capturing way = record way { captures = Some way.taken ∷ way.captures }
 abbrev mutual
   -- The ways in which items, one after the other, match a beginning of a text. Where case is
   -- ignored, an ASCII letter is compared as its lower case.
-  pub ways_by : (ignore_case : Bool) → Items → Choice
+  pub ways_by : (ignore_case : Bool) → Items → WaysByText
   ways_by ignore_case Nothing text = empty_way 0 text ∷ []
   ways_by ignore_case (Item atom quantifier items) text =
       continued (ways_by ignore_case items)
@@ -98,7 +98,7 @@ abbrev mutual
 
   -- The ways in which an atom matches a beginning of a text. Where case is ignored, an ASCII letter
   -- is compared as its lower case.
-  pub atom_ways_by : (ignore_case : Bool) → Atom → Choice
+  pub atom_ways_by : (ignore_case : Bool) → Atom → WaysByText
   atom_ways_by ignore_case (Literal character) text =
       one_that (λ c. is_same_character ignore_case c (character_of character)) text
   atom_ways_by ignore_case Dot text =
@@ -109,11 +109,11 @@ abbrev mutual
   atom_ways_by ignore_case (Grouped items) text = ways_by ignore_case items text
 
 -- The ways in which items match a beginning of a text where case counts.
-abbrev pub ways : Items → Choice
+abbrev pub ways : Items → WaysByText
 ways items = ways_by false items
 
 -- The ways in which an atom matches a beginning of a text where case counts.
-abbrev pub atom_ways : Atom → Choice
+abbrev pub atom_ways : Atom → WaysByText
 atom_ways atom = atom_ways_by false atom
 
 -- The captures of the first way in which the tree matches the whole text, or None where no way

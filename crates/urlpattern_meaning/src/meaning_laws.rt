@@ -7,7 +7,7 @@ ghost use Rattle.std.specs.Prelude.{◌≡◌, ◌≢◌, ℕ, List, [], ◌++�
 ghost use Rattle.std.specs.Char.{is_ascii_digit};
 ghost use Rattle.urlpattern_meaning.specs.{FirstResults.ReturnsByFirstWay, Matching.ReturnsByMeaning, Ways.FirstWaysFold, Ways.first_way};
 ghost use Rattle.urlpattern_meaning.specs.Dialect.{Follows, HasMeaningOf, IsTreeOf, Items, Means, group_count};
-ghost use Rattle.urlpattern_meaning.specs.Laws.{EncodingResults, AtMostOne, CountFrom, HasLenientTokens, HasTokensOrFault, IsSpelledAt, Lays, listed, numbers_among};
+ghost use Rattle.urlpattern_meaning.specs.Laws.{EncodingResults, AtMostOne, CountFrom, HasLenientTokens, HasTokensOrFault, IsSpelledAt, AreSpelledFrom, listed, numbers_among};
 ghost use Rattle.urlpattern_meaning.specs.LawsOfMeaning.{ReturnsWhereEnginesAgree, CapturesHaveNames, CopiesAreOneCapture, FirstWayIsMeant, FirstWayIsOne, FollowingIsAgreeing, NoCopiesAreOneCapture, OfEachMatcher, OfEachTree, PlainEndsAreRemoved, TreesMeanTheParts, WaysAreMeanings, WildcardsCaptureNothingElse};
 ghost use Rattle.urlpattern_meaning.specs.LawsOfReading.{TextsWithResultsHaveOutcomes, FaultsAreOne, HaveOneAtMost, IndicesRise, OfEachReading, OfEachToken, OfPartsThatWereRead, OfPrintableParts, OutcomesAreOneGivenMemory, OutcomesLackOnlyResults, PiecesAreOne, PrintedFailsByTheEncoding, PrintedMayReadAsJoined, PrintedReadsOnlyAsJoined, ReadPartsArePrintable, ReadingsExcludeRejections, TokensExcludeFaults, TokensHavePieces, UnderEachCallback, UnderEachList};
 ghost use Rattle.urlpattern_meaning.specs.PartMeaning.{AreGenerated, MeanTheSame};
@@ -72,7 +72,7 @@ pub fn every_text_has_tokens()
 /// the text. `End` is the last token, and no other.
 pub fn tokens_lose_nothing()
     ensures lay { (text : List ℕ) (tokens : List TokenView) → AreTokens text tokens
-        → Lays 0 tokens text }
+        → AreSpelledFrom 0 tokens text }
     ensures rise { IndicesRise }
     ensures stand { OfEachToken (λ text token later. IsSpelledAt text token) }
     ensures slice { OfEachToken (λ text token later.

@@ -13,7 +13,7 @@ use Rattle.urlpattern_parser.specs.Readers.{KnowsNames, group_item, matched_view
 use Rattle.urlpattern_syntax.specs.Parts.{parts_view}
 use Rattle.urlpattern_syntax.specs.declared.parser.Part.{Part}
 use Rattle.urlpattern_syntax.specs.declared.parser.PartModifier.{PartModifier}
-use Rattle.urlpattern_syntax.specs.Reading.{Calls, Demand, Encoding, Expect, Fixed, Item, Reads, Rejects, placeholder_regexp, encode_fixed, encoding_by, item, name_or}
+use Rattle.urlpattern_syntax.specs.Reading.{Calls, Demand, Encoding, Expect, Fixed, Item, Reads, Rejects, placeholder_regexp, fixed_text_demands, encoding_by, item, name_or}
 use Rattle.urlpattern_syntax.specs.RegexpText.{group_names}
 use Rattle.urlpattern_syntax.specs.Tokens.{token_view}
 use Rattle.urlpattern_syntax.specs.declared.tokenizer.Token.{Token}
@@ -95,7 +95,7 @@ next_item list piece = item list.next_numeric_name (piece_view piece)
 -- text, unless empty, and that the token is End.
 abbrev pub end_demands : PartList → Token → List Demand
 end_demands list token =
-    encode_fixed (part_list_view list).pending ++ Expect End (token_view token) ∷ []
+    fixed_text_demands (part_list_view list).pending ++ Expect End (token_view token) ∷ []
 
 -- Adding the items to the list `old` results in `new`: their parts follow those of `old`, all of
 -- their demands are met, and no text is pending.

@@ -13,7 +13,7 @@ use Rattle.urlpattern_syntax.specs.declared.error.Error.{Error}
 use Rattle.urlpattern_syntax.specs.Errors.{MemoryOr}
 use Rattle.urlpattern_parser.specs.declared.parser.given_names.GivenNames.{GivenNames}
 use Rattle.urlpattern_parser.specs.GivenNames.{has_name}
-use Rattle.urlpattern_syntax.specs.Parsing.{IsTokenList, IsModifierSpelled, IsNameSpelled, IsGiven, BeginsWithPlaceholder, IsPieceNamed, BeginsWithCharacters, BeginsWithRow, BeginsWithClose, BeginsWithPiece, HasEndingAt, PartListView}
+use Rattle.urlpattern_syntax.specs.Parsing.{IsTokenList, IsModifierSpelled, IsNameSpelled, BeginsAsName, BeginsWithPlaceholder, IsPieceNamed, BeginsWithCharacters, BeginsWithRow, BeginsWithClose, BeginsWithPiece, HasEndingAt, PartListView}
 use Rattle.urlpattern_syntax.specs.Parts.{parts_view}
 use Rattle.urlpattern_syntax.specs.declared.parser.PartModifier.{PartModifier}
 use Rattle.urlpattern_syntax.specs.Text.{option_text, text_of}
@@ -121,8 +121,8 @@ ConsumesPlaceholder old new value =
 
 -- The reader `old` consumes its first token, a character, and the characters `more`, which may be
 -- empty, and becomes `new`.
-abbrev pub ConsumesRow : (old new : Reader) → (more : Bor (List ℕ)) → Type 0
-ConsumesRow old new more =
+abbrev pub ConsumesCharacters : (old new : Reader) → (more : Bor (List ℕ)) → Type 0
+ConsumesCharacters old new more =
     Consumes old new (λ tokens rest.
     BeginsWithCharacters tokens (token_view old.token) (chars more.now) rest)
 
@@ -149,7 +149,8 @@ part_list_view list = record {
 -- `names` are the names that are used: `given` has exactly those that the pattern gives, and no
 -- number from `number` on, below 2^64, is among them.
 pub record KnowsNames (names : List (List ℕ)) (given : GivenNames) (number : ℕ) : Type 0 where
-  pub named : (name : List ℕ) → IsUtf8 name → IsGiven (chars name) → Contains names (chars name)
+  pub named : (name : List ℕ) → IsUtf8 name → BeginsAsName (chars name)
+      → Contains names (chars name)
       ↔ IsTrue (has_name given name)
   pub numbered : (other : ℕ) → number ≤ other → other < 2 ^ 64 → ¬ Contains names (decimal other)
 

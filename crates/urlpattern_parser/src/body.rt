@@ -1,7 +1,7 @@
 //! Splits a text after the body of a custom regular expression.
 ghost use Rattle.std.specs.Prelude.{◌≡◌, ◌++◌, codes, IfErr, IfOk, None, Some};
 ghost use Rattle.std.specs.Str.{chars};
-ghost use Rattle.urlpattern_parser.specs.Bodies.{IsRefusedBody};
+ghost use Rattle.urlpattern_parser.specs.Bodies.{IsBodyError};
 ghost use Rattle.urlpattern_syntax.specs.declared.error.TokenizerError.TheVariants as errors;
 ghost use Rattle.urlpattern_syntax.specs.Text.{BeginsWith, is_among};
 ghost use Rattle.urlpattern_syntax.specs.Tokens.{IsLexed};
@@ -12,10 +12,10 @@ use urlpattern_syntax::text::{before, split_first};
 
 /// Where and why a text does not begin with the body of a custom regular expression.
 #[derive(Drop)]
-pub struct RefusedBody<'a> {
+pub struct BodyError<'a> {
     /// The rest of the text from the invalid bytes on, and how many bytes are invalid. `None`: the
     /// text ends before the body does.
-    pub refused: Option<(&'a str, usize)>,
+    pub invalid_bytes: Option<(&'a str, usize)>,
     /// The error that is reported.
     pub error: TokenizerError,
 }
@@ -23,11 +23,11 @@ pub struct RefusedBody<'a> {
 /// Splits a text that follows a `(` into the body of a custom regular expression, which the next
 /// unmatched `)` closes, and the text after that parenthesis. The text begins with neither `?` nor
 /// `)`.
-pub fn split_body(text: &str) -> Result<(&str, &str), RefusedBody<'_>>
+pub fn split_body(text: &str) -> Result<(&str, &str), BodyError<'_>>
     requires { ¬ BeginsWith (is_among (codes "?)")) (chars text.now) }
     ensures body { IfOk result (λ found.
         IsLexed (codes "(" ++ chars text.now) Regexp (chars found.0.now) (chars found.1.now)) }
-    ensures refused { IfErr result (IsRefusedBody text.now) }
+    ensures refused { IfErr result (IsBodyError text.now) }
 {
     let mut rest = text;
     let mut depth = 0usize;
@@ -64,22 +64,22 @@ pub fn split_body(text: &str) -> Result<(&str, &str), RefusedBody<'_>>
 }
 
 /// Returns the refusal of the first `len` bytes of `rest`, for the reason `fault`.
-fn invalid(rest: &str, len: usize, fault: RegexFault) -> RefusedBody<'_>
+fn invalid(rest: &str, len: usize, fault: RegexFault) -> BodyError<'_>
     ensures { result
         ≡ record { refused = Some (rest.entry, len); error = errors.InvalidRegex fault } }
 {
-    RefusedBody {
-        refused: Some((rest, len)),
+    BodyError {
+        invalid_bytes: Some((rest, len)),
         error: TokenizerError::InvalidRegex(fault),
     }
 }
 
 /// Returns the refusal of a text that ends before its body does, with the error `error`.
-fn unfinished<'a>(error: TokenizerError) -> RefusedBody<'a>
+fn unfinished<'a>(error: TokenizerError) -> BodyError<'a>
     ensures { result ≡ record { refused = None; error = error } }
 {
-    RefusedBody {
-        refused: None,
+    BodyError {
+        invalid_bytes: None,
         error,
     }
 }

@@ -11,9 +11,9 @@ abbrev pub HaveParts : {E : Type 0} → (pattern other : UrlPattern E)
 HaveParts pattern other parts others = (pattern.parts ≡ Some parts) × (other.parts ≡ Some others)
 
 -- The two patterns have parts, and `Holds` is true of them.
-abbrev pub OfBoth : {E : Type 0} → (pattern other : UrlPattern E)
+abbrev pub OfPartsOfBoth : {E : Type 0} → (pattern other : UrlPattern E)
     → (Holds : (parts others : PatternParts) → Type 0) → Type 0
-OfBoth pattern other Holds =
+OfPartsOfBoth pattern other Holds =
     IsSomeAnd pattern.parts (λ parts. IsSomeAnd other.parts (λ others. Holds parts others))
 
 -- The error of a comparison: `NoParts` only if one of the two patterns has no parts, and

@@ -6,7 +6,7 @@ ghost use Rattle.std.specs.Prelude.{◌≡◌, ◌&&◌, ◌||◌, false, IfOk};
 ghost use Rattle.std.specs.Str.{chars};
 ghost use Rattle.urlpattern_printing.specs.Neighbours.{ends_with_prefix, neighbour};
 ghost use Rattle.urlpattern_printing.specs.{NormalForms.ReadsBackIfKept, WrittenParts.group_part};
-ghost use Rattle.urlpattern_meaning.specs.Printing.{escaped_pattern, continues_name, has_custom_name, has_other_prefix, has_suffix, in_braces, is_asterisk, is_name_alone, needs_braces, printed, printed_fixed, printed_match, printed_name, printed_part, printed_suffix, absorbs_before, absorbs_next, admits_asterisk};
+ghost use Rattle.urlpattern_meaning.specs.Printing.{escaped_pattern, continues_name, has_custom_name, has_other_prefix, has_suffix, in_braces, is_asterisk, is_name_alone, needs_braces, printed, printed_fixed, printed_match, printed_name, printed_part, printed_suffix, absorbs_before, absorbs_next, is_wildcard_after};
 ghost use Rattle.urlpattern_syntax.specs.{Errors.OnlyOutOfMemory, Options.options_view, RegexpText.is_fixed_text};
 ghost use Rattle.urlpattern_syntax.specs.Parts.{part_view, parts_view};
 ghost use Rattle.urlpattern_syntax.specs.Text.{begins_with, is_name_part, text_of};
@@ -301,13 +301,13 @@ fn absorbs_before(options: &Options, previous: Option<&Part>, part: &Part) -> bo
         (part_view part.now) }
 {
     match previous {
-        Some(previous) => part.prefix.is_empty() && leaves_prefix(options, previous),
+        Some(previous) => part.prefix.is_empty() && is_text_ending_with_prefix(options, previous),
         None => false,
     }
 }
 
 /// Whether the part is a fixed text whose last character is the prefix code point.
-fn leaves_prefix(options: &Options, part: &Part) -> bool
+fn is_text_ending_with_prefix(options: &Options, part: &Part) -> bool
     ensures { result
         ≡ (is_fixed_text part.now.kind
         && ends_with_prefix (options_view options.now) (text_of part.now.value)) }
@@ -332,13 +332,13 @@ fn ends_with_prefix(options: &Options, text: &str) -> bool
 fn is_asterisk(previous: Option<&Part>, part: &Part, grouped: bool) -> bool
     ensures { result ≡ is_asterisk (neighbour previous.entry) (part_view part.now) grouped }
 {
-    !has_custom_name(part) && (admits_asterisk(previous) || grouped || !part.prefix.is_empty())
+    !has_custom_name(part) && (is_wildcard_after(previous) || grouped || !part.prefix.is_empty())
 }
 
 /// Whether an asterisk directly after the part `previous`, or first in a pattern (`None`), is
 /// parsed as a wildcard, not as a modifier.
-fn admits_asterisk(previous: Option<&Part>) -> bool
-    ensures { result ≡ admits_asterisk (neighbour previous.entry) }
+fn is_wildcard_after(previous: Option<&Part>) -> bool
+    ensures { result ≡ is_wildcard_after (neighbour previous.entry) }
 {
     match previous {
         Some(previous) => {

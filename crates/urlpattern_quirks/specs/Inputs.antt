@@ -86,11 +86,11 @@ IsProcessed input base found = IsMatchInput input base found.0 × AreInputs inpu
 
 -- No pattern can be matched against the input: `url` rejects the text or a base URL, or a text may
 -- be too long.
-abbrev pub IsNoInputOf : StringOrInit → (base : Option (List ℕ)) → Type 0
-IsNoInputOf (inputs.String text) base = IsRejectedText (cow_str_bytes text) base
-IsNoInputOf (inputs.Init plain) None =
+abbrev pub RejectsMatchInput : StringOrInit → (base : Option (List ℕ)) → Type 0
+RejectsMatchInput (inputs.String text) base = IsRejectedText (cow_str_bytes text) base
+RejectsMatchInput (inputs.Init plain) None =
     IsRejectedByUrl (parsed_base (plain_base plain)) (text_bytes (plain_base plain))
-IsNoInputOf (inputs.Init plain) (Some base) = ⊥
+RejectsMatchInput (inputs.Init plain) (Some base) = ⊥
 
 -- `found` is what a pattern is matched against, and a copy of the input; `None`, if `url` rejects
 -- the text or a base URL, or a text may be too long.
@@ -98,7 +98,8 @@ abbrev pub FindsInput : StringOrInit
     → (base : Option (List ℕ))
     → Option (UrlPatternMatchInput × (StringOrInit × Option (String Global)))
     → Type 0
-FindsInput input base found = MatchOption found (IsNoInputOf input base) (IsProcessed input base)
+FindsInput input base found =
+    MatchOption found (RejectsMatchInput input base) (IsProcessed input base)
 
 -- The error is `BaseUrlWithInit`, and a base URL is passed with an init.
 abbrev pub RejectsSecondBase : StringOrInit → (base : Option (List ℕ)) → ErrorView → Type 0

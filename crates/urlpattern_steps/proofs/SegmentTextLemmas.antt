@@ -10,7 +10,7 @@ use Rattle.urlpattern_meaning.specs.Dialect.{AreItems, Character, IsCharacter, I
 use Rattle.urlpattern_steps.specs.declared.step.LiteralString.{LiteralString}
 use Rattle.urlpattern_steps.specs.declared.step.Step.{Step}
 use Rattle.urlpattern_steps.specs.declared.step.Step.TheVariants.{Literal, Segments}
-use Rattle.urlpattern_steps.specs.ReadSteps.{AreCharacters, AreLiterals, AreSegments, BeginsWithCaptured, EndsSegments, characters_text, literal_steps, BeginsWithCharacter, IsRunOf, IsRunStep, ClosesSegments, MakeUp, last_text}
+use Rattle.urlpattern_steps.specs.ReadSteps.{AreCharacters, AreLiterals, AreSegments, BeginsWithCaptured, EndsSegments, characters_text, literal_steps, BeginsWithCharacter, IsRunOf, IsRunStep, ClosesSegments, SpellLiteral, last_text}
 use Rattle.urlpattern_steps.proofs.PrefixLemmas.{ReadsRun, ByItself, IsEscapedAt, apart, character_kind, run_step, run_step_is}
 use Rattle.urlpattern_steps.proofs.SegmentLemmas.{in_order, literal_steps-plain}
 use Rattle.urlpattern_steps.proofs.StepGroupLemmas.{take_rest, drop-one}
@@ -50,7 +50,7 @@ read-more old items more text rest remaining c (characters, all, e, f) (characte
 
 -- The step of separated runs replaces the first step of the separator.
 pub read-ends : (old items now : List Step) (first end : ℕ) (is_greedy : Bool) (separator : LiteralString) (text rest remaining : List ℕ) → AreRead old items text rest → first ≡ length old → now ≡ items
-    → MakeUp (take (length now - first) (drop first now)) separator
+    → SpellLiteral (take (length now - first) (drop first now)) separator
     → ClosesSegments end is_greedy rest remaining
     → (own : List Step) × EndsSegments end is_greedy own text remaining
     × (set items first (Segments (record { separator = separator; end = end; is_greedy = is_greedy })) ≡ old ++ own)

@@ -186,8 +186,8 @@ AreLiterals (Literal c ∷ steps) = AreLiterals steps
 AreLiterals (step ∷ steps) = ⊥
 
 -- The steps are literals and spell `text`: its first character, then as many as `text` has others.
-abbrev pub MakeUp : List Step → LiteralString → Type 0
-MakeUp steps text =
+abbrev pub SpellLiteral : List Step → LiteralString → Type 0
+SpellLiteral steps text =
     (others : List Step) × (steps ≡ Literal text.first ∷ others)
     × AreLiterals others
     × (text.others ≡ length others)

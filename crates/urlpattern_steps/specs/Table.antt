@@ -46,8 +46,8 @@ is_capture step = true
 
 -- The captures of a step and of the steps after it, by the prefix that the step matches and the
 -- rest. None: the steps after it do not match the rest.
-abbrev pub given : (ignore_case : Bool) → Step → List Step → Continuation
-given ignore_case step others =
+abbrev pub step_continuation : (ignore_case : Bool) → Step → List Step → Continuation
+step_continuation ignore_case step others =
     if is_capture step then captured_prefix (walk ignore_case (following step others))
     else (λ front rest. walk ignore_case (following step others) rest)
 
@@ -60,37 +60,37 @@ IsSingle step = Unit {0}
 
 -- The preferred result after a literal of the step: `next` is the result if the literal follows
 -- again, `here` if the step ends, and `onward` if a run consumes the next character.
-abbrev pub begun_of : {A : Type 0} → Step → (next here onward : Option A) → Option A
-begun_of (Literal c) next here onward = here
-begun_of (RepeatedLiteral copies) next here onward = option_or next here
-begun_of (Segments segments) next here onward =
+abbrev pub result_after_literal : {A : Type 0} → Step → (next here onward : Option A) → Option A
+result_after_literal (Literal c) next here onward = here
+result_after_literal (RepeatedLiteral copies) next here onward = option_or next here
+result_after_literal (Segments segments) next here onward =
     if segments.is_greedy then option_or onward (option_or next here) else onward
-begun_of step next here onward = None
+result_after_literal step next here onward = None
 
 -- The preferred result within a run of the step: `next` is the result if the literal of the step
 -- follows, `here` if the step ends, and `onward` if the run consumes the next character.
-abbrev pub later_of : {A : Type 0} → Step → (next here onward : Option A) → Option A
-later_of (LazyRun end) next here onward = option_or here onward
-later_of DotStar next here onward = option_or onward here
-later_of (GreedyRun run) next here onward = option_or onward here
-later_of (Segments segments) next here onward =
+abbrev pub result_within_run : {A : Type 0} → Step → (next here onward : Option A) → Option A
+result_within_run (LazyRun end) next here onward = option_or here onward
+result_within_run DotStar next here onward = option_or onward here
+result_within_run (GreedyRun run) next here onward = option_or onward here
+result_within_run (Segments segments) next here onward =
     if segments.is_greedy then option_or onward (option_or next here)
     else option_or (option_or next here) onward
-later_of step next here onward = None
+result_within_run step next here onward = None
 
 -- The preferred result at the beginning of the step: `next` is the result if the literal of the
 -- step follows, `here` if the step ends, and `onward` if a run consumes the next character.
-abbrev pub whole_of : {A : Type 0} → Step → (next here onward : Option A) → Option A
-whole_of (Literal c) next here onward = next
-whole_of (LazyRun end) next here onward = onward
-whole_of DotStar next here onward = option_or onward here
-whole_of (GreedyRun run) next here onward =
+abbrev pub result_at_start : {A : Type 0} → Step → (next here onward : Option A) → Option A
+result_at_start (Literal c) next here onward = next
+result_at_start (LazyRun end) next here onward = onward
+result_at_start DotStar next here onward = option_or onward here
+result_at_start (GreedyRun run) next here onward =
     if run.may_be_empty then option_or onward here else onward
-whole_of (RepeatedLiteral copies) next here onward =
+result_at_start (RepeatedLiteral copies) next here onward =
     if copies.allows_zero then option_or next here else next
-whole_of (Segments segments) next here onward =
+result_at_start (Segments segments) next here onward =
     if segments.is_greedy then option_or onward (option_or next here) else onward
-whole_of (OptionalGroup group) next here onward = None
+result_at_start (OptionalGroup group) next here onward = None
 
 -- `entry` is the entry for the rest of the text after the characters, where `entries` has an entry
 -- for each shorter suffix of the text, from the shortest. None: there are no characters, or the
@@ -127,14 +127,14 @@ abbrev pub HaveRow : (ignore_case : Bool) (text : List ℕ) (steps : List Step)
     → Type 0
 HaveRow ignore_case text steps rows = IsRow ignore_case text steps (row_at rows (length steps))
 
--- If the rows have a row of the steps for this text, `is_taken` is whether the steps match the
+-- If the rows have a row of the steps for this text, `does_match` is whether the steps match the
 -- text.
 abbrev pub IsMatchedByRows : (rows : List (Vec Bool Global)) (steps : List Step) (text : List ℕ)
-    (is_taken : Bool)
+    (does_match : Bool)
     → Type 0
-IsMatchedByRows rows steps text is_taken =
+IsMatchedByRows rows steps text does_match =
     (ignore_case : Bool) → HaveRow ignore_case text steps rows
-    → is_taken ≡ is_some (walk ignore_case steps text)
+    → does_match ≡ is_some (walk ignore_case steps text)
 
 -- `rows` has a row for each suffix of the steps, at the index of its number of steps.
 pub record AreRows (ignore_case : Bool) (text : List ℕ) (steps : List Step)

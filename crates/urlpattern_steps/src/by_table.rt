@@ -6,11 +6,11 @@ ghost use Rattle.urlpattern_meaning.specs.CaptureTexts.{captures_view};
 ghost use Rattle.urlpattern_steps.specs.FailedStates.{EndsWith};
 ghost use Rattle.urlpattern_steps.specs.Walk.{walk};
 ghost use Rattle.urlpattern_steps.specs.Table.{following, is_capture, IsRow, IsSingle};
-ghost use Rattle.urlpattern_steps.specs.Taken.{LeavesChosen, LeavesFollowing};
+ghost use Rattle.urlpattern_steps.specs.AddedCaptures.{LeavesChosen, LeavesFollowing};
 
-use crate::end_table::{is_taken, row_for, rows_of};
+use crate::end_table::{does_match, row_for, rows_of};
 use crate::prefixes::{following, is_capture, matched_prefix};
-use crate::repeats::pass;
+use crate::repeats::skip_steps;
 use crate::step::{Group, Step};
 use crate::text_cuts::split_at_boundary;
 use crate::walk::push_unmatched;
@@ -84,11 +84,11 @@ fn choose_group<'s>(
         LeavesChosen rows.now captures.old captures.new group others.now text.now left.now) }
     ensures end { IfOk result (λ left. EndsWith others.now left.now) }
 {
-    if is_taken(rows, others, text) {
+    if does_match(rows, others, text) {
         return Ok(others);
     }
     push_unmatched(captures, group.captures)?;
-    Ok(pass(others, group.steps))
+    Ok(skip_steps(others, group.steps))
 }
 
 /// Matches `step` with the preferred prefix of `text` after which the steps that follow match the

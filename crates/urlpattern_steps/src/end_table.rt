@@ -5,7 +5,7 @@ ghost use Rattle.std.specs.Str.{chars};
 ghost use Rattle.urlpattern_steps.specs.Table.{has, row_at, AreRows, IsRow, IsMatchedByRows};
 
 use crate::prefixes::{following, has, matched_prefix};
-use crate::repeats::pass;
+use crate::repeats::skip_steps;
 use crate::step::Step;
 use std::alloc::Global;
 use urlpattern_syntax::error::OutOfMemory;
@@ -26,7 +26,7 @@ pub fn rows_of(
     rows.push(row_of_none(alloc, text)?)?;
     let mut before = steps;
     while let Some((step, fewer)) = before.split_last() {
-        let others = pass(steps, before.len());
+        let others = skip_steps(steps, before.len());
         let row = row_of(alloc, *step, others, ignore_case, &rows, text)?;
         rows.push(row)?;
         before = fewer;
@@ -62,7 +62,7 @@ fn row_of(
         IsRow ignore_case (chars text.now) (step ∷ others.now) row.items) }
 {
     if let Step::OptionalGroup(group) = step {
-        let missing = pass(others, group.steps);
+        let missing = skip_steps(others, group.steps);
         return either(alloc, row_for(rows, others), row_for(rows, missing));
     }
     let after = row_for(rows, following(step, others));
@@ -103,7 +103,7 @@ pub fn row_for<'r>(rows: &'r [Vec<bool>], steps: &[Step]) -> &'r [bool]
 
 /// Whether the steps match `text`, looked up in the row of the steps for a text that ends in
 /// `text`.
-pub fn is_taken(rows: &[Vec<bool>], steps: &[Step], text: &str) -> bool
+pub fn does_match(rows: &[Vec<bool>], steps: &[Step], text: &str) -> bool
     ensures { IsMatchedByRows rows.now steps.now (chars text.now) result }
 {
     has(row_for(rows, steps), character_count(text))

@@ -3,10 +3,10 @@
 ghost use Rattle.std.specs.Prelude.{◌≡◌, ◌∷◌, Option, Some, None, length, option_map, take, IfOk, if◌then◌else◌};
 ghost use Rattle.std.specs.Str.{chars};
 ghost use Rattle.urlpattern_steps.specs.Walk.{literals};
-ghost use Rattle.urlpattern_steps.specs.Table.{begun_of, run_end, following, has, later_of, own_count, literal_string_of, whole_of, is_capture, IsEntryAfter, IsRow, IsSingle};
-ghost use Rattle.urlpattern_steps.specs.Taken.{IsEndOfPrefix};
+ghost use Rattle.urlpattern_steps.specs.Table.{result_after_literal, run_end, following, has, result_within_run, own_count, literal_string_of, result_at_start, is_capture, IsEntryAfter, IsRow, IsSingle};
+ghost use Rattle.urlpattern_steps.specs.AddedCaptures.{IsEndOfPrefix};
 
-use crate::repeats::{end_if_continued, ends, entry_after_literal, first_steps, pass};
+use crate::repeats::{choose_ends, end_if_continued, entry_after_literal, first_steps, skip_steps};
 use crate::step::{LiteralString, Step};
 use crate::text_cuts::{after_prefix, without_last};
 use std::alloc::Global;
@@ -106,7 +106,7 @@ fn own_steps(step: Step, others: &[Step]) -> &[Step]
 pub fn following(step: Step, others: &[Step]) -> &[Step]
     ensures { result.now ≡ following step others.now }
 {
-    pass(others, own_count(step))
+    skip_steps(others, own_count(step))
 }
 
 /// The character that ends a run of the step; a line feed if the step has no run.
@@ -169,7 +169,7 @@ pub fn has(row: &[bool], count: usize) -> bool
     ensures { result ≡ has row.now count }
 {
     match row.get(count) {
-        Some(is_taken) => *is_taken,
+        Some(does_match) => *does_match,
         None => false,
     }
 }
@@ -190,9 +190,9 @@ struct Ends {
 /// follows, `here` the place itself if the steps after `step` match the rest, and `onward` the end
 /// if a run consumes the next character.
 fn ends_of(step: Step, next: Option<usize>, here: Option<usize>, onward: Option<usize>) -> Ends
-    ensures begun { result.begun ≡ begun_of step next here onward }
-    ensures later { result.later ≡ later_of step next here onward }
-    ensures whole { result.whole ≡ whole_of step next here onward }
+    ensures begun { result.begun ≡ result_after_literal step next here onward }
+    ensures later { result.later ≡ result_within_run step next here onward }
+    ensures whole { result.whole ≡ result_at_start step next here onward }
 {
     let stopping = next.or(here);
     let (begun, later, whole) = match step {
@@ -204,7 +204,7 @@ fn ends_of(step: Step, next: Option<usize>, here: Option<usize>, onward: Option<
         Step::RepeatedLiteral(copies) if copies.allows_zero => (stopping, None, stopping),
         Step::RepeatedLiteral(_) => (stopping, None, next),
         Step::Segments(segments) => {
-            let (whole, later) = ends(segments.is_greedy, onward, stopping);
+            let (whole, later) = choose_ends(segments.is_greedy, onward, stopping);
             (whole, later, whole)
         }
         Step::OptionalGroup(_) => (None, None, None),

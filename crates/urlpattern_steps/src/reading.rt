@@ -3,7 +3,7 @@
 ghost use Rattle.std.specs.Prelude.{◌≡◌, ◌↔◌, ◌∷◌, ℕ, ◌<◌, ◌≤◌, List, length, drop, codes, IfNone, IfOk, IfSome, IsTrue};
 ghost use Rattle.std.specs.Str.{chars};
 ghost use Rattle.urlpattern_meaning.specs.GeneratedTexts.{IsGenerated};
-ghost use Rattle.urlpattern_steps.specs.ReadSteps.{AddsSegments, AreCopySteps, AreGrouped, AreLiterals, AreStepsOf, ClosesSegments, IsStepGroup, MakeUp, ReadsLast, ReadsSegments};
+ghost use Rattle.urlpattern_steps.specs.ReadSteps.{AddsSegments, AreCopySteps, AreGrouped, AreLiterals, AreStepsOf, ClosesSegments, IsStepGroup, ReadsLast, ReadsSegments, SpellLiteral};
 ghost use Rattle.urlpattern_steps.specs.Walk.{capture_count};
 
 use crate::step::{Group, LiteralString, RepeatedLiteral, Segments, Step};
@@ -113,7 +113,7 @@ fn close_copies(steps: &mut Vec<Step>, first: usize, allows_zero: bool) -> bool
 /// The literal that the steps spell, a character each. `None`: some step is not literal, or there
 /// are no steps.
 fn literal_string_of(steps: &[Step]) -> Option<LiteralString>
-    ensures text { IfSome result (λ text. MakeUp steps.now text) }
+    ensures text { IfSome result (λ text. SpellLiteral steps.now text) }
     ensures other { IfNone result ((first : ℕ) (others : List Step)
         → steps.now ≡ Step.Literal first ∷ others
         → ¬ AreLiterals others) }

@@ -10,7 +10,7 @@ use crate::text_cuts::{after_same, is_same, without_last};
 use urlpattern_syntax::text::split_first;
 
 /// The steps after the first `count`, or no steps if there are fewer.
-pub fn pass(steps: &[Step], count: usize) -> &[Step]
+pub fn skip_steps(steps: &[Step], count: usize) -> &[Step]
     ensures { result.now ≡ drop count steps.now }
 {
     steps.get(count..).unwrap_or(&[])
@@ -157,7 +157,7 @@ pub fn end_if_continued(
 /// end for a run that begins at the place, and the end for a run that began before.
 ///
 /// Greedy runs prefer `onward` and may be empty; lazy runs prefer `stopping` and are not empty.
-pub fn ends(
+pub fn choose_ends(
     is_greedy: bool,
     onward: Option<usize>,
     stopping: Option<usize>,

@@ -5,14 +5,14 @@ ghost use Rattle.std.specs.Str.{chars};
 ghost use Rattle.urlpattern_meaning.specs.CaptureTexts.{captures_view};
 ghost use Rattle.urlpattern_steps.specs.FailedStates.{IsStateOf};
 ghost use Rattle.urlpattern_steps.specs.Walk.{captured_prefix, walk};
-ghost use Rattle.urlpattern_steps.specs.Taken.{MatchesRestIfOk, MatchesInTurn};
+ghost use Rattle.urlpattern_steps.specs.AddedCaptures.{MatchesRestIfOk, MatchesInTurn};
 
 mod copies;
 mod runs;
 mod segments;
 
 use crate::failed_states::FailedStates;
-use crate::repeats::pass;
+use crate::repeats::skip_steps;
 use crate::run_ends::has_one_end;
 use crate::step::{Group, Step};
 use crate::text_cuts::{after_same, split_at_first};
@@ -29,7 +29,7 @@ struct Attempt<'s, 't> {
 }
 
 /// Whether steps match a whole text, or that memory ran out.
-type Taken = Result<bool, OutOfMemory>;
+type DoesMatch = Result<bool, OutOfMemory>;
 
 /// Returns the captures of the steps, if they match the whole text. A capture in an optional group
 /// that does not match is `None`. `None` instead of captures: no match.
@@ -61,7 +61,7 @@ impl<'t> Attempt<'_, 't> {
     /// Whether the steps match the whole text. On a match their captures are added to
     /// `self.captures`, otherwise none.
     #[cycle(following)]
-    fn match_rest(&mut self, ignore_case: bool, steps: &[Step], text: &'t str) -> Taken
+    fn match_rest(&mut self, ignore_case: bool, steps: &[Step], text: &'t str) -> DoesMatch
         requires { IsStateOf ignore_case self.old.failed steps.now (chars text.now) }
         ensures { MatchesRestIfOk self.old self.new result
             (walk ignore_case steps.now (chars text.now)) }
@@ -79,7 +79,7 @@ impl<'t> Attempt<'_, 't> {
     ///
     /// The steps up to the first with a choice are matched in a loop, without a call for each.
     #[cycle(following)]
-    fn match_in_turn(&mut self, ignore_case: bool, steps: &[Step], text: &'t str) -> Taken
+    fn match_in_turn(&mut self, ignore_case: bool, steps: &[Step], text: &'t str) -> DoesMatch
         requires { IsStateOf ignore_case self.old.failed steps.now (chars text.now) }
         ensures { IfOk result (λ taken.
             MatchesInTurn self.old self.new taken (walk ignore_case steps.now (chars text.now))) }
@@ -135,7 +135,7 @@ impl<'t> Attempt<'_, 't> {
         steps: &[Step],
         others: &[Step],
         text: &'t str,
-    ) -> Taken
+    ) -> DoesMatch
         requires state { IsStateOf ignore_case self.old.failed steps.now (chars text.now) }
         requires first { steps.now ≡ step.now ∷ others.now }
         ensures { IfOk result (λ taken.
@@ -163,7 +163,7 @@ impl<'t> Attempt<'_, 't> {
         steps: &[Step],
         others: &[Step],
         text: &'t str,
-    ) -> Taken
+    ) -> DoesMatch
         requires state { IsStateOf ignore_case self.old.failed steps.now (chars text.now) }
         requires first { steps.now ≡ step.now ∷ others.now }
         ensures { IfOk result (λ taken.
@@ -198,7 +198,7 @@ impl<'t> Attempt<'_, 't> {
         group: Group,
         others: &[Step],
         text: &'t str,
-    ) -> Taken
+    ) -> DoesMatch
         requires { IsStateOf ignore_case self.old.failed others.now (chars text.now) }
         ensures { IfOk result (λ taken.
             MatchesInTurn self.old self.new taken
@@ -208,7 +208,7 @@ impl<'t> Attempt<'_, 't> {
             return Ok(true);
         }
         push_unmatched(&mut self.captures, group.captures)?;
-        self.match_in_turn(ignore_case, pass(others, group.steps), text)
+        self.match_in_turn(ignore_case, skip_steps(others, group.steps), text)
     }
 
     /// Whether the steps match the whole of `rest`, which follows the captured prefix `front`. On a
@@ -220,7 +220,7 @@ impl<'t> Attempt<'_, 't> {
         front: &'t str,
         steps: &[Step],
         rest: &'t str,
-    ) -> Taken
+    ) -> DoesMatch
         requires { IsStateOf ignore_case self.old.failed steps.now (chars rest.now) }
         ensures { MatchesRestIfOk self.old self.new result
             (captured_prefix (walk ignore_case steps.now) (chars front.now) (chars rest.now)) }

@@ -8,7 +8,7 @@ use Rattle.urlpattern_syntax.specs.{Options.OptionsView, RegexpText.group_names}
 use Rattle.urlpattern_syntax.specs.Parts.{PartModifier, PartView}
 use Rattle.urlpattern_syntax.specs.Text.{BeginsWith, is_name_start}
 use Rattle.urlpattern_syntax.specs.Pieces.{Piece, Placeholder, Ending, IsPiece, IsEnding, IsPlaceholderOf, IsModifier, TakesModifier, TakesRegexp, AreTexts, BeginsWithKind, is_text}
-use Rattle.urlpattern_syntax.specs.Reading.{AreMet, AreParts, Demand, Encode, Encoding, FirstFails, Item, Fixed, Capture, NewName, encode_fixed}
+use Rattle.urlpattern_syntax.specs.Reading.{AreMet, AreParts, Demand, Encode, Encoding, FirstFails, Item, Fixed, Capture, NewName, fixed_text_demands}
 use Rattle.urlpattern_syntax.specs.Tokens.{Token, TokenView, token_view}
 
 -- The views of a list of tokens.
@@ -22,12 +22,12 @@ IsModifierSpelled token =
 
 -- The name begins with a character that may begin a name. The number of a group without a name does
 -- not.
-abbrev pub IsGiven : List ℕ → Type 0
-IsGiven name = BeginsWith is_name_start name
+abbrev pub BeginsAsName : List ℕ → Type 0
+BeginsAsName name = BeginsWith is_name_start name
 
 -- If the token is a Name, its value begins with a character that may begin a name.
 abbrev pub IsNameSpelled : TokenView → Type 0
-IsNameSpelled token = token.kind ≡ Name → IsGiven token.value
+IsNameSpelled token = token.kind ≡ Name → BeginsAsName token.value
 
 -- The tokens are a whole list: the last is End, no other is, and the value of each OtherModifier is
 -- `+` or `?`.
@@ -61,7 +61,7 @@ pub record BeginsWithModifier (tokens : List TokenView) (modifier : PartModifier
 -- The name, if there is a name, begins with a character that may begin a name.
 abbrev pub IsNameGiven : Option (List ℕ) → Type 0
 IsNameGiven None = Unit {0}
-IsNameGiven (Some name) = IsGiven name
+IsNameGiven (Some name) = BeginsAsName name
 
 -- The name in the piece, if there is a name, begins with a character that may begin a name.
 abbrev pub IsPieceNamed : Piece → Type 0
@@ -132,7 +132,8 @@ pub record PartListView : Type 0 where
 -- The demands of items, without one for an ending, after groups with the names `earlier`.
 abbrev pub item_demands : List (List ℕ) → List Item → List Demand
 item_demands earlier [] = []
-item_demands earlier (Fixed text modifier ∷ items) = encode_fixed text ++ item_demands earlier items
+item_demands earlier (Fixed text modifier ∷ items) =
+    fixed_text_demands text ++ item_demands earlier items
 item_demands earlier (Capture prefix name match suffix modifier ∷ items) =
     NewName earlier name ∷ Encode prefix ∷ Encode suffix ∷ item_demands (earlier ++ name ∷ []) items
 

@@ -84,9 +84,9 @@ pub data Demand : Type 0 where
   Expect : TokenType → TokenView → Demand
 
 -- The demand of a fixed text, that the encoding accepts it. An empty text has no demand.
-abbrev pub encode_fixed : List ℕ → List Demand
-encode_fixed [] = []
-encode_fixed (c ∷ text) = Encode (c ∷ text) ∷ []
+abbrev pub fixed_text_demands : List ℕ → List Demand
+fixed_text_demands [] = []
+fixed_text_demands (c ∷ text) = Encode (c ∷ text) ∷ []
 
 -- The demands of the items and of the ending, in order, after groups with the names `earlier`. If a
 -- group lacks its Close, a last fixed text without modifier is not encoded.
@@ -96,7 +96,7 @@ demands_after earlier [] (Ending.LacksClose found) = Expect TokenType.Close foun
 demands_after earlier (Fixed text PartModifier.None ∷ []) (Ending.LacksClose found) =
     Expect TokenType.Close found ∷ []
 demands_after earlier (Fixed text modifier ∷ items) ending =
-    encode_fixed text ++ demands_after earlier items ending
+    fixed_text_demands text ++ demands_after earlier items ending
 demands_after earlier (Capture prefix name match suffix modifier ∷ items) ending =
     NewName earlier name ∷ Encode prefix ∷ Encode suffix
     ∷ demands_after (earlier ++ name ∷ []) items ending

@@ -82,7 +82,7 @@ impl<R: RegExp> UrlPatternList<R> {
             pathname: texts.pathname,
         });
         match self.next_candidate(&hashes, from) {
-            Some(index) => self.first_listed(alloc, texts, &hashes, index),
+            Some(index) => self.first_from_candidate(alloc, texts, &hashes, index),
             None => Ok(None),
         }
     }
@@ -91,7 +91,7 @@ impl<R: RegExp> UrlPatternList<R> {
     /// match. `hashes` are those of the texts. `None`: no such pattern matches.
     ///
     /// Only an engine allocates.
-    pub(super) fn first_listed<'p, 'u>(
+    pub(super) fn first_from_candidate<'p, 'u>(
         &'p self,
         alloc: Global,
         texts: &Eight<&'u str>,

@@ -4,7 +4,7 @@ ghost use Rattle.std.specs.Str.{chars};
 ghost use Rattle.urlpattern_canonical.specs.Canonical.{Reports};
 ghost use Rattle.urlpattern_init.specs.Inheritance as spec;
 ghost use Rattle.urlpattern_init.specs.Inheritance.{bytes_of, longest_init_bytes, init_values, is_inheritable, missing, must_lack, up_to_last_slash, values_of, values_view};
-ghost use Rattle.urlpattern_init.specs.Processing.{IsFailureIn, IsGivenPathnameResult, IsTextResult, IsValueAfter, bytes_in, given_values, lacking_in, optional_bytes, value_in, values_in};
+ghost use Rattle.urlpattern_init.specs.Processing.{IsFailureIn, IsGivenPathnameResult, IsTextResult, IsValueUnlessProtocol, bytes_in, given_values, lacking_in, optional_bytes, value_in, values_in};
 ghost use Rattle.urlpattern_components.specs.declared.eight.ComponentName.{ComponentName};
 ghost use Rattle.urlpattern_components.specs.Eight.{at};
 ghost use Rattle.urlpattern_syntax.specs.Errors.{MemoryOr, OnlyOutOfMemory};
@@ -150,30 +150,32 @@ impl Processing<'_> {
         ensures err { IfErr result (MemoryOr (Reports (values_in self.now) (bytes_in self.now))) }
     {
         let value = |name: ComponentName| -> Result<Option<String>, Error>
-            ensures { IsValueAfter self.entry.now (option_map text_of protocol) name result }
-        { self.value_after(name, &protocol) };
+            ensures { IsValueUnlessProtocol self.entry.now (option_map text_of protocol) name
+                result }
+        { self.value_unless_protocol(name, &protocol) };
         let mut values = Eight::try_from_fn(value)?;
         values.protocol = protocol;
         Ok(values)
     }
 
-    /// Returns the processed value of a component other than the protocol, like `value_under`;
-    /// `None` for the protocol, which is processed before the others.
-    fn value_after(
+    /// Returns the processed value of a component other than the protocol, like
+    /// `value_with_owned_protocol`; `None` for the protocol, which is processed before the others.
+    fn value_unless_protocol(
         &self,
         component: ComponentName,
         protocol: &Option<String>,
     ) -> Result<Option<String>, Error>
-        ensures { IsValueAfter self.now (option_map text_of protocol.now) component result }
+        ensures { IsValueUnlessProtocol self.now (option_map text_of protocol.now) component
+            result }
     {
         match component {
             ComponentName::Protocol => Ok(None),
-            _ => self.value_under(component, protocol),
+            _ => self.value_with_owned_protocol(component, protocol),
         }
     }
 
     /// Returns the processed value of a component like `value`, from a `protocol` that is owned.
-    fn value_under(
+    fn value_with_owned_protocol(
         &self,
         component: ComponentName,
         protocol: &Option<String>,

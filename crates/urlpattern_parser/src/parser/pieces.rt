@@ -5,7 +5,7 @@ ghost use Rattle.std.specs.Prelude.{◌≡◌, ◌≢◌, ◌∷◌, ◌<◌, �
 ghost use Rattle.std.specs.Str.{chars};
 ghost use Rattle.urlpattern_syntax.specs.declared.tokenizer.TokenType.TheVariants as kinds;
 ghost use Rattle.urlpattern_syntax.specs.Parsing.{BeginsWithModifier, BeginsWithTexts, IsNameGiven};
-ghost use Rattle.urlpattern_parser.specs.Readers.{HasTokensLeft, IsNext, IsNextAfter, IsNextNamed, IsShorter, IsAtPlace, StartsText, Consumes, ConsumesClose, ConsumesPlaceholder, ConsumesRow, reader_left, reader_text};
+ghost use Rattle.urlpattern_parser.specs.Readers.{HasTokensLeft, IsNext, IsNextAfter, IsNextNamed, IsShorter, IsAtPlace, StartsText, Consumes, ConsumesClose, ConsumesPlaceholder, ConsumesCharacters, reader_left, reader_text};
 ghost use Rattle.urlpattern_syntax.specs.Pieces.{is_placeholder, is_text};
 ghost use Rattle.urlpattern_syntax.specs.Text.{option_text, text_of};
 ghost use Rattle.urlpattern_syntax.specs.Tokens.{ReportsFault, TokenView, token_view};
@@ -186,7 +186,7 @@ impl<'a> Reader<'a> {
         requires stands { IsAtPlace self.old }
         requires character { self.old.token.kind ≡ kinds.Char }
         ensures first { IfOk result (λ taken. taken.0 ≡ self.old.token.value) }
-        ensures more { IfOk result (λ taken. ConsumesRow self.old self.new taken.1) }
+        ensures more { IfOk result (λ taken. ConsumesCharacters self.old self.new taken.1) }
         ensures less { OnOk result (reader_left self.new < reader_left self.old) }
         ensures fault { IfErr result (ReportsFault (reader_text self.old)) }
     {

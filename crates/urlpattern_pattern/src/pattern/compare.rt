@@ -1,7 +1,7 @@
 //! Compares patterns by the parts that they were made of.
 ghost use Rattle.std.specs.Prelude.{◌≡◌, IfErr, IfOk, Some};
 ghost use Rattle.urlpattern_components.specs.Eight.{at};
-ghost use Rattle.urlpattern_pattern.specs.PatternComparing.{HaveParts, LackParts, OfBoth, compare_error_text};
+ghost use Rattle.urlpattern_pattern.specs.PatternComparing.{HaveParts, LackParts, OfPartsOfBoth, compare_error_text};
 ghost use Rattle.urlpattern_pattern.specs.declared.pattern.compare.CompareError.TheVariants as errors;
 ghost use Rattle.urlpattern_compare.specs.Comparing.{IsPatternCovering, IsPatternOverlap};
 ghost use Rattle.urlpattern_compare.specs.Order.{parts_cmp};
@@ -55,7 +55,8 @@ impl<R: RegExp> UrlPattern<R> {
     /// The error is that a pattern was put together by hand and has no parts, or that memory ran
     /// out.
     pub fn covers(&self, alloc: Global, asked: &Self) -> Result<PatternCovering, CompareError>
-        ensures covering { IfOk result (λ covering. OfBoth self.now asked.now (λ parts others.
+        ensures covering { IfOk result (λ covering.
+            OfPartsOfBoth self.now asked.now (λ parts others.
             IsPatternCovering parts others covering)) }
         ensures missing { IfErr result (LackParts self.now asked.now) }
     {
@@ -71,7 +72,7 @@ impl<R: RegExp> UrlPattern<R> {
     /// The error is that a pattern was put together by hand and has no parts, or that memory ran
     /// out.
     pub fn overlaps(&self, alloc: Global, other: &Self) -> Result<PatternOverlap, CompareError>
-        ensures overlap { IfOk result (λ overlap. OfBoth self.now other.now (λ parts others.
+        ensures overlap { IfOk result (λ overlap. OfPartsOfBoth self.now other.now (λ parts others.
             IsPatternOverlap parts others overlap)) }
         ensures missing { IfErr result (LackParts self.now other.now) }
     {
@@ -90,7 +91,7 @@ impl<R: RegExp> UrlPattern<R> {
         left: &Self,
         right: &Self,
     ) -> Result<Ordering, CompareError>
-        ensures order { IfOk result (λ order. OfBoth left.now right.now (λ parts others.
+        ensures order { IfOk result (λ order. OfPartsOfBoth left.now right.now (λ parts others.
             order
             ≡ parts_cmp (at parts.components component).parts.items
             (at others.components component).parts.items)) }

@@ -26,7 +26,7 @@ use urlpattern_inputs::MatchInput;
 use urlpattern_matcher::matcher::Look;
 use urlpattern_matcher::regexp::RegExp;
 use urlpattern_matches::{
-    GroupCaptures, Missed, UrlPatternCaptures, UrlPatternResult, assemble_match, input_texts,
+    GroupCaptures, NoCaptures, UrlPatternCaptures, UrlPatternResult, assemble_match, input_texts,
     parse_match_input, url_texts,
 };
 use urlpattern_syntax::Error;
@@ -357,7 +357,7 @@ fn finish_looks<'u, R: RegExp>(
 {
     match looks.try_map(|look| GroupCaptures::of_look(alloc, look)) {
         Ok(captures) => Ok(Some(captures)),
-        Err(Missed::Unmatched) => Ok(None),
-        Err(Missed::OutOfMemory) => Err(OutOfMemory),
+        Err(NoCaptures::Unmatched) => Ok(None),
+        Err(NoCaptures::OutOfMemory) => Err(OutOfMemory),
     }
 }

@@ -4,12 +4,12 @@ ghost use Rattle.std.specs.Prelude.{◌≡◌, ◌∷◌};
 ghost use Rattle.std.specs.Str.{chars};
 ghost use Rattle.urlpattern_steps.specs.FailedStates.{IsStateOf};
 ghost use Rattle.urlpattern_steps.specs.Walk.{walk};
-ghost use Rattle.urlpattern_steps.specs.Taken.{MatchesRestIfOk};
+ghost use Rattle.urlpattern_steps.specs.AddedCaptures.{MatchesRestIfOk};
 
 use crate::run_ends::{longest_prefix, memoize_run, next_of_run};
 use crate::step::{Run, Step};
 use crate::text_cuts::{after_prefix, split_at_first, without_last};
-use crate::walk::{Attempt, Taken};
+use crate::walk::{Attempt, DoesMatch};
 use urlpattern_syntax::text::before;
 
 impl<'t> Attempt<'_, 't> {
@@ -24,7 +24,7 @@ impl<'t> Attempt<'_, 't> {
         steps: &[Step],
         others: &[Step],
         text: &'t str,
-    ) -> Taken
+    ) -> DoesMatch
         requires state { IsStateOf ignore_case self.old.failed steps.now (chars text.now) }
         requires first { steps.now ≡ Step.LazyRun end ∷ others.now }
         ensures { MatchesRestIfOk self.old self.new result
@@ -51,7 +51,7 @@ impl<'t> Attempt<'_, 't> {
         steps: &[Step],
         others: &[Step],
         text: &'t str,
-    ) -> Taken
+    ) -> DoesMatch
         requires state { IsStateOf ignore_case self.old.failed steps.now (chars text.now) }
         requires first { steps.now ≡ Step.DotStar ∷ others.now }
         ensures { MatchesRestIfOk self.old self.new result
@@ -81,7 +81,7 @@ impl<'t> Attempt<'_, 't> {
         run: Run,
         steps: &[Step],
         text: &'t str,
-    ) -> Taken
+    ) -> DoesMatch
         requires { IsStateOf ignore_case self.old.failed steps.now (chars text.now) }
         ensures { MatchesRestIfOk self.old self.new result
             (walk ignore_case (Step.GreedyRun run ∷ steps.now) (chars text.now)) }

@@ -4,12 +4,12 @@ ghost use Rattle.std.specs.Prelude.{◌∷◌, IfOk, OnOk};
 ghost use Rattle.std.specs.Str.{chars};
 ghost use Rattle.urlpattern_steps.specs.FailedStates.{IsStateOf};
 ghost use Rattle.urlpattern_steps.specs.Walk.{walk};
-ghost use Rattle.urlpattern_steps.specs.Taken.{MatchesRestIfOk, IsEndHere, IsEndOfSegments, Untouched};
+ghost use Rattle.urlpattern_steps.specs.AddedCaptures.{MatchesRestIfOk, IsEndHere, IsEndOfSegments, Untouched};
 
-use crate::repeats::{end_if_continued, ends, entry_after_literal, first_steps, pass};
+use crate::repeats::{choose_ends, end_if_continued, entry_after_literal, first_steps, skip_steps};
 use crate::step::{Segments, Step};
 use crate::text_cuts::{after_prefix, split_at_boundary, without_last};
-use crate::walk::{Attempt, Taken};
+use crate::walk::{Attempt, DoesMatch};
 use std::mem;
 use urlpattern_syntax::error::OutOfMemory;
 
@@ -27,13 +27,13 @@ impl<'t> Attempt<'_, 't> {
         segments: Segments,
         steps: &[Step],
         text: &'t str,
-    ) -> Taken
+    ) -> DoesMatch
         requires { IsStateOf ignore_case self.old.failed steps.now (chars text.now) }
         ensures { MatchesRestIfOk self.old self.new result
             (walk ignore_case (Step.Segments segments ∷ steps.now) (chars text.now)) }
     {
         let literal = first_steps(steps, segments.separator.others);
-        let others = pass(steps, segments.separator.others);
+        let others = skip_steps(steps, segments.separator.others);
         match self.end_of_segments(ignore_case, segments, literal, others, text)? {
             Some(count) => {
                 let (front, rest) = split_at_boundary(text, count);
@@ -77,7 +77,7 @@ impl<'t> Attempt<'_, 't> {
             );
             let stopping = self.end_here(ignore_case, others, next, front.len(), rest)?;
             let onward = end_if_continued(rest, segments.end, ignore_case, later);
-            let (beginning, either) = ends(segments.is_greedy, onward, stopping);
+            let (beginning, either) = choose_ends(segments.is_greedy, onward, stopping);
             let Some(shorter) = without_last(front) else {
                 return Ok(beginning);
             };
@@ -109,8 +109,8 @@ impl<'t> Attempt<'_, 't> {
         }
         let alloc = *self.captures.allocator();
         let captures = mem::replace(&mut self.captures, Vec::new(alloc));
-        let is_taken = self.match_rest(ignore_case, steps, rest)?;
+        let does_match = self.match_rest(ignore_case, steps, rest)?;
         self.captures = captures;
-        if is_taken { Ok(Some(here)) } else { Ok(None) }
+        if does_match { Ok(Some(here)) } else { Ok(None) }
     }
 }

@@ -20,6 +20,6 @@ returns-in-OptionalGroup c =
     let first : IsRow c.args.ignore_case text others c.row_for.result.now =
     row_for_end c.args.ignore_case text others others others c.args.rows.now c.row_for.result.now c.requires (ends_same others) refl c.row_for.ensures in
     let second : IsRow c.args.ignore_case text (drop group.steps others) c.row_for-in-OptionalGroup.result.now =
-    row_for_end c.args.ignore_case text others (drop group.steps others) c.pass-missing.result.now c.args.rows.now c.row_for-in-OptionalGroup.result.now c.requires (ends_drop group.steps others) c.pass-missing.ensures c.row_for-in-OptionalGroup.ensures in
+    row_for_end c.args.ignore_case text others (drop group.steps others) c.skip_steps-missing.result.now c.args.rows.now c.row_for-in-OptionalGroup.result.now c.requires (ends_drop group.steps others) c.skip_steps-missing.ensures c.row_for-in-OptionalGroup.ensures in
     subst (λ s. IfOk c.either.result (λ row. IsRow c.args.ignore_case text (s ∷ others) row.items)) (sym c.in-OptionalGroup.is)
     (row_if_either c.args.ignore_case text group others c.row_for.result.now c.row_for-in-OptionalGroup.result.now c.either.result first second c.either.ensures.len c.either.ensures.bits)

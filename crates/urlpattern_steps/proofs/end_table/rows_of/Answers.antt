@@ -19,9 +19,9 @@ pub row_of-requires : goal.row_of-requires
 row_of-requires c =
     let before = c.loop-step.before.now in
     let others = c.loop-step.invariant.0 in
-    let passed : c.pass-others.result.now ≡ others =
-    c.pass-others.ensures ∙ ap (drop (length before)) c.loop-step.invariant.1 ∙ drop-append_seam before others in
-    subst (λ r. AreRows c.args.ignore_case (chars c.args.text.now) c.pass-others.result.now r) (sym c.deref.ensures.value)
+    let passed : c.skip_steps-others.result.now ≡ others =
+    c.skip_steps-others.ensures ∙ ap (drop (length before)) c.loop-step.invariant.1 ∙ drop-append_seam before others in
+    subst (λ r. AreRows c.args.ignore_case (chars c.args.text.now) c.skip_steps-others.result.now r) (sym c.deref.ensures.value)
     (subst (λ l. AreRows c.args.ignore_case (chars c.args.text.now) l c.loop-step.rows.items) (sym passed) c.loop-step.invariant.2)
 
 pub loop-step-preserved : goal.loop-step-preserved
@@ -32,7 +32,7 @@ loop-step-preserved c =
     let step = c.in-Some.step.now in
     let others = c.loop-step.invariant.0 in
     let whole : c.args.steps.now ≡ before ++ others = c.loop-step.invariant.1 in
-    let passed : c.pass-others.result.now ≡ others = c.pass-others.ensures ∙ ap (drop (length before)) whole ∙ drop-append_seam before others in
+    let passed : c.skip_steps-others.result.now ≡ others = c.skip_steps-others.ensures ∙ ap (drop (length before)) whole ∙ drop-append_seam before others in
     let cut : before ≡ fewer ++ step ∷ [] = c.in-Some.ensures.cases.0 in (
       step ∷ others,
       whole ∙ ap (λ l. l ++ others) cut ∙ append_assoc fewer (step ∷ []) others,

@@ -9,16 +9,17 @@ use Rattle.urlpattern_steps.specs.declared.step.Group.{Group}
 use Rattle.urlpattern_steps.specs.declared.step.Segments.{Segments}
 use Rattle.urlpattern_steps.specs.declared.step.Step.{Step}
 use Rattle.urlpattern_steps.specs.declared.step.Step.TheVariants.{OptionalGroup}
-use Rattle.urlpattern_steps.specs.Table.{HaveRow, following, given}
+use Rattle.urlpattern_steps.specs.Table.{HaveRow, following, step_continuation}
 use Rattle.urlpattern_steps.specs.declared.walk.Attempt.{Attempt}
 use Rattle.urlpattern_steps.specs.Walk.{Continuation, captured_prefix, literal_text, segmented, single_run, walk}
 use Rattle.urlpattern_syntax.specs.Text.{option_text}
 
 -- The number is the length in bytes of a prefix of the text for which the continuation returns
 -- `found`, which is Some. None: `found` is None.
-abbrev pub IsCutFor : Continuation → (text : List ℕ) → Option ℕ → (found : Option Captures) → Type 0
-IsCutFor gives text None found = found ≡ None
-IsCutFor gives text (Some n) found =
+abbrev pub IsPrefixLengthFor : Continuation → (text : List ℕ) → Option ℕ
+    → (found : Option Captures) → Type 0
+IsPrefixLengthFor gives text None found = found ≡ None
+IsPrefixLengthFor gives text (Some n) found =
     (front rest : List ℕ) × IsUtf8 front
     × IsUtf8 rest
     × (text ≡ front ++ rest)
@@ -31,7 +32,7 @@ IsCutFor gives text (Some n) found =
 abbrev pub IsEndOfPrefix : (ignore_case : Bool) → Step → (others : List Step) → (text : List ℕ)
     → Option ℕ → Type 0
 IsEndOfPrefix ignore_case step others text end =
-    IsCutFor (given ignore_case step others) text end
+    IsPrefixLengthFor (step_continuation ignore_case step others) text end
     (walk ignore_case (step ∷ others) (chars text))
 
 -- `end` is the length in bytes of the preferred separated runs at the start of the text after which
@@ -41,7 +42,7 @@ IsEndOfPrefix ignore_case step others text end =
 abbrev pub IsEndOfSegments : (ignore_case : Bool) → Segments
     → (literal others : List Step) → (text : List ℕ) → (end : Option ℕ) → Type 0
 IsEndOfSegments ignore_case segments literal others text end =
-    IsCutFor (captured_prefix (walk ignore_case others)) text end
+    IsPrefixLengthFor (captured_prefix (walk ignore_case others)) text end
     (segmented ignore_case (literal_text segments.separator.first literal)
     (single_run ignore_case segments.is_greedy segments.end)
     (captured_prefix (walk ignore_case others)) [] (chars text))
@@ -67,33 +68,33 @@ with_captures old found = option_map (λ others. map option_text old ++ others) 
 abbrev pub Extends : (old new : Kept) → Type 0
 Extends old new = (added : Kept) × (new ≡ old ++ added)
 
--- If there are captures, `is_taken` is true and `new` has them after `old`; otherwise `is_taken` is
--- false.
-abbrev pub AreAdded : (old new : Kept) → (is_taken : Bool) → Option Captures → Type 0
-AreAdded old new is_taken captures =
-    (if is_taken then Some (map option_text new) else None)
+-- If there are captures, `does_match` is true and `new` has them after `old`; otherwise
+-- `does_match` is false.
+abbrev pub AreAdded : (old new : Kept) → (does_match : Bool) → Option Captures → Type 0
+AreAdded old new does_match captures =
+    (if does_match then Some (map option_text new) else None)
     ≡ option_map (λ others. map option_text old ++ others) captures
 
 -- A vector of captures.
 abbrev pub KeptVec : Type 0
 KeptVec = Vec (Option (Bor (List ℕ))) Global
 
--- If there are captures, `is_taken` is true and the vector `new` has them after those of `old`;
--- otherwise `is_taken` is false.
-abbrev pub Adds : (old new : KeptVec) → (is_taken : Bool) → Option Captures → Type 0
-Adds old new is_taken captures = AreAdded old.items new.items is_taken captures
+-- If there are captures, `does_match` is true and the vector `new` has them after those of `old`;
+-- otherwise `does_match` is false.
+abbrev pub Adds : (old new : KeptVec) → (does_match : Bool) → Option Captures → Type 0
+Adds old new does_match captures = AreAdded old.items new.items does_match captures
 
 -- The captures and the match are unchanged between `old` and `new`.
 pub record Untouched (old new : Attempt) : Type 0 where
   pub same : new.captures.items ≡ old.captures.items
   pub whole : new.failed ≡ old.failed
 
--- `is_taken` is whether captures were found. If so, they were added to the captures, otherwise
+-- `does_match` is whether captures were found. If so, they were added to the captures, otherwise
 -- nothing was.
-pub record MatchesRest (old new : Attempt) (is_taken : Bool) (found : Option Captures) : Type 0
+pub record MatchesRest (old new : Attempt) (does_match : Bool) (found : Option Captures) : Type 0
   where
-    pub adds : Adds old.captures new.captures is_taken found
-    pub same : is_taken ≡ false → new.captures.items ≡ old.captures.items
+    pub adds : Adds old.captures new.captures does_match found
+    pub same : does_match ≡ false → new.captures.items ≡ old.captures.items
     pub whole : new.failed ≡ old.failed
 
 -- If `answered` is Ok, its value is whether captures were found, which were then added to the
@@ -101,14 +102,14 @@ pub record MatchesRest (old new : Attempt) (is_taken : Bool) (found : Option Cap
 abbrev pub MatchesRestIfOk : {E : Type 0} → (old new : Attempt)
     → (answered : Result Bool E) → (found : Option Captures) → Type 0
 MatchesRestIfOk old new answered found =
-    IfOk answered (λ is_taken. MatchesRest old new is_taken found)
+    IfOk answered (λ does_match. MatchesRest old new does_match found)
 
--- `is_taken` is whether captures were found. If so, they were added to the captures, otherwise some
--- captures may have been.
-pub record MatchesInTurn (old new : Attempt) (is_taken : Bool) (found : Option Captures) : Type 0
+-- `does_match` is whether captures were found. If so, they were added to the captures, otherwise
+-- some captures may have been.
+pub record MatchesInTurn (old new : Attempt) (does_match : Bool) (found : Option Captures) : Type 0
   where
-    pub adds : Adds old.captures new.captures is_taken found
-    pub more : is_taken ≡ false → Extends old.captures.items new.captures.items
+    pub adds : Adds old.captures new.captures does_match found
+    pub more : does_match ≡ false → Extends old.captures.items new.captures.items
     pub whole : new.failed ≡ old.failed
 
 -- `old` followed by the captures of `steps` in `text` is `new` followed by the captures of the

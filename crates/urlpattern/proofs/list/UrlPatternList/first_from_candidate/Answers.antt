@@ -8,9 +8,9 @@ use Rattle.urlpattern.specs.FirstMatch.{patterns_view}
 use Rattle.urlpattern.specs.NextMatch.{NoneMatchBetween}
 use Rattle.urlpattern_pattern.specs.Patterns.{pattern_view}
 use Rattle.urlpattern_pattern.specs.UrlPatterns.{UrlPattern}
-use Rattle.urlpattern.proofs.list.UrlPatternList.first_listed.Given as given
-use Rattle.urlpattern.proofs.list.UrlPatternList.first_listed.Goals as goal
-use Rattle.urlpattern.proofs.list.UrlPatternList.first_listed.Goals.{After-index-pattern}
+use Rattle.urlpattern.proofs.list.UrlPatternList.first_from_candidate.Given as given
+use Rattle.urlpattern.proofs.list.UrlPatternList.first_from_candidate.Goals as goal
+use Rattle.urlpattern.proofs.list.UrlPatternList.first_from_candidate.Goals.{After-index-pattern}
 
 -- The pattern that is tried, and the ones before it.
 asked : (g : given.Over) (c : After-index-pattern g) → (c.args.index ≤ c.in-Some.index)

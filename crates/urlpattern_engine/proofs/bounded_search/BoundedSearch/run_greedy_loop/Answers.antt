@@ -1,6 +1,6 @@
 use Rattle.std.proofs.Common.{arith}
 use Rattle.urlpattern_engine.proofs.BoundedSearchLemmas.{none_to_end}
-use Rattle.urlpattern_engine.proofs.bounded_search.BoundedSearch.pass_body.Goals as goal
+use Rattle.urlpattern_engine.proofs.bounded_search.BoundedSearch.run_greedy_loop.Goals as goal
 
 pub returns-clause-fails : goal.returns-clause-fails
 returns-clause-fails c failed =

@@ -3,7 +3,7 @@ use Rattle.urlpattern_compile.specs.Compiled.{IsComponentRejected}
 use Rattle.urlpattern_compile.specs.CompilerSteps.{settings_by}
 use Rattle.urlpattern_compile.proofs.CompiledLemmas.{one_compiled}
 use Rattle.urlpattern_compile.proofs.DiagnosisLemmas.{is_other}
-use Rattle.urlpattern_compile.proofs.compile.Compiler.refused.Goals as goal
+use Rattle.urlpattern_compile.proofs.compile.Compiler.rejection_of.Goals as goal
 
 pub returns-in_ok-error-in-Err-clause-refused : goal.returns-in_ok-error-in-Err-clause-refused
 returns-in_ok-error-in-Err-clause-refused g c = (

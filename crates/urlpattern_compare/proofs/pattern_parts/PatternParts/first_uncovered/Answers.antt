@@ -3,7 +3,7 @@ use Rattle.urlpattern_compare.proofs.PatternPartLemmas.{IsSoFar, so_far_all, so_
 use Rattle.urlpattern_compare.specs.Comparing.{IsComponentCovering}
 use Rattle.urlpattern_components.specs.Eight.{at}
 use Rattle.urlpattern_components.specs.declared.eight.ComponentName.TheVariants.{Protocol}
-use Rattle.urlpattern_compare.proofs.pattern_parts.PatternParts.first_parting.Goals as goal
+use Rattle.urlpattern_compare.proofs.pattern_parts.PatternParts.first_uncovered.Goals as goal
 
 pub loop-name-init : goal.loop-name-init
 loop-name-init c = λ k d lt. absurd (omega arith)

@@ -1,7 +1,7 @@
 use Rattle.std.proofs.Common.{get_or, false, ap₂, ◌∙◌}
 use Rattle.std.specs.Str.{chars}
 use Rattle.urlpattern_steps.proofs.FailedLemmas.{ends_same}
-use Rattle.urlpattern_steps.proofs.end_table.is_taken.Goals as goal
+use Rattle.urlpattern_steps.proofs.end_table.does_match.Goals as goal
 
 pub returns : goal.returns
 returns c = λ ignore_case row.

@@ -1,6 +1,6 @@
 use Rattle.std.proofs.Common.{rules, ◌≡◌}
 use Rattle.urlpattern_syntax.specs.RegexpText.{is_fixed_text}
-use Rattle.urlpattern_printing.proofs.printed.leaves_prefix.Goals as goal
+use Rattle.urlpattern_printing.proofs.printed.is_text_ending_with_prefix.Goals as goal
 
 pub returns-then-eq : goal.returns-then-eq
 returns-then-eq c =

@@ -2,7 +2,7 @@ use Rattle.std.proofs.Common.{◌≡◌, subst}
 use Rattle.std.specs.List.{list_any}
 use Rattle.urlpattern_compare.specs.Answers.{is_custom_part}
 use Rattle.urlpattern_compare.proofs.SameParts.{settled_by}
-use Rattle.urlpattern_compare.proofs.component_coverage.is_settled.Goals as goal
+use Rattle.urlpattern_compare.proofs.component_coverage.is_case_kept_or_generated.Goals as goal
 
 pub returns-else-not-component : goal.returns-else-not-component
 returns-else-not-component c =

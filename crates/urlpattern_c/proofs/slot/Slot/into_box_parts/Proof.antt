@@ -1,4 +1,4 @@
--- `into_loose` gives up a pointer that is not null.
+-- `into_box_parts` gives up a pointer that is not null.
 use Rattle.std.proofs.Common.{◌≡◌, List, [], ◌∷◌, ◌++◌, refl, sym, subst}
 use Rattle.std.specs.Prelude.{IsSome, Option, Some}
 use mir.Val.{Val, vptr}
@@ -29,10 +29,10 @@ use Rattle.urlpattern_c.specs.Memory.{heap, leads_to}
 use Rattle.urlpattern_ffi.specs.contracts.pattern_box.PatternBox as kept
 use Rattle.urlpattern_ffi.specs.declared.pattern_box.PatternBox.{PatternBox}
 use Rattle.urlpattern_c.proofs.Values.{both, single, Slot, loose_good, loose_in, slot_out, filled}
-use Rattle.urlpattern_c.specs.contracts.slot.Slot.into_loose.{ended, clauses}
-use Rattle.urlpattern_c.specs.contracts.slot.Slot.into_loose.Key.{name as #self}
-use Rattle.urlpattern_c.proofs.slot.Slot.into_loose.Statement.{statement}
-use Rattle.urlpattern_c.proofs.slot.Slot.into_loose.Code as code
+use Rattle.urlpattern_c.specs.contracts.slot.Slot.into_box_parts.{ended, clauses}
+use Rattle.urlpattern_c.specs.contracts.slot.Slot.into_box_parts.Key.{name as #self}
+use Rattle.urlpattern_c.proofs.slot.Slot.into_box_parts.Statement.{statement}
+use Rattle.urlpattern_c.proofs.slot.Slot.into_box_parts.Code as code
 
 pub into_loose_spec : {M : Type 1} → statement M
 into_loose_spec 𝓤 𝓛 𝓜 𝓡 wired =

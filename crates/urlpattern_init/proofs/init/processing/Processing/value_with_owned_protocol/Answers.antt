@@ -2,7 +2,7 @@ use Rattle.std.proofs.Common.{◌≡◌, ◌∙◌, sym, ap, length}
 use Rattle.std.specs.Str.{chars}
 use Rattle.urlpattern_syntax.proofs.TextLemmas.{byte_len-chars}
 use Rattle.urlpattern_syntax.specs.Text.{byte_len, text_of}
-use Rattle.urlpattern_init.proofs.init.processing.Processing.value_under.Goals as goal
+use Rattle.urlpattern_init.proofs.init.processing.Processing.value_with_owned_protocol.Goals as goal
 
 pub returns-in-Some-clause-err : goal.returns-in-Some-clause-err
 returns-in-Some-clause-err c =

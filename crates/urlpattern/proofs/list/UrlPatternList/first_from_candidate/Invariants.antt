@@ -1,7 +1,7 @@
 use Rattle.std.proofs.Common.{length}
 use Rattle.urlpattern_matches.specs.GroupTexts.{borrowed_texts}
 use Rattle.urlpattern.proofs.NextLemmas.{IsNext, left}
-use Rattle.urlpattern.proofs.list.UrlPatternList.first_listed.Given as goal
+use Rattle.urlpattern.proofs.list.UrlPatternList.first_from_candidate.Given as goal
 
 abbrev pub invariant-loop-found : goal.invariant-loop-found
 invariant-loop-found g l = IsNext g.R.RegExp.answer (borrowed_texts l.texts) l.fn.self l.fn.index l.found
