@@ -17,7 +17,7 @@
 #include <stdlib.h>
 #include <string.h>
 
-enum { WORDS = 8, ROOM = 1 << 20, EDGE = 8, COMPONENTS = 8, SPANS = 1 << 12 };
+enum { WORDS = 8, ROOM = 1 << 20, EDGE = 8, COMPONENTS = 8, SPANS = 1 << 12, NO_STATUS = 255 };
 enum { BEGIN = 1, MIDDLE = 2, END = 3, NUMBERS = 5 };
 
 typedef struct {
@@ -244,11 +244,11 @@ static void ask_first(char **words, unsigned number) {
     compare(is_right && is_same_first(url, base, wanted, wanted_index), number, status);
 }
 
-/* Whether a pattern covers the asked one. Returns the status, or a number that is none if another component is written than the wanted one. */
+/* Whether a pattern covers the asked one. Returns the status, or `NO_STATUS` if another component is written than the wanted one. */
 static uint32_t covers(size_t index, urlpattern_list *list, size_t asked, uint32_t wanted) {
     uint32_t component = COMPONENTS + 1;
     uint32_t status = urlpattern_covers(&patterns, index, list, asked, &component);
-    return component == wanted ? status : URLPATTERN_UNKNOWN + 1;
+    return component == wanted ? status : NO_STATUS;
 }
 
 /* Whether both ways of comparing give the answer, and report indices that have no pattern; and whether the patterns are as they were. */

@@ -3,6 +3,6 @@ use Rattle.std.specs.Prelude.{ℕ, List}
 use Rattle.urlpattern.specs.Comparing.{CoversAt}
 use Rattle.urlpattern.specs.PatternParts.{PatternParts}
 
--- A granted pattern covers the asked one.
+-- Some pattern of the list of granted patterns covers the asked one.
 abbrev pub IsGranted : List PatternParts → (asked : PatternParts) → Type 0
 IsGranted granted asked = (index : ℕ) × CoversAt granted asked index

@@ -1,4 +1,5 @@
--- The capture of a group in the match of an input.
+-- What the group for the user captures of a URL or of a path. `answer` is what an engine returns
+-- for a text.
 use Rattle.std.specs.Prelude.{◌≡◌, ◌⊎◌, ℕ, List, codes, Option, None, Some}
 use Rattle.std.specs.Str.{chars}
 use Rattle.url.specs.Parts.{Parts}
@@ -12,15 +13,16 @@ use Rattle.urlpattern.specs.UrlPatternMatchInput.TheVariants as inputs
 use Rattle.urlpattern.specs.ComponentName.{ComponentName}
 use Rattle.urlpattern.specs.ComponentName.TheVariants.{Pathname}
 
--- The pattern matches the input, and the group of the component with this name captures this text;
--- `None` if there is no such group or it takes no part.
+-- The pattern matches the input, and `capture` is what the group `name` of the component captures.
+-- `None`: there is no such group, or it takes no part.
 abbrev pub IsCaptured : {E : Type 0} → (answer : E → List ℕ → Option Captures) → PatternView E
     → UrlPatternMatchInput → ComponentName → (name : List ℕ) → Option (List ℕ) → Type 0
 IsCaptured answer pattern input component name capture =
     (result : ComponentName → ResultView) × IsMatch answer pattern input result
     × (captured_text (result component) name ≡ capture)
 
--- The user that the URL names: the capture of the group `id` of the path.
+-- The pattern of users matches the URL, and `user` is what the group `id` of the path captures.
+-- `None`: the group takes no part.
 abbrev pub NamesUser : {E : Type 0} → (answer : E → List ℕ → Option Captures)
     → (users : PatternView E) → Parts → Option (List ℕ) → Type 0
 NamesUser answer users url user =
@@ -32,15 +34,15 @@ abbrev pub NamesNone : {E : Type 0} → (answer : E → List ℕ → Option Capt
 NamesNone answer users url =
     HasNoMatch answer users (inputs.Url url) ⊎ NamesUser answer users url None
 
--- The capture of the group `id` for a path that the pattern of users matches, all other components
--- being empty.
+-- The pattern of users matches the path, all other components being empty, and `id` is what the
+-- group `id` captures. `None`: the group takes no part.
 abbrev pub CapturesIdOfPath : {E : Type 0} → (answer : E → List ℕ → Option Captures)
     → (users : PatternView E) → (path : List ℕ) → Option (List ℕ) → Type 0
 CapturesIdOfPath answer users path id =
     (result : ComponentName → ResultView) × IsMatchOf answer users (pathname_alone path) result
     × (captured_text (result Pathname) (chars (codes "id")) ≡ id)
 
--- The user that a path names.
+-- The pattern of users matches the path, and the group `id` captures `user`.
 abbrev pub PathNamesUser : {E : Type 0} → (answer : E → List ℕ → Option Captures)
     → (users : PatternView E) → (path user : List ℕ) → Type 0
 PathNamesUser answer users path user = CapturesIdOfPath answer users path (Some user)

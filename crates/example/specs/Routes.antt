@@ -11,7 +11,8 @@ use Rattle.urlpattern.specs.PatternMaps.{entry_patterns}
 use Rattle.urlpattern.specs.UrlPattern.{UrlPattern}
 use Rattle.urlpattern.specs.UrlPatternMatchInput.TheVariants as inputs
 
--- The first route that matches the URL has this value, and its group `id` has this capture.
+-- The first route that matches the URL has the value `value`, and its group `id` of the path
+-- captures `id`. `None`: the route has no such group, or the group takes no part.
 abbrev pub ShowsValue : {E T : Type 0} → (answer : E → List ℕ → Option Captures)
     → (routes : List (UrlPattern E × T)) → Parts → (value : T) → (id : Option (List ℕ)) → Type 0
 ShowsValue answer routes url value id =

@@ -9,11 +9,11 @@ use Rattle.urlpattern.specs.Printing.{joined}
 use Rattle.urlpattern.specs.ParserOptions.{Options}
 use Rattle.urlpattern.specs.Part.{Part}
 
--- The new parts are the old ones, neighbouring plain fixed texts joined.
+-- `again` is `parts` with neighbouring plain fixed texts joined.
 abbrev pub AreJoined : List Part → (again : Vec Part Global) → Type 0
 AreJoined parts again = parts_view again.items ≡ joined (parts_view parts)
 
--- The new parts mean the same as the old ones.
+-- `again` means what `parts` mean: the same texts with the same captures.
 abbrev pub KeepMeaning : Options → List Part → (again : Vec Part Global) → Type 0
 KeepMeaning options parts again =
     MeanTheSame (options_view options) (parts_view again.items) (parts_view parts)

@@ -15,8 +15,8 @@ use Rattle.urlpattern.specs.Text.{lacks}
 use Rattle.urlpattern.specs.UrlPatternOptions.{UrlPatternOptions}
 use Rattle.urlpattern.specs.UrlPatterns.{UrlPattern}
 
--- The URL is that of the user with this id: `https`, the host `example.com` without a port, and the
--- path `/users/` with the id, which is not empty and has no slash.
+-- `url` is the URL of the user `id`: `https`, the host `example.com` without a port, and the path
+-- `/users/` with the id, which is not empty and has no slash.
 pub record IsUser (url : Parts) (id : List ℕ) : Type 0 where
   pub scheme : url.scheme ≡ codes "https"
   pub host : url.host ≡ Some (Domain (codes "example.com"))
@@ -25,11 +25,11 @@ pub record IsUser (url : Parts) (id : List ℕ) : Type 0 where
   pub not_empty : id ≢ []
   pub no_slash : IsTrue (lacks slash id)
 
--- The URL is that of the user whose id is the canonical form of this text.
+-- `url` is the URL of the user whose id is the canonical form of `text`.
 abbrev pub IsUrlOfUser : Parts → (text : List ℕ) → Type 0
 IsUrlOfUser url text = (id : List ℕ) × (canonical_pathname text ≡ Ok id) × IsUser url id
 
--- The URL is not that of a user.
+-- The URL is not the URL of a user.
 abbrev pub IsNoUser : Parts → Type 0
 IsNoUser url = (id : List ℕ) → ¬ IsUser url id
 
@@ -37,11 +37,12 @@ IsNoUser url = (id : List ℕ) → ¬ IsUser url id
 abbrev pub users_text : List ℕ
 users_text = chars (codes "https://example.com/users/:id")
 
--- The default options.
+-- The options that `Users::new` passes, the default ones.
 abbrev pub default_asked : UrlPatternOptions
 default_asked = record { regex_syntax = Rust; ignore_case = false }
 
--- The pattern is that of `users_text`, under the default options, and keeps the parts of the text.
+-- The pattern is compiled from `users_text` under the default options, and keeps the parts of the
+-- text.
 pub record IsPatternOfUsers (pattern : UrlPattern PatternRegexp) : Type 0 where
   pub compiled : IsPatternOfText pattern_engine users_text None default_asked (pattern_view pattern)
   pub kept : KeepsPartsOfText pattern_engine users_text None default_asked pattern

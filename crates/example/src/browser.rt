@@ -9,7 +9,8 @@ use urlpattern::quirks::{
 };
 use urlpattern::{Error, RegexSyntax, UrlPatternMatchInput, UrlPatternOptions};
 
-/// A pattern as plain data, in words.
+/// The regular expression of a pattern's path, as plain data, and what its matcher compares a text
+/// with.
 pub fn plain_line(alloc: Global) -> Result<String, Error> {
     // docs: plain_pattern
     // docs: given
@@ -33,7 +34,7 @@ pub fn plain_line(alloc: Global) -> Result<String, Error> {
     Ok(format!(in alloc; "{expression}: {matched}")?)
 }
 
-/// The eight texts of a URL, of which the path, in words.
+/// The path among the eight texts of a URL, or words for a URL without texts.
 pub fn texts_line(alloc: Global) -> Result<String, Error> {
     // docs: texts
     let url = Url::parse(alloc, "https://example.com/users/123")?;
@@ -45,7 +46,8 @@ pub fn texts_line(alloc: Global) -> Result<String, Error> {
     }
 }
 
-/// An init as a browser passes it, without regard to case, in words.
+/// The pattern text of the path of an init as a browser passes it, compiled under options that
+/// ignore case.
 pub fn init_line(alloc: Global) -> Result<String, Error> {
     // docs: plain_init
     let mut init = UrlPatternInit::default();

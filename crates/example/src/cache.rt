@@ -11,7 +11,7 @@ use urlpattern::regexp::RegExp;
 use urlpattern::{Error, UrlPatternList, UrlPatternMatchInput};
 
 /// Returns for how many seconds the page of a URL is kept: the age of the first pattern that
-/// matches the URL. `ages` has one for each pattern. `None`: no pattern matches.
+/// matches the URL. `ages` has an age for each pattern. `None`: no pattern matches.
 pub fn max_age<R: RegExp>(
     alloc: Global,
     patterns: &UrlPatternList<R>,

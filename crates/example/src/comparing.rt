@@ -1,11 +1,12 @@
-//! Comparing: which URLs two patterns have in common, and which one of them alone has.
+//! Comparing: whether a pattern covers another, and whether two have a URL in common.
 
 use crate::pattern;
 use std::alloc::Global;
 use urlpattern::Error;
 use urlpattern::rules::{PatternCovering, PatternOverlap};
 
-/// Whether a pattern covers another, in words.
+/// Whether a pattern covers another, in words; if not, with a text of a component that only the
+/// other matches.
 pub fn covers_line(alloc: Global) -> Result<String, Error> {
     let users = pattern(alloc, "https://example.com/users/:id")?;
     let pages = pattern(alloc, "https://example.com/users/*")?;
@@ -28,7 +29,7 @@ pub fn covers_line(alloc: Global) -> Result<String, Error> {
     // docs: end
 }
 
-/// Whether two patterns have a URL in common, in words.
+/// Whether two patterns have a URL in common, in words; if so, with the path of one.
 pub fn overlaps_line(alloc: Global) -> Result<String, Error> {
     let users = pattern(alloc, "https://example.com/users/:id")?;
     let pages = pattern(alloc, "https://example.com/*")?;

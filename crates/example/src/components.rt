@@ -9,7 +9,7 @@ use urlpattern::regexp::PatternRegexp;
 use urlpattern::tokenizer::{TokenizePolicy, tokenize};
 use urlpattern::{ComponentName, Eight, Error, RegexSyntax, UrlPatternInit};
 
-/// The component of a name, in words.
+/// The component that a text names, if there is one, in words.
 pub fn name_line(alloc: Global, text: &str) -> Result<String, Error> {
     // docs: names
     let component = ComponentName::from_name(text);
@@ -17,7 +17,7 @@ pub fn name_line(alloc: Global, text: &str) -> Result<String, Error> {
     Ok(format!(in alloc; "{component:?}")?)
 }
 
-/// An init with the same text for each component, in words.
+/// The path of an init whose texts are made component by component, in words.
 pub fn init_line(alloc: Global) -> Result<String, Error> {
     // docs: init_of
     let text_of = |component| -> Result<Option<String>, Error> {
@@ -40,7 +40,8 @@ pub fn tokens_line(alloc: Global) -> Result<String, Error> {
     Ok(format!(in alloc; "{} tokens", tokens.len())?)
 }
 
-/// The regular expression of a path in the syntax of browsers, in words.
+/// The pattern text of a path, compiled with ECMAScript's syntax of regular expressions, with case
+/// ignored.
 pub fn path_line(alloc: Global) -> Result<String, Error> {
     // docs: options
     let options = Options {
@@ -75,7 +76,7 @@ pub fn matcher_line(alloc: Global) -> Result<String, Error> {
     // docs: end
 }
 
-/// A canonical path, in words.
+/// The canonical form of a path.
 pub fn canonical_line(alloc: Global) -> Result<String, Error> {
     // docs: canonicalizer
     let canonicalizer = Canonicalizer::shared(alloc)?;

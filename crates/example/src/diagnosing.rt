@@ -4,7 +4,7 @@ use crate::{Pattern, text};
 use std::alloc::Global;
 use urlpattern::{Error, Subject, UrlPatternOptions};
 
-/// Why a pattern is rejected, in words.
+/// Why a pattern is rejected, and where the fault is, in words; or that it is accepted.
 pub fn diagnosis_line(alloc: Global, pattern: &str) -> Result<String, Error> {
     // docs: diagnose
     let options = UrlPatternOptions::default();

@@ -4,7 +4,8 @@ use crate::pattern;
 use std::alloc::Global;
 use urlpattern::{ComponentName, Error, GenerateError};
 
-/// The path with a group, in words.
+/// The path that the pattern of users matches when its group captures `id`, or why there is none,
+/// in words.
 pub fn generate_line(alloc: Global, id: &str) -> Result<String, Error> {
     // docs: generate
     let users = pattern(alloc, "https://example.com/users/:id")?;

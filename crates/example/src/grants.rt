@@ -32,8 +32,8 @@ impl Grants {
         Ok(())
     }
 
-    /// Whether a granted pattern is known to cover the asked one. Everything that the asked one
-    /// matches is then matched by that pattern.
+    /// Whether a granted pattern is known to cover the asked one. If so, that pattern matches
+    /// everything that the asked one matches.
     pub fn check(&self, alloc: Global, asked: &PatternParts) -> Result<bool, AllocError>
         ensures { IfOk result (λ permitted.
             IsTrue permitted → IsGranted self.now.patterns.items asked.now) }

@@ -1,6 +1,8 @@
 //! Small programs that use the library, each with a contract in the library's words: a router, a
 //! router for paths alone, a router with values, a permission check, a store of permissions, rules
-//! for a cache, a pattern that is printed and read again, and users by their URLs.
+//! for a cache, a pattern that is printed and read again, and users by their URLs. And small uses
+//! of each call, without contracts: matching, comparing, generating, diagnosing, components by
+//! themselves, and calls for browsers.
 #![tactic(auto)]
 
 ghost use Rattle.std.specs.Prelude.{◌≡◌, ◌+◌, length, OnOk};
@@ -37,8 +39,8 @@ use urlpattern::{
 use users::Users;
 
 // docs: pattern
-/// A pattern over the library's own engine, which returns what `regex::Regex` does, the default
-/// engine of `UrlPattern`, and is mostly faster.
+/// A pattern over the library's own engine. The engine returns what `regex::Regex`, the default
+/// engine of `UrlPattern`, returns, and is mostly faster.
 // docs: own_engine
 type Pattern = UrlPattern<PatternRegexp>;
 
@@ -90,7 +92,7 @@ fn path_line(alloc: Global, path: &str) -> Result<String, Error> {
     }
 }
 
-/// Routes, each with the page that it shows.
+/// Returns routes, each with the page that it shows.
 // docs: map
 fn pages(alloc: Global) -> Result<UrlPatternMap<&'static str, PatternRegexp>, Error> {
     // docs: pages
@@ -106,7 +108,7 @@ fn pages(alloc: Global) -> Result<UrlPatternMap<&'static str, PatternRegexp>, Er
 }
 // docs: end
 
-/// The page that a URL shows, as a sentence.
+/// The page that a URL shows, and for which user, as a sentence.
 fn page_line(alloc: Global, url: &Url) -> Result<String, Error> {
     let pages = pages(alloc)?;
     let shown = routes::shown(alloc, &pages, url);
@@ -151,7 +153,7 @@ fn parts(alloc: Global, text: &str) -> Result<PatternParts, Error> {
     // docs: end
 }
 
-/// Whether an extension may have a pattern, as a sentence.
+/// Whether the pattern `asked` is permitted to an extension, as a sentence.
 fn grants_line(alloc: Global, asked: &str) -> Result<String, Error> {
     let mut grants = Grants::new(alloc);
     grants.grant(parts(alloc, "https://*.example.com/*")?)?;
@@ -166,7 +168,7 @@ fn grants_line(alloc: Global, asked: &str) -> Result<String, Error> {
     }
 }
 
-/// How long a URL is kept, as a sentence.
+/// For how long the page of a URL is kept, as a sentence.
 fn cache_line(alloc: Global, url: &Url) -> Result<String, Error> {
     // docs: list
     let mut patterns = UrlPatternList::new(alloc);
@@ -223,7 +225,7 @@ fn write_line<W: Write>(out: &mut W, line: Result<String, Error>) -> io::Result<
 }
 // docs: end
 
-/// The lines of all modules for a URL.
+/// A line about a URL: its user, its page, whether it is public, and for how long it is kept.
 fn lines(alloc: Global, url: &str) -> Result<String, Error> {
     let url = Url::parse(alloc, url)?;
     let user = user_line(alloc, &url)?;
@@ -233,7 +235,7 @@ fn lines(alloc: Global, url: &str) -> Result<String, Error> {
     Ok(format!(in alloc; "{url}: {user}, {page}, {permission}, {cached}")?)
 }
 
-/// Writes what the calls of the other modules return.
+/// Writes the lines of the modules that show small uses of the calls.
 fn calls<W: Write>(alloc: Global, out: &mut W) -> io::Result<()> {
     write_line(out, matching::test_line(alloc))?;
     write_line(out, matching::exec_line(alloc))?;

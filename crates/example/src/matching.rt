@@ -23,7 +23,7 @@ pub fn test_line(alloc: Global) -> Result<String, Error> {
     Ok(format!(in alloc; "a user: {is_user}")?)
 }
 
-/// What a group captures of an init, in words.
+/// What a group captures of a URL, and the names of all groups of the path, sorted, in words.
 pub fn exec_line(alloc: Global) -> Result<String, Error> {
     // docs: exec
     let users = pattern(alloc, "https://example.com/users/:id")?;
@@ -44,7 +44,8 @@ pub fn exec_line(alloc: Global) -> Result<String, Error> {
     }
 }
 
-/// The groups of a match one by one, in words.
+/// The two groups of a path, and the first group of all components, each with its capture, in
+/// words.
 pub fn groups_line(alloc: Global) -> Result<String, Error> {
     let files = pattern(alloc, FILES)?;
     let url = Url::parse(alloc, "https://example.com/users/123")?;
@@ -63,7 +64,8 @@ pub fn groups_line(alloc: Global) -> Result<String, Error> {
     Ok(format!(in alloc; "{id:?}, {file:?}, first {first:?}")?)
 }
 
-/// The component that keeps a pattern from matching, in words.
+/// The first component of a URL that a pattern does not match, found by the URL and by its eight
+/// texts, in words.
 pub fn mismatch_line(alloc: Global) -> Result<String, Error> {
     // docs: mismatch
     let users = pattern(alloc, "https://example.com/users/:id")?;
@@ -74,7 +76,7 @@ pub fn mismatch_line(alloc: Global) -> Result<String, Error> {
     Ok(format!(in alloc; "{component:?}, {of_texts:?}")?)
 }
 
-/// The patterns of a list that match a URL, in words.
+/// The index of the first pattern of a list that matches a URL, and the path of the URL, in words.
 pub fn matches_line(alloc: Global) -> Result<String, Error> {
     let mut patterns = UrlPatternList::new(alloc);
     patterns.try_push(pattern(alloc, "https://example.com/users/*")?)?;
@@ -93,7 +95,7 @@ pub fn matches_line(alloc: Global) -> Result<String, Error> {
     )?)
 }
 
-/// The first pattern of a map with its value, in words.
+/// The pattern text of the path of the first pattern of a map, and its value, in words.
 pub fn entry_line(alloc: Global) -> Result<String, Error> {
     let mut pages = UrlPatternMap::new(alloc);
     pages.try_insert(pattern(alloc, "https://example.com/*")?, "page")?;

@@ -15,9 +15,10 @@ use urlpattern::parser::{Options, Part};
 
 /// Prints parts, and reads the text again.
 ///
-/// For printable parts the result is the same parts, neighbouring plain fixed texts joined, which
-/// mean the same texts with the same captures, and the only error is that memory ran out. Parts are
-/// printable if they were read from a pattern without an empty fixed text, a tab or a line end.
+/// For printable parts the result is `parts` with neighbouring plain fixed texts joined, which
+/// means the same texts with the same captures, and the only error is that memory ran out. Parts
+/// are printable if they were read under the standard's options, no fixed text is empty, and no
+/// text has a tab or a line end.
 pub fn printed_and_read(
     alloc: Global,
     parts: &[Part],

@@ -14,7 +14,8 @@ use urlpattern::{ComponentName, Error, UrlPatternMap};
 const ID: &str = "id";
 
 /// The value of the first route that matches a URL, borrowed from the routes, and the capture of
-/// the group `id` of its path, borrowed from the URL. `None`: no route matches.
+/// the group `id` of its path, borrowed from the URL, if the group took part. `None`: no route
+/// matches.
 pub fn shown<'m, 'u, T, R: RegExp>(
     alloc: Global,
     routes: &'m UrlPatternMap<T, R>,

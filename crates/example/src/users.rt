@@ -21,7 +21,7 @@ pub struct Users {
     pattern: UrlPattern<PatternRegexp>,
 }
 
-// The pattern is that of the text. No contract mentions it.
+// The pattern is compiled from `router::USERS`. No contract mentions the pattern.
 impl Model for Users {
     ghost use Rattle.example.specs.Users.{IsPatternOfUsers};
     ghost use Rattle.std.specs.Prelude.{⊤};
@@ -45,8 +45,7 @@ impl Users {
         // docs: end
     }
 
-    /// The id of the user with this URL, borrowed from the URL. `None`: the URL is not that of a
-    /// user.
+    /// The id of the user with this URL, borrowed from the URL. `None`: no user has this URL.
     ///
     /// The URL of a user is `https://example.com/users/` and the id, which is not empty and has no
     /// slash. The port is empty. User name, password, query and fragment may be anything, since the

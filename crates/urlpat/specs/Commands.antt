@@ -1,9 +1,11 @@
--- The output of the program for its arguments. Arguments and texts are bytes.
+-- The output of each command other than `link` and `explain`, of the short form and of help, for
+-- the arguments of the program. Arguments and texts are bytes. `input` is what the reader has left,
+-- and `old` and `new` are the output before and after, as far as they are known.
 use Rattle.std.specs.Prelude.{◌≢◌, ◌⊎◌, ℕ, List, codes, Option, String}
 use Rattle.std.specs.declared.alloc.Global.{Global}
 use Rattle.urlpat_commands.specs.CommandAnswers.{AreAnswered, FailsWhere}
 use Rattle.urlpat_lines.specs.Words.{words_view, AreArgumentsAfter}
-use Rattle.urlpat_commands.specs.FilterLines.{AskToFilter, Does}
+use Rattle.urlpat_commands.specs.FilterLines.{AskToFilter, FiltersOrPrints}
 use Rattle.urlpat_commands.specs.CommandNotes.{HasNote}
 use Rattle.urlpat_matching.specs.declared.exit_status.TheConstants.{FAILED}
 use Rattle.urlpat_rules.specs.PrintedCoverings.{PrintsWhether}
@@ -11,7 +13,8 @@ use Rattle.urlpat_rules.specs.TableRoutes.{RoutesLines}
 use Rattle.urlpat_rules.specs.UnreachedLines.{Lists}
 use Rattle.urlpat_lines.specs.declared.flags.Flags.{Flags}
 
--- The arguments are those of a command that compares patterns or reads a table.
+-- The arguments are `covers`, `unreachable` or `route` and its arguments, which do not ask for
+-- help.
 abbrev pub AskForRules : (words : List (List ℕ)) → Type 0
 AskForRules words =
     (rest : List (List ℕ))
@@ -19,11 +22,11 @@ AskForRules words =
     ⊎ AreArgumentsAfter (codes "unreachable") words rest
     ⊎ AreArgumentsAfter (codes "route") words rest)
 
--- A command that compares patterns or reads a table ends with the status, and its output turns
--- `old` into `new`. `Has` says which file has which table.
-abbrev pub DoesRules : Flags → (Has : (name table : List ℕ) → Type 0) → (words : List (List ℕ))
+-- `covers`, `unreachable` or `route` ends with the status, and its output turns `old` into `new`.
+-- `words` are the command and its arguments. `Has` says which file has which table.
+abbrev pub RunsRules : Flags → (Has : (name table : List ℕ) → Type 0) → (words : List (List ℕ))
     → (status : ℕ) → (input old new : Option (List ℕ)) → Type 0
-DoesRules flags Has words status input old new =
+RunsRules flags Has words status input old new =
     ((rest : List (List ℕ)) × AreArgumentsAfter (codes "covers") words rest
     × PrintsWhether rest status old new)
     ⊎ ((rest : List (List ℕ)) × AreArgumentsAfter (codes "unreachable") words rest
@@ -31,25 +34,29 @@ DoesRules flags Has words status input old new =
     ⊎ ((rest : List (List ℕ)) × AreArgumentsAfter (codes "route") words rest
     × RoutesLines flags Has rest status input old new)
 
--- A command of any kind ends with the status, and its output turns `old` into `new`.
-abbrev pub DoesAny : Flags → (Has : (name table : List ℕ) → Type 0) → (words : List (List ℕ))
+-- A command other than `link` and `explain`, the short form or help ends with the status, and its
+-- output turns `old` into `new`. `words` are all arguments. `Has` says which file has which table.
+abbrev pub RunsCommand : Flags → (Has : (name table : List ℕ) → Type 0) → (words : List (List ℕ))
     → (status : ℕ) → (input old new : Option (List ℕ)) → Type 0
-DoesAny flags Has words status input old new =
-    DoesRules flags Has words status input old new ⊎ Does flags words status input old new
+RunsCommand flags Has words status input old new =
+    RunsRules flags Has words status input old new
+    ⊎ FiltersOrPrints flags words status input old new
 
--- `DoesAny` unless the run failed.
-abbrev pub RunsAny : Flags → (Has : (name table : List ℕ) → Type 0) → (words : List (String Global))
+-- `RunsCommand` unless the run failed.
+abbrev pub RunsCommandUnlessFailed : Flags
+    → (Has : (name table : List ℕ) → Type 0) → (words : List (String Global))
     → (status : ℕ) → (input old new : Option (List ℕ)) → Type 0
-RunsAny flags Has words status input old new =
-    status ≢ FAILED → DoesAny flags Has (words_view words) status input old new
+RunsCommandUnlessFailed flags Has words status input old new =
+    status ≢ FAILED → RunsCommand flags Has (words_view words) status input old new
 
--- A run that succeeds may also report something: a note that `url` rejects the input, if errors are
--- explained, or anything if the command is `filter`, compares patterns or reads a table.
+-- A run that succeeds may report something: a note that `url` rejects the input, if errors are
+-- explained, or anything if the command is `filter`, `covers`, `unreachable` or `route`.
 abbrev pub MayReport : Flags → (words : List (List ℕ)) → Type 0
 MayReport flags words = HasNote flags words ⊎ AskToFilter words ⊎ AskForRules words
 
--- What is known of a failed run: the arguments have no output, and `IsSo` holds; or they have one,
--- which may be printed in part; or their command is `filter`, compares patterns or reads a table.
-abbrev pub FailsAny : Flags → (words : List (List ℕ)) → (IsSo : Type 0) → Type 0
-FailsAny flags words IsSo =
+-- What is known of a run that failed: the arguments have no output, and `IsSo` holds; or they have
+-- an output, which may be printed in part; or the command is `filter`, `covers`, `unreachable` or
+-- `route`.
+abbrev pub CommandMayFail : Flags → (words : List (List ℕ)) → (IsSo : Type 0) → Type 0
+CommandMayFail flags words IsSo =
     FailsWhere flags words IsSo ⊎ AreAnswered flags words ⊎ AskToFilter words ⊎ AskForRules words

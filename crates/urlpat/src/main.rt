@@ -1,6 +1,7 @@
-//! Matches URLs against patterns: one URL, the first of several patterns, or the lines of standard
-//! input. Also explains a pattern, prints the URL that a pattern matches with given groups,
-//! compares patterns, and shows what the pattern of one component is compiled to.
+//! The program `urlpat`, which matches URLs against patterns: one URL, the first of several
+//! patterns, or the lines of standard input. It also explains a pattern, prints the URL that a
+//! pattern matches with given groups, compares patterns, and shows what the pattern of one
+//! component is compiled to.
 #![tactic(auto)]
 
 ghost use Rattle.std.specs.Prelude.{⊤};
@@ -20,7 +21,7 @@ use urlpat_lines::{Flags, arguments_after, remove_flags};
 use urlpat_matching::{Failure, fail};
 use urlpat_rules::Tables;
 
-/// The files of the host.
+/// The files of the host, as a source of tables.
 #[derive(Drop)]
 struct HostFiles<'a> {
     rt: &'a HostRuntime,
@@ -52,8 +53,8 @@ fn main(rt: HostRuntime) -> ExitCode {
     })
 }
 
-/// Runs the program with buffered input and output. Returns the exit status. If errors are
-/// explained, reports why the output cannot be written.
+/// Runs the command that the arguments name, with buffered input and output. Returns the exit
+/// status. If errors are explained, reports why the output cannot be written.
 fn run_buffered(rt: &HostRuntime, words: &[String], flags: Flags) -> io::Result<u8> {
     let alloc = rt.alloc();
     let mut input = BufReader::new(alloc, rt.stdin())?;
@@ -66,7 +67,7 @@ fn run_buffered(rt: &HostRuntime, words: &[String], flags: Flags) -> io::Result<
     Ok(status)
 }
 
-/// Runs the program with these arguments. Returns the exit status.
+/// Runs the command that the arguments name, or prints help. Returns the exit status.
 fn run_words<In: BufRead, Out: Write, Err: Write>(
     rt: &HostRuntime,
     words: &[String],

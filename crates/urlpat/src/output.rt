@@ -1,4 +1,4 @@
-//! Standard output that keeps the error of a failed write.
+//! Standard output that keeps the error of a write that failed.
 
 ghost use Rattle.std.specs.Io.KnownBytes.{Appends, Keeps};
 ghost use Rattle.std.specs.IoError.{error_kind};
@@ -8,7 +8,7 @@ ghost use Rattle.std.specs.declared.io.ErrorKind.TheVariants as kinds;
 use std::io;
 use std::io::Write;
 
-/// A writer that keeps the error of a failed write.
+/// A writer that keeps the error of the last `write_all` or `flush` that failed.
 #[derive(Drop)]
 pub struct Output<W> {
     writer: W,
@@ -16,7 +16,7 @@ pub struct Output<W> {
 }
 
 impl<W> Output<W> {
-    /// Wraps a writer. No write has failed yet.
+    /// Wraps a writer. No error is kept yet.
     pub fn new(writer: W) -> Output<W>
         ensures { (result.writer ≡ writer) × (result.failure ≡ None) }
     {
@@ -26,14 +26,14 @@ impl<W> Output<W> {
         }
     }
 
-    /// The error of the last write that failed. `None`: none failed.
+    /// The error of the last `write_all` or `flush` that failed. `None`: neither has failed.
     pub fn failure(&self) -> Option<io::Error>
         ensures { result ≡ self.now.failure }
     {
         self.failure
     }
 
-    /// Keeps the error of a write, if it failed.
+    /// Keeps the error of `written`, if there is one.
     fn keep(&mut self, written: &io::Result<()>)
         ensures writer { self.new.writer ≡ self.old.writer }
         ensures failed { IfErr written.now (λ error. self.new.failure ≡ Some error) }
@@ -74,7 +74,8 @@ impl<W: Write> Write for Output<W> {
     }
 }
 
-/// Reports why the output cannot be written. Nothing is reported for a closed pipe.
+/// Reports the error with which the output could not be written, `failure`, unless the reader of a
+/// pipe has closed it. Without an error (`None`) nothing is reported.
 pub fn report_output<Err: Write>(failure: Option<io::Error>, err: &mut Err)
     ensures none { IfNone failure (err.new ≡ err.old) }
     ensures closed { IfSome failure

@@ -1,4 +1,6 @@
--- The output for the arguments of the program, and its failures. Arguments and texts are bytes.
+-- The output of `component`, `match`, `first`, the short form and help for the arguments of the
+-- program, and the reasons why there is none. Arguments and texts are bytes. `old` and `new` are
+-- the output before and after, as far as it is known.
 use Rattle.std.specs.Prelude.{◌≡◌, ◌≢◌, ◌⊎◌, All, ◌++◌, ℕ, Bool, true, false, List, [], ◌∷◌, map, codes, Option, None, Some, Result, Ok, Err, String, string_bytes, encode_utf8_all, slice_get, take, MatchOption}
 use Rattle.std.specs.List.{AllZip}
 use Rattle.std.specs.Str.{chars}
@@ -40,18 +42,18 @@ use Rattle.urlpattern_syntax.specs.declared.parser.PartType.TheVariants.{Regexp}
 
 -- ---- compiled components
 
--- The result for each text is a copy of it, or that memory ran out.
+-- The result is a copy of `bytes`, or that memory ran out.
 abbrev pub CopiesBytes : (bytes : List ℕ) → Result (String Global) Error → Type 0
 CopiesBytes bytes (Ok copy) = string_bytes copy ≡ bytes
 CopiesBytes bytes (Err error) = error ≡ errors.OutOfMemory
 
--- The encoding that keeps each text.
+-- The encoding whose result for a text is a copy of the text.
 abbrev pub kept : Encoding
 kept = encoding_of CopiesBytes
 
--- The text shows what the pattern is compiled to under the options with this name, with fixed texts
--- kept as they are: the names of its parts, a regular expression with their meaning, and a pattern
--- that reads back.
+-- `text` shows what the pattern is compiled to under the options named `kind`, with fixed texts not
+-- encoded: the names of its groups, a regular expression, which means what the parts mean if none
+-- of them is custom, and a printed pattern, which reads back as the parts if they are printable.
 pub record IsComponentText (kind pattern text : List ℕ) : Type 0 where
   pub options : OptionsView
   pub parts : List PartView
@@ -66,14 +68,14 @@ pub record IsComponentText (kind pattern text : List ℕ) : Type 0 where
       ≡ component_lines (map encode_utf8_all (group_names parts))
       (encode_utf8_all (regexp_text options parts)) (encode_utf8_all (printed options parts))
 
--- The pattern is rejected with this error under the options with this name.
+-- The pattern is rejected with this error under the options named `kind`.
 pub record RejectsComponentText (kind pattern : List ℕ) (error : ErrorView) : Type 0 where
   pub options : OptionsView
   pub is_named : NamesOptions kind options
   pub refuses : Rejects (chars pattern) options kept error
 
--- The reason why there is no text: no options have this name, the pattern is rejected, or memory
--- ran out.
+-- The reason why `component` has no output for a pattern: no options are named `kind`, the pattern
+-- is rejected, or memory ran out.
 abbrev pub FailsComponent : (kind pattern : List ℕ) → Failure → Type 0
 FailsComponent kind pattern failures.Usage = ¬ IsKind kind
 FailsComponent kind pattern (failures.Refused error) =
@@ -81,13 +83,14 @@ FailsComponent kind pattern (failures.Refused error) =
 
 -- ---- the captures of the first match
 
--- The constructor strings with this base URL are compiled to the patterns, in order.
+-- The constructor strings `texts` with the base URL `base` are compiled to the patterns, in order.
 abbrev pub ArePatterns : (ignores : Bool) → (texts : List (List ℕ))
     → (base : Option (List ℕ)) → List (PatternView PatternRegexp) → Type 0
 ArePatterns ignores texts base patterns =
     AllZip (λ text pattern. IsPatternOf ignores text base pattern) texts patterns
 
--- A constructor string is rejected with this error, and the ones before it are compiled.
+-- Some constructor string of `texts` is rejected with this error, and the ones before it are
+-- compiled.
 pub record RejectsOneOf (ignores : Bool) (texts : List (List ℕ)) (base : Option (List ℕ))
     (error : ErrorView) : Type 0 where
   pub index : ℕ
@@ -97,7 +100,8 @@ pub record RejectsOneOf (ignores : Bool) (texts : List (List ℕ)) (base : Optio
   pub are_compiled : ArePatterns ignores (take index texts) base earlier
   pub refuses : RejectsPatternOf ignores text base error
 
--- The text has the index of the first pattern that matches, and its captures.
+-- `text` is what is printed of the first match: JSON, or a line with the index of its pattern and a
+-- line for each group.
 abbrev pub ShowsFirst : (json : Bool) → (index : ℕ) → (ComponentName → ResultView)
     → (text : List ℕ) → Type 0
 ShowsFirst true index result text = IsFirstJson index result text
@@ -105,8 +109,8 @@ ShowsFirst false index result text =
     (lines : List ℕ) × AreLines (all_named_results result) lines
     × (text ≡ first_line index ++ lines)
 
--- A pattern of the list is the first that matches the input, a URL under this base URL, and the
--- text has its index and its captures.
+-- A pattern of the list is the first that matches the input, a URL under the base URL `base`, and
+-- `text` is what is printed of the match.
 pub record IsFirstTextBy (json : Bool) (compiled : List (PatternView PatternRegexp))
     (input : List ℕ) (base : Option (List ℕ)) (text : List ℕ) : Type 0 where
   pub url : Parts
@@ -116,7 +120,8 @@ pub record IsFirstTextBy (json : Bool) (compiled : List (PatternView PatternRege
   pub is_first : IsFirstMatch pattern_result compiled (match_inputs.Url url) (Some (index, result))
   pub shows : ShowsFirst json index result text
 
--- The pattern texts compile to patterns, and the text has the first match of the input.
+-- The constructor strings `patterns` are compiled, and `text` is what is printed of the first match
+-- of the input.
 abbrev pub IsFirstMatchText : Flags → (patterns : List (List ℕ)) → (input : List ℕ)
     → (base : Option (List ℕ)) → (text : List ℕ) → Type 0
 IsFirstMatchText flags patterns input base text =
@@ -124,26 +129,29 @@ IsFirstMatchText flags patterns input base text =
     × ArePatterns flags.ignore_case patterns base compiled
     × IsFirstTextBy flags.json compiled input base text
 
--- No pattern of the list matches the input.
+-- No pattern of the list matches the input (`IsUnmatchedByAllUnder`), given the text of the base
+-- URL, or `None` if there is no base URL.
 abbrev pub IsUnmatchedByAll : (compiled : List (PatternView PatternRegexp)) → (input : List ℕ)
     → (base : Option (List ℕ)) → Type 0
 IsUnmatchedByAll compiled input base = IsUnmatchedByAllUnder compiled input (base_view base)
 
--- The pattern texts compile to patterns, none of which matches the input.
+-- The constructor strings `patterns` are compiled to patterns, none of which matches the input.
 abbrev pub IsUnmatchedByEach : (ignores : Bool) → (patterns : List (List ℕ))
     → (input : List ℕ) → (base : Option (List ℕ)) → Type 0
 IsUnmatchedByEach ignores patterns input base =
     (compiled : List (PatternView PatternRegexp)) × ArePatterns ignores patterns base compiled
     × IsUnmatchedByAll compiled input base
 
--- The text of the first match by pattern texts. `None`: there is no match.
+-- `found` is what is printed of the first match of the input by the patterns to which the
+-- constructor strings `patterns` are compiled. `None`: no pattern matches.
 abbrev pub FindsFirst : Flags → (patterns : List (List ℕ)) → (input : List ℕ)
     → (base : Option (List ℕ)) → Option (String Global) → Type 0
 FindsFirst flags patterns input base found =
     MatchOption found (IsUnmatchedByEach flags.ignore_case patterns input base) (λ text.
     IsFirstMatchText flags patterns input base (string_bytes text))
 
--- The text of the first match by compiled patterns. `None`: there is no match.
+-- `found` is what is printed of the first match of the input by compiled patterns. `None`: no
+-- pattern matches.
 abbrev pub FindsFirstBy : (json : Bool) → List (PatternView PatternRegexp)
     → (input : List ℕ) → (base : Option (List ℕ)) → Option (String Global) → Type 0
 FindsFirstBy json compiled input base found =
@@ -152,38 +160,39 @@ FindsFirstBy json compiled input base found =
 
 -- ---- the arguments of `component`
 
--- The output and the exit status of `component`.
+-- The output and the exit status of `component` for the arguments after it.
 abbrev pub IsComponentAnswer : (words : List (List ℕ)) → (text : List ℕ) → (status : ℕ) → Type 0
 IsComponentAnswer (kind ∷ pattern ∷ []) text status =
     IsComponentText kind pattern text × (status ≡ 0)
 IsComponentAnswer words text status = ⊥
 
--- The reason why `component` has no output.
+-- The reason why `component` has no output for the arguments after it.
 abbrev pub IsComponentFailure : (words : List (List ℕ)) → Failure → Type 0
 IsComponentFailure (kind ∷ pattern ∷ []) failure = FailsComponent kind pattern failure
 IsComponentFailure words failure = failure ≡ failures.Usage
 
 -- ---- the arguments of `match`
 
--- The output is a match, with status 0, or that there is none, with status 1.
+-- The output and the exit status of a command that looks for a match: `Matched` holds, with status
+-- 0, or `Unmatched` holds, and the output says that there is no match, with status 1.
 abbrev pub AnswersMatch : (json : Bool) → (Matched Unmatched : Type 0)
     → (text : List ℕ) → (status : ℕ) → Type 0
 AnswersMatch json Matched Unmatched text status =
     (Matched × (status ≡ 0)) ⊎ (Unmatched × (text ≡ no_match_text json) × (status ≡ 1))
 
--- The reason is a rejection of this kind, or that memory ran out.
+-- The reason for a failure is an error for which `Rejects` is true, or that memory ran out.
 abbrev pub IsRejection : (Rejects : ErrorView → Type 0) → Failure → Type 0
 IsRejection Rejects failures.Usage = ⊥
 IsRejection Rejects (failures.Refused error) = MemoryOr Rejects error
 
--- The output and the exit status of `match`.
+-- The output and the exit status of `match` for the arguments after it.
 abbrev pub IsMatchAnswer : Flags → (words : List (List ℕ)) → (text : List ℕ) → (status : ℕ) → Type 0
 IsMatchAnswer flags (pattern ∷ base ∷ input ∷ []) text status =
     AnswersMatch flags.json (IsMatchText flags pattern input (base_of base) text)
     (IsUnmatched flags.ignore_case pattern input (base_of base)) text status
 IsMatchAnswer flags words text status = ⊥
 
--- The reason why `match` has no output.
+-- The reason why `match` has no output for the arguments after it.
 abbrev pub IsMatchFailure : (ignores : Bool) → (words : List (List ℕ)) → Failure → Type 0
 IsMatchFailure ignores (pattern ∷ base ∷ input ∷ []) failure =
     IsRejection (RejectsPatternOf ignores pattern (base_of base)) failure
@@ -191,14 +200,14 @@ IsMatchFailure ignores words failure = failure ≡ failures.Usage
 
 -- ---- the arguments of `first`
 
--- The output and the exit status of `first`.
+-- The output and the exit status of `first` for the arguments after it.
 abbrev pub IsFirstAnswer : Flags → (words : List (List ℕ)) → (text : List ℕ) → (status : ℕ) → Type 0
 IsFirstAnswer flags (base ∷ input ∷ pattern ∷ patterns) text status =
     AnswersMatch flags.json (IsFirstMatchText flags (pattern ∷ patterns) input (base_of base) text)
     (IsUnmatchedByEach flags.ignore_case (pattern ∷ patterns) input (base_of base)) text status
 IsFirstAnswer flags words text status = ⊥
 
--- The reason why `first` has no output.
+-- The reason why `first` has no output for the arguments after it.
 abbrev pub IsFirstFailure : (ignores : Bool) → (words : List (List ℕ)) → Failure → Type 0
 IsFirstFailure ignores (base ∷ input ∷ pattern ∷ patterns) failure =
     IsRejection (RejectsOneOf ignores (pattern ∷ patterns) (base_of base)) failure
@@ -206,7 +215,7 @@ IsFirstFailure ignores words failure = failure ≡ failures.Usage
 
 -- ---- the short form: a pattern and an input, without a base URL
 
--- The output and the exit status of the short form.
+-- The output and the exit status of the short form. `words` are the arguments after the pattern.
 abbrev pub IsShortAnswer : Flags → (pattern : List ℕ) → (words : List (List ℕ))
     → (text : List ℕ) → (status : ℕ) → Type 0
 IsShortAnswer flags pattern (input ∷ []) text status =
@@ -214,7 +223,7 @@ IsShortAnswer flags pattern (input ∷ []) text status =
     (IsUnmatched flags.ignore_case pattern input None) text status
 IsShortAnswer flags pattern words text status = ⊥
 
--- The reason why the short form has no output.
+-- The reason why the short form has no output. `words` are the arguments after the pattern.
 abbrev pub IsShortFailure : (ignores : Bool) → (pattern : List ℕ)
     → (words : List (List ℕ)) → Failure → Type 0
 IsShortFailure ignores pattern (input ∷ []) failure =
@@ -223,11 +232,14 @@ IsShortFailure ignores pattern words failure = failure ≡ failures.Usage
 
 -- ---- commands
 
--- The commands of this crate, without `filter` and the short form.
+-- The word is a command that `answer` runs: `component`, `match` or `first`. Any other first
+-- argument is the pattern of the short form; `filter` and the commands of other crates are run
+-- before `answer` is called.
 abbrev pub IsCommand : List ℕ → Type 0
 IsCommand word = (word ≡ codes "component") ⊎ (word ≡ codes "match") ⊎ (word ≡ codes "first")
 
--- The output for the arguments, and the exit status: 0, or 1 if the input does not match.
+-- The output of `component`, `match`, `first` or the short form for the arguments, and the exit
+-- status: 0, or 1 if the input does not match.
 abbrev pub IsCommandAnswer : Flags → (words : List (List ℕ)) → (text : List ℕ)
     → (status : ℕ) → Type 0
 IsCommandAnswer flags [] text status = ⊥
@@ -237,8 +249,8 @@ IsCommandAnswer flags (command ∷ words) text status =
     ⊎ ((command ≡ codes "first") × IsFirstAnswer flags words text status)
     ⊎ ((¬ IsCommand command) × IsShortAnswer flags command words text status)
 
--- The reason why there is no output: the arguments are invalid, a text is rejected, or memory ran
--- out.
+-- The reason why `component`, `match`, `first` or the short form has no output for the arguments:
+-- the arguments are invalid, a text is rejected, or memory ran out.
 abbrev pub IsFailure : Flags → (words : List (List ℕ)) → Failure → Type 0
 IsFailure flags [] failure = failure ≡ failures.Usage
 IsFailure flags (command ∷ words) failure =
@@ -249,8 +261,8 @@ IsFailure flags (command ∷ words) failure =
 
 -- ---- runs of the program
 
--- The output for the arguments, with this exit status: the help text that they ask for, or the
--- output of a command.
+-- The output for the arguments, with this exit status: the help text or the version that they ask
+-- for, or the output of `component`, `match`, `first` or the short form.
 abbrev pub IsProgramAnswer : Flags → (words : List (List ℕ)) → (text : List ℕ)
     → (status : ℕ) → Type 0
 IsProgramAnswer flags words text status =
@@ -262,15 +274,17 @@ abbrev pub Prints : Flags → (words : List (List ℕ)) → (status : ℕ)
 Prints flags words status old new =
     (text : List ℕ) × IsProgramAnswer flags words text status × Appends old new text
 
--- The arguments have an output, which may be printed in part or not at all.
+-- The arguments have an output. Whether it was printed is not said.
 abbrev pub AreAnswered : Flags → (words : List (List ℕ)) → Type 0
 AreAnswered flags words = (text : List ℕ) × (status : ℕ) × IsProgramAnswer flags words text status
 
--- The arguments have no output, and `IsSo` holds.
+-- The arguments have no output, for some reason, and `IsSo` holds, which says what else is known of
+-- the run, such as that the output is unchanged.
 abbrev pub FailsWhere : Flags → (words : List (List ℕ)) → (IsSo : Type 0) → Type 0
 FailsWhere flags words IsSo = (failure : Failure) × IsFailure flags words failure × IsSo
 
--- The output is the text that was found, or that there is none.
+-- The output and the exit status of a command that looks for a match: `found` with status 0, or, if
+-- there is no match (`None`), the text that says so with status 1.
 abbrev pub IsPrintedOf : (json : Bool) → Option (String Global) → Printed → Type 0
 IsPrintedOf json found printed =
     MatchOption found

@@ -1,15 +1,15 @@
--- The output of the commands.
+-- The texts that `component`, `match` and `first` print.
 use Rattle.std.specs.Prelude.{ℕ, Bool, true, false, List, ◌++◌, codes, decimal}
 use Rattle.std.specs.List.{flat_map}
 
--- A line with the names of a component's groups, one with its regular expression and one with its
--- printed pattern.
+-- The output of `component`: a line with the names of the groups, one with the regular expression,
+-- and one with the printed pattern.
 abbrev pub component_lines : (names : List (List ℕ)) → (regexp pattern : List ℕ) → List ℕ
 component_lines names regexp pattern =
     codes "names:" ++ flat_map (λ name. codes " " ++ name) names ++ codes "\nregexp: " ++ regexp
     ++ codes "\npattern: " ++ pattern ++ codes "\n"
 
--- The line of the first match: the index of its pattern.
+-- The line that says which pattern is the first to match, by its index.
 abbrev pub first_line : (index : ℕ) → List ℕ
 first_line index = codes "match " ++ decimal index ++ codes "\n"
 

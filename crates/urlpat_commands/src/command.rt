@@ -1,11 +1,11 @@
-//! Runs the commands of the program.
+//! Runs the commands of this crate, and prints help and the version.
 
 ghost use Rattle.std.specs.Io.KnownBytes.{Appends};
 ghost use Rattle.std.specs.Prelude.{◌≡◌, ◌≢◌, ◌⊎◌, map, string_bytes, IfErr, IfOk, IfSome, OnOk, Ok, None};
 ghost use Rattle.urlpat_commands.specs.CommandAnswers.{FailsComponent, FailsWhere, AreAnswered, IsCommandAnswer, IsComponentAnswer, IsComponentFailure, IsComponentText, CopiesBytes, IsFailure, IsPrintedOf, Prints, IsFirstAnswer, IsFirstFailure, IsShortAnswer, IsShortFailure, IsMatchAnswer, IsMatchFailure};
 ghost use Rattle.urlpat_lines.specs.Words.{words_view};
 ghost use Rattle.urlpat_commands.specs.Kinds.{IsKind, NamesOptions};
-ghost use Rattle.urlpat_commands.specs.FilterLines.{AskToFilter, FailsOne, RunsOne};
+ghost use Rattle.urlpat_commands.specs.FilterLines.{AskToFilter, FiltersOrPrintsUnlessFailed, MayFail};
 ghost use Rattle.urlpat_commands.specs.CommandNotes.{ExplainsErrors, HasNote, ReportsFirst, note_bytes};
 ghost use Rattle.urlpat_matching.specs.Status.{failure_lines};
 ghost use Rattle.urlpat_commands.specs.Report.{component_lines, no_match_text};
@@ -26,17 +26,18 @@ use urlpattern::Error;
 use urlpattern::component::{generate_pattern_string, generate_regular_expression_and_name_list};
 use urlpattern::parser::{Options, parse_pattern_string};
 
-/// The output of a run, and the exit status.
+/// The output of a run of `component`, `match`, `first` or the short form, and the exit status.
 #[derive(Drop)]
 struct Printed {
     text: String,
     status: u8,
 }
 
-/// Runs the program with these arguments and flags. Returns the exit status.
+/// Prints what the arguments ask for: help, the version, or the output of a command of this crate
+/// or of the short form. Returns the exit status.
 ///
 /// `filter` reads lines from `input`. Output is written to `out`, by every other command in one
-/// piece. Errors are written to `err`, and notes on an input or a line that is not a URL.
+/// piece. Errors are written to `err`, and notes on an input or on lines that are not URLs.
 /// `component`, `match` and `first` print an error alone, and no note on their input, unless the
 /// flags ask for errors that are explained.
 pub fn run<In: BufRead, Out: Write, Err: Write>(
@@ -48,11 +49,11 @@ pub fn run<In: BufRead, Out: Write, Err: Write>(
     err: &mut Err,
 ) -> u8
     ensures status { (result ≡ DONE) ⊎ (result ≡ NO_MATCH) ⊎ (result ≡ FAILED) }
-    ensures answers { RunsOne flags words.now result (In.remaining input.old) (Out.contents out.old)
-        (Out.contents out.new) }
+    ensures answers { FiltersOrPrintsUnlessFailed flags words.now result (In.remaining input.old)
+        (Out.contents out.old) (Out.contents out.new) }
     ensures quiet { result ≢ FAILED → (err.new ≡ err.old) ⊎ HasNote flags (words_view words.now)
         ⊎ AskToFilter (words_view words.now) }
-    ensures fails { result ≡ FAILED → FailsOne flags (words_view words.now) (out.new ≡ out.old) }
+    ensures fails { result ≡ FAILED → MayFail flags (words_view words.now) (out.new ≡ out.old) }
 {
     match arguments_after(words, "filter") {
         Some(rest) => filter(alloc, rest, flags, input, out, err),
@@ -60,7 +61,8 @@ pub fn run<In: BufRead, Out: Write, Err: Write>(
     }
 }
 
-/// Runs a command that reads no input. Returns the exit status.
+/// Prints help or the version, or runs `component`, `match`, `first` or the short form. Returns the
+/// exit status.
 fn run_once<Out: Write, Err: Write>(
     alloc: Global,
     words: &[String],
@@ -100,7 +102,8 @@ fn run_once<Out: Write, Err: Write>(
     }
 }
 
-/// The note for a run with this exit status: the input is not a URL, if errors are explained.
+/// Returns the note to print beside the output of a run that ended with `status`: the input is not
+/// a URL. `None`: the input is a URL, the run found a match, or errors are not explained.
 fn note_beside(
     alloc: Global,
     words: &[String],
@@ -129,7 +132,7 @@ fn write_note<Err: Write>(note: &Option<String>, err: &mut Err) -> io::Result<()
 }
 
 /// Writes why a run has no output, and then, if errors are explained, what is wrong with the
-/// pattern among the arguments.
+/// pattern among the arguments. If memory runs out for that, writes only that it ran out.
 fn write_failure<Err: Write>(
     alloc: Global,
     words: &[String],
@@ -155,7 +158,8 @@ fn write_failure<Err: Write>(
     }
 }
 
-/// The output for the arguments.
+/// The output of `component`, `match`, `first` or the short form for the arguments, and the exit
+/// status. The error is the reason why there is no output.
 fn answer(alloc: Global, words: &[String], flags: Flags) -> Result<Printed, Failure>
     ensures answers { IfOk result (λ answer.
         IsCommandAnswer flags (words_view words.now) (string_bytes answer.text) answer.status) }
@@ -172,8 +176,8 @@ fn answer(alloc: Global, words: &[String], flags: Flags) -> Result<Printed, Fail
     }
 }
 
-/// The output for the arguments of the short form, `urlpat PATTERN URL`. `words` is what follows
-/// the pattern.
+/// The output and the exit status of the short form, `urlpat PATTERN URL`. `words` are the
+/// arguments after the pattern.
 fn short_answer(
     alloc: Global,
     pattern: &str,
@@ -193,7 +197,7 @@ fn short_answer(
     Ok(answer_of(alloc, lines, flags.json)?)
 }
 
-/// The output for the arguments of `component`.
+/// The output and the exit status of `component`. `words` are the arguments after the command.
 fn component_answer(alloc: Global, words: &[String]) -> Result<Printed, Failure>
     ensures answers { IfOk result (λ answer.
         IsComponentAnswer (words_view words.now) (string_bytes answer.text) answer.status) }
@@ -208,7 +212,7 @@ fn component_answer(alloc: Global, words: &[String]) -> Result<Printed, Failure>
     })
 }
 
-/// The output for the arguments of `match`.
+/// The output and the exit status of `match`. `words` are the arguments after the command.
 fn match_answer(alloc: Global, words: &[String], flags: Flags) -> Result<Printed, Failure>
     ensures answers { IfOk result (λ answer.
         IsMatchAnswer flags (words_view words.now) (string_bytes answer.text) answer.status) }
@@ -221,7 +225,7 @@ fn match_answer(alloc: Global, words: &[String], flags: Flags) -> Result<Printed
     Ok(answer_of(alloc, lines, flags.json)?)
 }
 
-/// The output for the arguments of `first`.
+/// The output and the exit status of `first`. `words` are the arguments after the command.
 fn first_answer(alloc: Global, words: &[String], flags: Flags) -> Result<Printed, Failure>
     ensures answers { IfOk result (λ answer.
         IsFirstAnswer flags (words_view words.now) (string_bytes answer.text) answer.status) }
@@ -237,7 +241,8 @@ fn first_answer(alloc: Global, words: &[String], flags: Flags) -> Result<Printed
     Ok(answer_of(alloc, lines, flags.json)?)
 }
 
-/// The output for a match, or for none.
+/// The output and the exit status of a command that looks for a match. `found` is what is printed
+/// of the match, `None` if there is no match.
 fn answer_of(alloc: Global, found: Option<String>, json: bool) -> Result<Printed, AllocError>
     ensures { IfOk result (IsPrintedOf json found) }
 {
@@ -257,7 +262,7 @@ fn no_match_text(json: bool) -> &'static str
     if json { "null\n" } else { "no match\n" }
 }
 
-/// The output of `component`.
+/// The output of `component` for a pattern. `kind` is the name of the options.
 fn component(alloc: Global, kind: &str, pattern: &str) -> Result<String, Failure>
     ensures text { IfOk result (λ text. IsComponentText kind.now pattern.now (string_bytes text)) }
     ensures fails { IfErr result (FailsComponent kind.now pattern.now) }
@@ -274,7 +279,7 @@ fn component(alloc: Global, kind: &str, pattern: &str) -> Result<String, Failure
     Ok(component_report(alloc, &names, &regexp, &printed)?)
 }
 
-/// The options with this name, if there are any.
+/// The options with this name, `default`, `hostname` or `pathname`. `None` for any other name.
 pub fn options_of(alloc: Global, kind: &str) -> Result<Option<Options>, Error>
     ensures some { IfOk result (λ found. IfSome found (λ options.
         NamesOptions kind.now (options_view options))) }
@@ -289,7 +294,8 @@ pub fn options_of(alloc: Global, kind: &str) -> Result<Option<Options>, Error>
     }
 }
 
-/// A line with the names, one with the regular expression and one with the printed pattern.
+/// A line with the names of the groups, one with the regular expression and one with the printed
+/// pattern.
 fn component_report(
     alloc: Global,
     names: &[String],

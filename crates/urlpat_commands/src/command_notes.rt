@@ -1,5 +1,5 @@
-//! Notes on standard error: what is wrong with a pattern that is rejected, and that an input is not
-//! a URL.
+//! The notes of `component`, `match`, `first` and the short form on standard error: what is wrong
+//! with a pattern that is rejected, and that an input is not a URL.
 
 ghost use Rattle.std.specs.Prelude.{IfOk, IfSome, IsFalse, IsTrue};
 ghost use Rattle.urlpat_lines.specs.Words.{words_view};
@@ -24,7 +24,8 @@ pub fn explains_errors(words: &[String], flags: Flags) -> bool
     flags.explain_errors || !are_of_command(words)
 }
 
-/// Whether the command among the arguments is `component`, `match` or `first`.
+/// Whether the command among the arguments is `component`, `match` or `first`, which print an error
+/// alone unless the flags ask for errors that are explained.
 fn are_of_command(words: &[String]) -> bool
     ensures these { IsTrue result → AreOfCommand (words_view words.now) }
     ensures other { IsFalse result → ¬ AreOfCommand (words_view words.now) }
@@ -43,7 +44,8 @@ fn is_command(word: &str) -> bool
     matches!(word, "component" | "match" | "first")
 }
 
-/// A note that the input among the arguments is not a URL. `None`: it is one, or there is no input.
+/// Returns a note that the input among the arguments of `match`, `first` or the short form is not a
+/// URL. `None`: it is a URL, or there is no input.
 pub fn input_note(alloc: Global, words: &[String]) -> Result<Option<String>, Error>
     ensures { IfOk result (λ note. IfSome note (λ text. HasRejectedInput (words_view words.now))) }
 {
@@ -58,7 +60,8 @@ pub fn input_note(alloc: Global, words: &[String]) -> Result<Option<String>, Err
     }
 }
 
-/// A note that the input of the short form is not a URL.
+/// Returns a note that the input of the short form is not a URL. `words` are the arguments after
+/// the pattern. `None`: it is a URL, or the arguments are invalid.
 fn short_note(alloc: Global, words: &[String]) -> Result<Option<String>, Error>
     ensures { IfOk result (λ note. IfSome note (λ text.
         HasRejectedShortInput (words_view words.now))) }
@@ -69,7 +72,8 @@ fn short_note(alloc: Global, words: &[String]) -> Result<Option<String>, Error>
     note_of(alloc, None, input)
 }
 
-/// A note that the input of `match` is not a URL.
+/// Returns a note that the input of `match` is not a URL. `words` are the arguments after the
+/// command. `None`: it is a URL, or the arguments are invalid.
 fn match_note(alloc: Global, words: &[String]) -> Result<Option<String>, Error>
     ensures { IfOk result (λ note. IfSome note (λ text.
         HasRejectedMatchInput (words_view words.now))) }
@@ -80,7 +84,8 @@ fn match_note(alloc: Global, words: &[String]) -> Result<Option<String>, Error>
     note_of(alloc, base_of(base), input)
 }
 
-/// A note that the input of `first` is not a URL.
+/// Returns a note that the input of `first` is not a URL. `words` are the arguments after the
+/// command. `None`: it is a URL, or the arguments are invalid.
 fn first_note(alloc: Global, words: &[String]) -> Result<Option<String>, Error>
     ensures { IfOk result (λ note. IfSome note (λ text.
         HasRejectedFirstInput (words_view words.now))) }
@@ -91,8 +96,8 @@ fn first_note(alloc: Global, words: &[String]) -> Result<Option<String>, Error>
     note_of(alloc, base_of(base), input)
 }
 
-/// Diagnoses the pattern among the arguments and its base, in lines for a reader. `None`: the
-/// failure has another reason.
+/// Returns a diagnosis of the pattern among the arguments or of its base, as lines of text. `None`:
+/// neither is rejected, and the run failed for another reason.
 pub fn diagnosis_note(
     alloc: Global,
     words: &[String],
@@ -104,7 +109,9 @@ pub fn diagnosis_note(
     }
 }
 
-/// Diagnoses the pattern among the arguments that is rejected with this error, or its base.
+/// Returns a diagnosis of the pattern among the arguments or of its base, which is rejected with
+/// this error, as lines of text. `None`: the arguments are not those of `component`, `match`,
+/// `first` or the short form, or nothing is rejected.
 fn refusal_note(
     alloc: Global,
     words: &[String],
@@ -122,7 +129,9 @@ fn refusal_note(
     }
 }
 
-/// Diagnoses the pattern of a component, under the options with this name.
+/// Returns a diagnosis of the pattern of a component, as lines of text. `kind` is the name of the
+/// options, `default`, `hostname` or `pathname`; any other name is reported as out of memory.
+/// `None`: the pattern is not rejected.
 fn component_diagnosis(
     alloc: Global,
     kind: &str,

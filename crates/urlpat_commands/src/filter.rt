@@ -1,12 +1,12 @@
-//! The command `filter`: prints the lines of a reader whose URLs match a pattern. Here a pattern
-//! matches one line; the crate `urlpat_lines` reads, selects and counts them.
+//! The command `filter`: prints the lines of a reader whose URLs match a pattern. A pattern is
+//! matched against one line at a time; the crate `urlpat_lines` reads, selects and counts lines.
 
 ghost use Rattle.std.specs.Io.KnownBytes.{Appends};
 ghost use Rattle.std.specs.Prelude.{◌≡◌, ◌⊎◌, option_copied, IfNone, IfSome, OnOk};
 ghost use Rattle.urlpat_matching.specs.MatchTexts.{IsUnmatchedUnder};
 ghost use Rattle.urlpattern_canonical.specs.BaseUrls.{kept_base};
-ghost use Rattle.urlpat_commands.specs.FilterLines.{FilterReplies, HasAskedGroup, HasPiece, IsAskedPattern, IsMissingGroup, IsPieceOf, missing_group_line};
-ghost use Rattle.urlpat_lines.specs.Filters.{GetsPiece};
+ghost use Rattle.urlpat_commands.specs.FilterLines.{FiltersLinesUnlessFailed, HasAskedGroup, HasPiece, IsAskedPattern, IsMissingGroup, IsPieceOf, missing_group_line};
+ghost use Rattle.urlpat_lines.specs.Filters.{AppendsPiece};
 ghost use Rattle.urlpattern.specs.BorrowedMatches.{pattern_captures_view};
 ghost use Rattle.urlpattern.specs.Patterns.{pattern_view};
 
@@ -33,7 +33,7 @@ usage: urlpat filter PATTERN BASE --json
        add --ignore-case for patterns that ignore case
 ";
 
-/// A pattern and a base URL, as a matcher of lines.
+/// A pattern that is matched against the URLs in lines, under a base URL.
 #[derive(Drop)]
 struct UrlLines<'a> {
     alloc: Global,
@@ -41,7 +41,8 @@ struct UrlLines<'a> {
     base: &'a BaseUrl,
 }
 
-/// Runs `filter` with these arguments. Returns the exit status.
+/// Runs `filter` with `words`, the arguments after it. Returns the exit status: `NO_MATCH` if no
+/// line is selected.
 pub fn filter<In: BufRead, Out: Write, Err: Write>(
     alloc: Global,
     words: &[String],
@@ -51,7 +52,7 @@ pub fn filter<In: BufRead, Out: Write, Err: Write>(
     err: &mut Err,
 ) -> u8
     ensures status { (result ≡ DONE) ⊎ (result ≡ NO_MATCH) ⊎ (result ≡ FAILED) }
-    ensures answers { FilterReplies flags words.now result (In.remaining input.old)
+    ensures answers { FiltersLinesUnlessFailed flags words.now result (In.remaining input.old)
         (Out.contents out.old) (Out.contents out.new) }
 {
     let Some(query) = query_of(words, flags.json) else {
@@ -80,13 +81,13 @@ pub fn filter<In: BufRead, Out: Write, Err: Write>(
     }
 }
 
-/// The usage of `filter`.
+/// The usage of `filter`, with output as JSON or not.
 fn usage(json: bool) -> &'static str {
     if json { JSON_USAGE } else { FILTER_USAGE }
 }
 
-/// Compiles the pattern of a query. `None`: the pattern is rejected, or lacks the group of the
-/// query, which is reported.
+/// Compiles the pattern of a query, under a base URL if there is one. `None`: the pattern is
+/// rejected, or lacks the group that the query prints, which is reported.
 fn asked_pattern<Err: Write>(
     alloc: Global,
     query: Query<'_>,
@@ -114,7 +115,8 @@ fn asked_pattern<Err: Write>(
     }
 }
 
-/// The group of a shape, if the pattern lacks it.
+/// The group that a shape prints, if the pattern lacks it. `None`: the pattern has the group, or
+/// the shape prints no group.
 fn missing_group<'q>(
     pattern: &UrlPattern<PatternRegexp>,
     shape: Shape<'q>,
@@ -176,14 +178,15 @@ impl LineMatcher for UrlLines<'_> {
     }
 }
 
-/// Appends what a shape prints of a match: the capture of a group, or JSON.
+/// Appends what a shape prints of a match: the capture of a group if it took part; JSON and a line
+/// end; or nothing.
 fn push_piece(
     alloc: Global,
     found: &UrlPatternCaptures<'_, '_>,
     shape: Shape<'_>,
     written: &mut Vec<u8>,
 ) -> Result<(), AllocError>
-    ensures { OnOk result (GetsPiece (HasPiece (pattern_captures_view found.now) shape.entry)
+    ensures { OnOk result (AppendsPiece (HasPiece (pattern_captures_view found.now) shape.entry)
         written.old.items written.new.items) }
 {
     match shape {

@@ -16,10 +16,11 @@ use urlpattern::regexp::PatternRegexp;
 use urlpattern::{Error, UrlPatternCaptures, UrlPatternList};
 use urlpattern_canonical::find_url;
 
-/// The first match of an input: a line with the index of its pattern and a line for each group, or
-/// JSON. `None`: no pattern matches.
+/// Returns the first match of an input, a URL under the base URL that the argument `base` names: a
+/// line with the index of its pattern and a line for each group, or JSON. `None`: no pattern
+/// matches, or the input is not a URL.
 ///
-/// The error is that of the first pattern or base that is rejected, or that memory ran out.
+/// The error is that of the first pattern that is rejected, or of the base, or that memory ran out.
 pub fn first_groups(
     alloc: Global,
     base: &str,
@@ -39,9 +40,9 @@ pub fn first_groups(
     Ok(answer?)
 }
 
-/// Compiles constructor strings, in order.
+/// Compiles constructor strings, in order, under a base URL if there is one.
 ///
-/// The error is that of the first pattern or base that is rejected, or that memory ran out.
+/// The error is that of the first pattern that is rejected, or of the base, or that memory ran out.
 fn compiled_list(
     alloc: Global,
     patterns: &[String],
@@ -65,8 +66,8 @@ fn compiled_list(
     Ok(list)
 }
 
-/// The first match of an input by compiled patterns: a line with the index of its pattern and a
-/// line for each group, or JSON. `None`: no pattern matches.
+/// Returns the first match of an input by compiled patterns: a line with the index of its pattern
+/// and a line for each group, or JSON. `None`: no pattern matches, or the input is not a URL.
 fn groups_of_first(
     alloc: Global,
     list: &UrlPatternList<PatternRegexp>,

@@ -23,7 +23,7 @@ pub fn first_json(
     json_line(alloc, &tree)
 }
 
-/// The first match as JSON.
+/// The first match as JSON: the index of its pattern, and `found`, the JSON of the match.
 fn first_tree(alloc: Global, index: usize, found: Value) -> Result<Value, AllocError>
     ensures { IfOk result (λ tree. view tree ≡ first_tree index (view found)) }
 {

@@ -1,6 +1,7 @@
-//! The commands of the program `urlpat` that match URLs. `match` and `first` print the captures of
-//! a URL by a pattern, or by the first of several patterns that matches. `filter` prints the lines
-//! of a reader that match. `component` shows what the pattern of one component is compiled to.
+//! The commands of the program `urlpat` that match URLs. `match`, the short form and `first` print
+//! the captures of a URL by a pattern, or by the first of several patterns that matches. `filter`
+//! prints the lines of a reader that match. `component` shows what the pattern of one component is
+//! compiled to. The crate prints help and the version, too.
 #![tactic(auto)]
 
 mod command;

@@ -1,4 +1,4 @@
--- The subject of `explain`: a constructor string and its pattern.
+-- What `explain` explains: a constructor string and its pattern.
 use Rattle.std.specs.Prelude.{◌≡◌, ◌++◌, ℕ, List, Option, String, map, option_map, string_bytes, zip}
 use Rattle.std.specs.Borrow.{Bor}
 use Rattle.std.specs.declared.alloc.Global.{Global}
@@ -11,8 +11,8 @@ use Rattle.urlpattern_matches.specs.GroupTexts.{borrowed_texts, texts_of}
 use Rattle.urlpattern_pattern.specs.Patterns.{PatternView, pattern_view}
 use Rattle.urlpattern_syntax.specs.Text.{option_text}
 
--- A constructor string, as bytes; its compiled pattern; the texts that it has for components; and
--- the values of the components.
+-- A constructor string, as bytes; its compiled pattern; the texts that the string itself has for
+-- components (`given`); and the values of the components, inherited ones included.
 pub record ExplainedView : Type 0 where
   pub string : List ℕ
   pub pattern : PatternView PatternRegexp
@@ -28,16 +28,16 @@ explained_view explained = record {
   values = values_view explained.values.now;
 }
 
--- Borrowed texts, if there are any.
+-- The eight texts of an input, which are borrowed. `None`: there are no texts.
 abbrev pub lent_texts : Option (Bor (Eight (Bor (List ℕ)))) → Option Texts
 lent_texts texts = option_map (λ lent. borrowed_texts lent.now) texts
 
--- The captures of groups with these names.
+-- The names of groups, each with its capture.
 abbrev pub named_captures : (names : List (String Global))
     → (captures : List (Option (Bor (List ℕ))))
     → List (List ℕ × Option (List ℕ))
 named_captures names captures = zip (texts_of names) (map option_text captures)
 
--- A text is appended to another one.
-abbrev pub GetsBytes : (old new : String Global) → List ℕ → Type 0
-GetsBytes old new text = string_bytes new ≡ string_bytes old ++ text
+-- `new` is `old` with `text` appended.
+abbrev pub AppendsBytes : (old new : String Global) → List ℕ → Type 0
+AppendsBytes old new text = string_bytes new ≡ string_bytes old ++ text

@@ -1,4 +1,5 @@
--- The output of `explain` as JSON.
+-- The output of `explain` as JSON. `texts` are the texts of the input, if there is one that is a
+-- URL.
 use Rattle.std.specs.Prelude.{◌≡◌, ℕ, Bool, true, false, List, [], ◌∷◌, ◌++◌, codes, encode_utf8_all, map, zip, Option, None, Some, String}
 use Rattle.std.specs.declared.alloc.Global.{Global}
 use Rattle.serde_json.specs.Data.{Data, boolean, null, number, string, unsigned}
@@ -17,26 +18,29 @@ use Rattle.urlpattern_meaning.specs.Matching.{Returns}
 use Rattle.urlpattern_meaning.specs.PartMeaning.{Captures}
 use Rattle.urlpattern_pattern.specs.Patterns.{PatternView}
 
--- Members of an object, each with its name.
+-- Members of a JSON object, each with its name. Without a value (`None`) the object has no such
+-- member.
 abbrev pub Named : Type 0
 Named = List (List ℕ × Option Data)
 
 -- ---- the pattern of a component
 
--- The origin of a component's value: the constructor string, the base URL, or neither.
+-- The origin of a component's value: `given` in the constructor string, `inherited` from the base
+-- URL, or `left out`. `given` is the text in the constructor string.
 abbrev pub origin : (given value : Option (List ℕ)) → List ℕ
 origin (Some given) value = codes "given"
 origin None (Some value) = codes "inherited"
 origin None None = codes "left out"
 
--- The place in the constructor string, if there is one.
+-- The members for the place of a component's text in the constructor string. Empty if there is no
+-- place.
 abbrev pub place_members : Option Span → Named
 place_members None = []
 place_members (Some span) =
     (codes "start", Some (number (unsigned span.start)))
     ∷ (codes "end", Some (number (unsigned span.end))) ∷ []
 
--- The pattern of a component, its origin and its place.
+-- The members for the pattern of a component, the origin of its value and its place.
 abbrev pub pattern_members : ExplainedView → ComponentName → Option Span → Named
 pattern_members explained name place =
     (codes "pattern", Some (string (encode_utf8_all (explained.pattern name).pattern_string)))
@@ -54,19 +58,19 @@ capture_tree (Some text) = string (encode_utf8_all text)
 abbrev pub groups_named : List (List ℕ × Option (List ℕ)) → Named
 groups_named groups = map (λ group. (encode_utf8_all group.0, Some (capture_tree group.1))) groups
 
--- Whether a text matches, and the captures.
+-- The members that say whether a text matches, and what the groups capture.
 abbrev pub verdict_members : (matches : Bool) → (groups : List (List ℕ × Option (List ℕ))) → Named
 verdict_members matches groups =
     (codes "matches", Some (boolean matches))
     ∷ (codes "groups", Some (object_of (groups_named groups))) ∷ []
 
--- The outcome of a match, with the captures of groups with these names. There are none if the text
--- does not match.
+-- The members for the outcome of a match. `None`: the text does not match, and there are no
+-- captures.
 abbrev pub captured_members : (names : List (List ℕ)) → Option Captures → Named
 captured_members names None = verdict_members false []
 captured_members names (Some captures) = verdict_members true (zip names captures)
 
--- The text of a component, and the outcome of its match.
+-- The members for the text of a component, and for the outcome of matching it.
 abbrev pub AreMatchMembers : ComponentView PatternRegexp → (text : List ℕ) → Named → Type 0
 AreMatchMembers component text members =
     (captures : Option Captures) × Returns pattern_result component.matcher text captures
@@ -74,13 +78,15 @@ AreMatchMembers component text members =
     ≡ (codes "input", Some (string (encode_utf8_all text)))
     ∷ captured_members component.group_name_list captures)
 
--- The text of a component and the outcome of its match are inserted into an object.
+-- The members for the text of a component, and for the outcome of matching it, are inserted into an
+-- object.
 abbrev pub GainsMatch : (before after : List (String Global × Value)) → ComponentView PatternRegexp
     → (text : List ℕ) → Type 0
 GainsMatch before after component text =
     (members : Named) × AreMatchMembers component text members × GainAll before after members
 
--- The text of a component and the outcome of its match, if there are texts.
+-- The members for the text of a component, and for the outcome of matching it. Empty if there are
+-- no texts.
 abbrev pub AreInputMembers : PatternView PatternRegexp → (texts : Option Texts) → ComponentName
     → Named → Type 0
 AreInputMembers pattern None name members = members ≡ []
@@ -89,7 +95,8 @@ AreInputMembers pattern (Some texts) name members =
 
 -- ---- all components
 
--- The JSON of a component.
+-- The JSON of a component: an object with its pattern and, if there are texts, the outcome of
+-- matching its text.
 abbrev pub IsExplainedTree : ExplainedView → (texts : Option Texts) → ComponentName → Data → Type 0
 IsExplainedTree explained texts name tree =
     (place : Option Span) × (members : Named)
@@ -97,14 +104,14 @@ IsExplainedTree explained texts name tree =
     × AreInputMembers explained.pattern texts name members
     × (tree ≡ object_of (pattern_members explained name place ++ members))
 
--- An object with a key for each component.
+-- The JSON of a pattern: an object with a key for each component.
 abbrev pub IsExplanationTree : ExplainedView → (texts : Option Texts) → Data → Type 0
 IsExplanationTree explained texts tree =
     (trees : Eight Data)
     × ((name : ComponentName) → IsExplainedTree explained texts name (at trees name))
     × (tree ≡ object_of (each_member (λ name. Some (at trees name))))
 
--- The explanation as a line of JSON.
+-- `text` is the JSON of a pattern as a line.
 abbrev pub IsExplanationJson : ExplainedView → (texts : Option Texts) → (text : List ℕ) → Type 0
 IsExplanationJson explained texts text =
     (tree : Data) × IsExplanationTree explained texts tree × (text ≡ json_line tree)

@@ -1,4 +1,5 @@
--- The output of `explain` for its arguments. Arguments and texts are bytes.
+-- The output of `explain` for its arguments. Arguments and texts are bytes. `found` has the output
+-- and the exit status.
 use Rattle.std.specs.Prelude.{◌≡◌, ◌⊎◌, ℕ, Bool, true, false, List, [], ◌∷◌, ◌++◌, Ok, Option, None, Some, option_copied, string_bytes}
 use Rattle.std.specs.Io.KnownBytes.{Appends}
 use Rattle.std.specs.Str.{chars}
@@ -25,13 +26,13 @@ use Rattle.urlpattern_pattern.specs.Patterns.{PatternView}
 
 -- ---- arguments
 
--- The arguments: a constructor string, and a base URL and an input if there are any.
+-- The arguments of `explain`: a constructor string, and a base URL and an input if there are any.
 pub record AskedView : Type 0 where
   pub string : List ℕ
   pub base : Option (List ℕ)
   pub input : Option (List ℕ)
 
--- The view of the arguments.
+-- The view of the arguments of `explain`.
 abbrev pub asked_view : Asked → AskedView
 asked_view asked = record {
   string = asked.string.now;
@@ -39,7 +40,8 @@ asked_view asked = record {
   input = option_copied asked.input;
 }
 
--- The arguments of `explain`.
+-- The words are the arguments of `explain`: a constructor string, a base URL or `-`, and an input,
+-- which may be missing.
 abbrev pub AskToExplain : (words : List (List ℕ)) → AskedView → Type 0
 AskToExplain (string ∷ word ∷ []) asked =
     asked ≡ record { string = string; base = base_of word; input = None }
@@ -49,13 +51,14 @@ AskToExplain words asked = ⊥
 
 -- ---- explanations
 
--- The lines for the components of a pattern, with texts if there are any.
+-- `table` is a line for each component: its name and its pattern, and, if there are texts, its
+-- text, whether the text matches, and the captures.
 abbrev pub IsTable : PatternView PatternRegexp → (texts : Option Texts) → (table : List ℕ) → Type 0
 IsTable pattern None table = table ≡ pattern_table pattern
 IsTable pattern (Some texts) table = IsMatchTable pattern texts table
 
--- The output for a pattern, with or without texts: JSON, or a line for each component and the
--- notes.
+-- `text` is the output for a constructor string, with or without the texts of an input: JSON, or a
+-- line for each component and the notes.
 abbrev pub IsShown : (json : Bool) → ExplainedView → (texts : Option Texts) → (text : List ℕ)
     → Type 0
 IsShown true explained texts text = IsExplanationJson explained texts text
@@ -64,19 +67,22 @@ IsShown false explained texts text =
     × AreNotes explained notes
     × (text ≡ table ++ notes)
 
--- The output for a pattern, with this exit status.
+-- `found` is the output for a constructor string, with or without the texts of an input, and the
+-- exit status `status`.
 abbrev pub IsShownBy : (json : Bool) → ExplainedView → (texts : Option Texts) → (status : ℕ)
     → Explanation → Type 0
 IsShownBy json explained texts status found =
     IsShown json explained texts (string_bytes found.text) × (found.status ≡ status)
 
--- The output for a pattern and a URL. The exit status says whether the pattern matches.
+-- `found` is the output for a constructor string and a URL. The exit status says whether the
+-- pattern matches the URL.
 abbrev pub IsShownOf : (json : Bool) → ExplainedView → Parts → Explanation → Type 0
 IsShownOf json explained url found =
     (matched : Bool) × TestsInput pattern_result explained.pattern (match_inputs.Url url) matched
     × IsShownBy json explained (Some (texts_of_url url)) (status_of matched) found
 
--- The output for a pattern and an input, whose texts are shown if it is a URL.
+-- `found` is the output for a constructor string and an input, if there is one. If the input is a
+-- URL, its texts are shown. If it is not a URL, or may be too long for `url`, the exit status is 1.
 abbrev pub IsExplained : (json : Bool) → ExplainedView
     → (base input : Option (List ℕ)) → Explanation → Type 0
 IsExplained json explained base None found = IsShownBy json explained None 0 found
@@ -84,7 +90,8 @@ IsExplained json explained base (Some input) found =
     (IsRejectedText input base × IsShownBy json explained None 1 found)
     ⊎ ((url : Parts) × IsUrlOf input base url × IsShownOf json explained url found)
 
--- The output for a constructor string with this init and this compiled pattern.
+-- `found` is the output for the arguments, given the compiled pattern and the init of the
+-- constructor string.
 abbrev pub IsExplanationOf : (json : Bool) → PatternView PatternRegexp → UrlPatternInit → AskedView
     → Explanation → Type 0
 IsExplanationOf json compiled init asked found =
@@ -96,21 +103,21 @@ IsExplanationOf json compiled init asked found =
       values = values;
     }) asked.base asked.input found
 
--- The output for a constructor string with this compiled pattern.
+-- `found` is the output for the arguments, given the compiled pattern.
 abbrev pub IsExplanationBy : (json : Bool) → PatternView PatternRegexp → AskedView → Explanation
     → Type 0
 IsExplanationBy json compiled asked found =
     (init : UrlPatternInit) × IsInitOfText pattern_engine (chars asked.string) asked.base init
     × IsExplanationOf json compiled init asked found
 
--- The output for these arguments.
+-- `found` is the output for the arguments.
 abbrev pub IsExplanation : Flags → AskedView → Explanation → Type 0
 IsExplanation flags asked found =
     (compiled : PatternView PatternRegexp)
     × IsPatternOf flags.ignore_case asked.string asked.base compiled
     × IsExplanationBy flags.json compiled asked found
 
--- The output for the arguments of `explain` is printed, with this exit status.
+-- The output for the arguments of `explain` is appended to `old`. `status` is the exit status.
 abbrev pub Explains : Flags → (words : List (List ℕ)) → (status : ℕ)
     → (old new : Option (List ℕ)) → Type 0
 Explains flags words status old new =

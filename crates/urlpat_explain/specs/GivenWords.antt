@@ -41,8 +41,8 @@ HasSuch is text = position_or_len is text < length text
 abbrev pub LacksSuch : (is : ℕ → Bool) → List ℕ → Type 0
 LacksSuch is text = position_or_len is text ≡ length text
 
--- The name of a component, a dot and the name of a group; or the name of a group without a dot,
--- which the component alone has.
+-- `word` names the group `name` of the component: it is the name of the component, a dot and the
+-- name of the group; or, without a dot, the name of a group that no other component has.
 abbrev pub IsGroupNamed : {E : Type 0} → PatternView E → (word : List ℕ) → ComponentName
     → (name : List ℕ) → Type 0
 IsGroupNamed pattern word component name =
@@ -51,33 +51,35 @@ IsGroupNamed pattern word component name =
     × (name ≡ after_first is_dot word))
     ⊎ (LacksSuch is_dot word × IsOnlyOwner pattern (chars word) component × (name ≡ word))
 
--- The word names no group.
+-- `word` names no group of the pattern.
 abbrev pub NamesNoGroup : {E : Type 0} → PatternView E → (word : List ℕ) → Type 0
 NamesNoGroup pattern word =
     (component : ComponentName) (name : List ℕ) → ¬ IsGroupNamed pattern word component name
 
 -- ---- arguments
 
--- The text for a group: its component, its name and the text.
+-- A text that is given for a group: the component, the name of the group, and the text.
 abbrev pub Given : Type 0
 Given = ComponentName × Bor (List ℕ) × Bor (List ℕ)
 
--- The argument names the group before its first equals sign, and has the text after it.
+-- The argument `word` names the group before its first equals sign, and gives it the text after the
+-- sign.
 abbrev pub WordGivesGroup : {E : Type 0} → PatternView E → (word : List ℕ) → Given → Type 0
 WordGivesGroup pattern word given =
     HasSuch is_equals_sign word
     × IsGroupNamed pattern (before_first is_equals_sign word) given.0 given.1.now
     × (given.2.now ≡ after_first is_equals_sign word)
 
--- The argument gives no group.
+-- The argument `word` gives no group a text.
 abbrev pub WordGivesNothing : {E : Type 0} → PatternView E → (word : List ℕ) → Type 0
 WordGivesNothing pattern word = (given : Given) → ¬ WordGivesGroup pattern word given
 
--- Each argument gives one of these groups, in order.
+-- The arguments give these groups their texts, an argument for each group, in order.
 abbrev pub AreGiven : {E : Type 0} → PatternView E → (words : List (List ℕ)) → List Given → Type 0
 AreGiven pattern words groups = AllZip (WordGivesGroup pattern) words groups
 
--- An argument gives no group, or memory ran out.
+-- The reason why the arguments give no groups: one of them gives no group a text, or memory ran
+-- out.
 abbrev pub RejectsWords : {E : Type 0} → PatternView E → (words : List (List ℕ)) → ArgumentError
     → Type 0
 RejectsWords pattern words (misgiven.Word word) = Any (WordGivesNothing pattern) words

@@ -15,20 +15,21 @@ use Rattle.urlpattern_pattern.specs.UrlPatterns.{UrlPattern}
 use Rattle.urlpattern_generate.specs.declared.no_link.NoLink.{NoLink}
 use Rattle.urlpattern_generate.specs.declared.no_link.NoLink.TheVariants as no_link
 
--- The URL is that of the pattern with the texts for groups that the arguments give.
+-- `url` is the URL of the pattern with the texts for its groups that the arguments give.
 abbrev pub IsLinkBy : UrlPattern PatternRegexp → (words : List (List ℕ)) → Parts → Type 0
 IsLinkBy pattern words url =
     (groups : List Given) × AreGiven (pattern_view pattern) words groups
     × IsLink pattern_result pattern (given_groups groups) url
 
--- The pattern has no URL with the texts for groups that the arguments give, for this reason.
+-- The pattern has no URL with the texts for its groups that the arguments give, for the reason
+-- `error`.
 abbrev pub RejectsLinkBy : UrlPattern PatternRegexp → (words : List (List ℕ)) → NoLink → Type 0
 RejectsLinkBy pattern words error =
     (groups : List Given) × AreGiven (pattern_view pattern) words groups
     × RejectsLink pattern_result pattern (given_groups groups) error
 
--- The reason why there is no URL: an argument gives no group, the pattern has no URL, or memory ran
--- out.
+-- The reason why there is no URL: an argument gives no group a text, the pattern has no URL with
+-- the texts that are given, or memory ran out.
 abbrev pub LacksUrl : UrlPattern PatternRegexp → (words : List (List ℕ)) → LinkError → Type 0
 LacksUrl pattern words (unlinked.Word word) = Any (WordGivesNothing (pattern_view pattern)) words
 LacksUrl pattern words (unlinked.NoLink error) =
@@ -37,8 +38,8 @@ LacksUrl pattern words unlinked.OutOfMemory = Unit {0}
 
 -- ---- output
 
--- `Is` is true of the compiled pattern among the arguments of `link`, which keeps its parts, and of
--- the arguments after its base.
+-- The arguments of `link` are a pattern, a base URL and more. `Is` is true of the compiled pattern,
+-- which keeps its parts, and of the arguments after the base URL.
 abbrev pub OfPattern : (Is : UrlPattern PatternRegexp → List (List ℕ) → Type 0)
     → (words : List (List ℕ))
     → Type 0
@@ -48,14 +49,15 @@ OfPattern Is (pattern ∷ base ∷ words) =
     × KeepsPartsOfWord false pattern (base_of base) compiled × Is compiled words
 OfPattern Is words = ⊥
 
--- The URL and a line end are written.
+-- The URL that the arguments of `link` ask for and a line end are appended to the output `old`.
 abbrev pub WritesLink : (words : List (List ℕ)) → (old new : Option (List ℕ)) → Type 0
 WritesLink words old new =
     OfPattern (λ pattern given.
     (url : Parts) × IsLinkBy pattern given url × Appends old new (serialize url ++ codes "\n"))
     words
 
--- The pattern has no URL with these arguments.
+-- The pattern among the arguments of `link` has no URL with the texts that are given for its
+-- groups, or an argument gives no group a text.
 abbrev pub HasNoLink : (words : List (List ℕ)) → Type 0
 HasNoLink words =
     OfPattern (λ pattern given.

@@ -1,4 +1,5 @@
--- The notes of `explain` on a pattern. Output is bytes.
+-- The notes of `explain` on a pattern. Output is bytes. `given` are the texts that the constructor
+-- string has for components, and `values` are the values of the components.
 use Rattle.std.specs.Prelude.{◌≡◌, ◌==◌, ℕ, List, [], ◌++◌, codes, length, Option, None, Some, if◌then◌else◌}
 use Rattle.std.specs.List.{flat_map}
 use Rattle.urlpat_explain.specs.Explained.{ExplainedView}
@@ -7,31 +8,33 @@ use Rattle.urlpat_explain.specs.declared.origin_notes.TheConstants.{DEFAULT_PORT
 use Rattle.urlpattern_components.specs.Eight.{Values, at, components, name_text}
 use Rattle.urlpattern_components.specs.declared.eight.ComponentName.{ComponentName}
 
--- The name of a component that is inherited: it is not given, and has a value.
+-- A space and the name of a component that is inherited: it has no text that is given, but a value.
+-- Otherwise empty.
 abbrev pub inherited_name : ComponentName → (given value : Option (List ℕ)) → List ℕ
 inherited_name name None (Some value) = codes " " ++ name_text name
 inherited_name name None None = []
 inherited_name name (Some given) value = []
 
--- The name of a component that has no value.
+-- A space and the name of a component that has no value. Otherwise empty.
 abbrev pub left_out_name : ComponentName → (value : Option (List ℕ)) → List ℕ
 left_out_name name None = codes " " ++ name_text name
 left_out_name name (Some value) = []
 
--- The names of the components that are inherited.
+-- The names of those of `names` whose components are inherited, each after a space.
 abbrev pub inherited_names : (given values : Values) → List ComponentName → List ℕ
 inherited_names given values names =
     flat_map (λ name. inherited_name name (at given name) (at values name)) names
 
--- The names of the components that have no value.
+-- The names of those of `names` whose components have no value, each after a space.
 abbrev pub left_out_names : (values : Values) → List ComponentName → List ℕ
 left_out_names values names = flat_map (λ name. left_out_name name (at values name)) names
 
--- A line with names, if there are any.
+-- A line of `lead` and `names`. Empty if `names` is.
 abbrev pub names_line : (lead names : List ℕ) → List ℕ
 names_line lead names = if length names == 0 then [] else (lead ++ names ++ codes "\n")
 
--- The note on a port that is given as empty, or removed since it is the default one.
+-- The note on a port that is given as empty, or given but removed since it is the default one.
+-- Otherwise empty.
 abbrev pub port_note : (given value : Option (List ℕ)) → List ℕ
 port_note (Some given) (Some value) =
     if length value == 0 then (if length given == 0 then EMPTY_PORT.now else DEFAULT_PORT.now)
@@ -39,18 +42,20 @@ port_note (Some given) (Some value) =
 port_note (Some given) None = []
 port_note None value = []
 
--- The notes on texts of components that have these values.
+-- The notes on what is inherited, what is left out, and what the port is.
 abbrev pub value_notes : (given values : Values) → List ℕ
 value_notes given values =
     names_line INHERITED.now (inherited_names given values components)
     ++ names_line LEFT_OUT.now (left_out_names values components)
     ++ port_note given.port values.port
 
--- The places of component texts in the constructor string.
+-- `places` are the names of the components whose texts have a place in the constructor string, each
+-- with that place.
 abbrev pub ArePlaces : ExplainedView → (places : List ℕ) → Type 0
 ArePlaces explained places = ArePlaceCells explained.string explained.given places
 
--- The notes: the places of component texts, and the notes on the texts.
+-- `notes` are all notes: the places of component texts, what is inherited, what is left out, and
+-- what the port is. A note that would name nothing is left out.
 abbrev pub AreNotes : ExplainedView → (notes : List ℕ) → Type 0
 AreNotes explained notes =
     (places : List ℕ) × ArePlaces explained places

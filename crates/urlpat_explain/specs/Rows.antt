@@ -15,11 +15,11 @@ use Rattle.urlpattern_pattern.specs.Patterns.{PatternView}
 
 -- ---- columns
 
--- A text as it is shown. An empty text is shown as two quotation marks.
+-- A text as the table shows it: an empty one as two quotation marks.
 abbrev pub shown : List ℕ → List ℕ
 shown text = if length text == 0 then codes "\"\"" else text
 
--- A text, spaces up to a width, and two more.
+-- A cell of a column: a text, spaces up to `width` characters, and two more spaces.
 abbrev pub column : (width : ℕ) → List ℕ → List ℕ
 column width text = text ++ repeat (width - length (chars text)) (codes " ") ++ codes "  "
 
@@ -31,11 +31,11 @@ pattern_cell pattern name = shown (encode_utf8_all (pattern name).pattern_string
 abbrev pub text_cell : Texts → ComponentName → List ℕ
 text_cell texts name = shown (encode_utf8_all (at texts name))
 
--- The length of the longest cell in characters, for these components.
+-- The length in characters of the longest cell of these components.
 abbrev pub widest_of : (cell : ComponentName → List ℕ) → List ComponentName → ℕ
 widest_of cell names = fold max 0 (map (λ name. length (chars (cell name))) names)
 
--- The length of the longest cell in characters.
+-- The length in characters of the longest cell of all components.
 abbrev pub widest : (cell : ComponentName → List ℕ) → ℕ
 widest cell = widest_of cell components
 
@@ -46,42 +46,42 @@ abbrev pub pattern_row : PatternView PatternRegexp → ComponentName → List �
 pattern_row pattern name =
     column NAME_WIDTH (name_text name) ++ pattern_cell pattern name ++ codes "\n"
 
--- A row for each component, without texts.
+-- A row for each component: its name and its pattern.
 abbrev pub pattern_table : PatternView PatternRegexp → List ℕ
 pattern_table pattern = flat_map (pattern_row pattern) components
 
 -- ---- patterns with texts
 
--- The cell of a group: its name, and its capture if it took part.
+-- The cell of a group: its name, and its capture if it took part (`Some`).
 abbrev pub group_cell : List ℕ × Option (List ℕ) → List ℕ
 group_cell group =
     codes "  " ++ encode_utf8_all group.0 ++ capture_text (option_map encode_utf8_all group.1)
 
--- Whether a matcher matches, and the captures of groups with these names.
+-- The outcome of matching a text: `matches` and a cell for each group, or `differs` (`None`).
 abbrev pub verdict_text : (names : List (List ℕ)) → Option Captures → List ℕ
 verdict_text names None = codes "differs"
 verdict_text names (Some captures) = codes "matches" ++ flat_map group_cell (zip names captures)
 
--- The verdict of a component's matcher on a text.
+-- `verdict` is the outcome of matching a text by the component's matcher, in words.
 abbrev pub IsVerdict : ComponentView PatternRegexp → (text : List ℕ) → (verdict : List ℕ) → Type 0
 IsVerdict component text verdict =
     (captures : Option Captures) × Returns pattern_result component.matcher text captures
     × (verdict ≡ verdict_text component.group_name_list captures)
 
--- The cells of a row before the verdict.
+-- The cells of a component's row before the verdict: its name, its pattern and its text.
 abbrev pub leading_cells : PatternView PatternRegexp → Texts → ComponentName → List ℕ
 leading_cells pattern texts name =
     column NAME_WIDTH (name_text name)
     ++ column (widest (pattern_cell pattern)) (pattern_cell pattern name)
     ++ column (widest (text_cell texts)) (text_cell texts name)
 
--- The row of a component: its name, its pattern, its text and the verdict.
+-- `row` is the row of a component: its name, its pattern, its text and the verdict.
 abbrev pub IsMatchRow : PatternView PatternRegexp → Texts → ComponentName → (row : List ℕ) → Type 0
 IsMatchRow pattern texts name row =
     (verdict : List ℕ) × IsVerdict (pattern name) (at texts name) verdict
     × (row ≡ leading_cells pattern texts name ++ verdict ++ codes "\n")
 
--- The text is one piece for each component, in order.
+-- `text` is a piece for each of these components, in order, for which `IsPiece` is true.
 abbrev pub HasPieceForEach : (IsPiece : ComponentName → List ℕ → Type 0) → List ComponentName
     → (text : List ℕ) → Type 0
 HasPieceForEach IsPiece [] text = text ≡ []
@@ -90,6 +90,6 @@ HasPieceForEach IsPiece (name ∷ names) text =
     × IsPiece name first
     × HasPieceForEach IsPiece names others
 
--- A row for each component, with texts.
+-- `table` is a row for each component: its name, its pattern, its text and the verdict.
 abbrev pub IsMatchTable : PatternView PatternRegexp → Texts → (table : List ℕ) → Type 0
 IsMatchTable pattern texts table = HasPieceForEach (IsMatchRow pattern texts) components table

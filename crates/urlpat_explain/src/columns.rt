@@ -1,10 +1,10 @@
-//! A table with a line for each component of a pattern.
+//! The table that `explain` prints, with a line for each component of a pattern.
 
 ghost use Rattle.std.specs.List.{flat_map};
 ghost use Rattle.std.specs.Prelude.{◌≡◌, length, string_bytes, IfOk, OnOk};
 ghost use Rattle.std.specs.Str.{chars};
-ghost use Rattle.urlpat_matching.specs.GroupLines.{GetsLines};
-ghost use Rattle.urlpat_explain.specs.Explained.{GetsBytes, named_captures};
+ghost use Rattle.urlpat_matching.specs.GroupLines.{AppendsLines};
+ghost use Rattle.urlpat_explain.specs.Explained.{AppendsBytes, named_captures};
 ghost use Rattle.urlpat_explain.specs.Rows.{IsMatchTable, IsVerdict, column, group_cell, pattern_cell, pattern_table, shown, text_cell, widest};
 ghost use Rattle.urlpattern_matcher.specs.Components.{component_view};
 ghost use Rattle.urlpattern_matches.specs.GroupTexts.{borrowed_texts};
@@ -37,8 +37,8 @@ pub fn pattern_table(
     Ok(table)
 }
 
-/// A line for each component: its name, its printed pattern, its text, whether it matches, and its
-/// captures.
+/// A line for each component: its name, its printed pattern, its text of the input, whether its
+/// pattern matches the text, and the captures.
 pub fn match_table(
     alloc: Global,
     pattern: &UrlPattern<PatternRegexp>,
@@ -65,7 +65,7 @@ pub fn match_table(
     Ok(table)
 }
 
-/// The length of the longest pattern cell in characters.
+/// The length in characters of the longest cell that `pattern_cell` returns.
 fn pattern_width(pattern: &UrlPattern<PatternRegexp>) -> usize
     ensures { result ≡ widest (pattern_cell (pattern_view pattern.now)) }
 {
@@ -76,7 +76,7 @@ fn pattern_width(pattern: &UrlPattern<PatternRegexp>) -> usize
     width
 }
 
-/// The length of the longest text cell in characters.
+/// The length in characters of the longest cell that `text_cell` returns.
 fn text_width(texts: &Eight<&str>) -> usize
     ensures { result ≡ widest (text_cell (borrowed_texts texts.now)) }
 {
@@ -101,7 +101,7 @@ fn text_cell<'u>(texts: &Eight<&'u str>, name: ComponentName) -> &'u str
     shown(texts.get(name))
 }
 
-/// A text as it is shown. An empty text is shown as two quotation marks.
+/// A text as the table shows it: an empty one as two quotation marks.
 fn shown(text: &str) -> &str
     ensures { result.now ≡ shown text.now }
 {
@@ -115,9 +115,9 @@ fn length_of(text: &str) -> usize
     text.chars().count()
 }
 
-/// Appends a text, spaces up to a width, and two more.
+/// Appends a cell of a column: a text, spaces up to `width` characters, and two more spaces.
 fn push_column(alloc: Global, row: &mut String, text: &str, width: usize) -> Result<(), AllocError>
-    ensures { OnOk result (GetsBytes row.old row.new (column width text.now)) }
+    ensures { OnOk result (AppendsBytes row.old row.new (column width text.now)) }
 {
     let missing = width.saturating_sub(length_of(text));
     let spaces = " ".repeat(alloc, missing)?;
@@ -126,7 +126,7 @@ fn push_column(alloc: Global, row: &mut String, text: &str, width: usize) -> Res
     row.push_str("  ")
 }
 
-/// Appends whether a component matches a text, and its captures.
+/// Appends whether a component matches a text, and the captures of its groups if it does.
 fn push_verdict(
     alloc: Global,
     row: &mut String,
@@ -134,7 +134,7 @@ fn push_verdict(
     text: &str,
 ) -> Result<(), Error>
     ensures { OnOk result
-        (GetsLines (IsVerdict (component_view component.now) (chars text.now)) row.old row.new) }
+        (AppendsLines (IsVerdict (component_view component.now) (chars text.now)) row.old row.new) }
 {
     let Some(captures) = component.matcher.matches(alloc, text)? else {
         row.push_str("differs")?;
@@ -145,14 +145,14 @@ fn push_verdict(
     Ok(())
 }
 
-/// Appends each group: its name, and its capture if it took part.
+/// Appends a cell for each group: its name, and its capture if it took part.
 fn push_group_cells(
     row: &mut String,
     names: &[String],
     captures: &[Option<&str>],
 ) -> Result<(), AllocError>
-    ensures { OnOk result
-        (GetsBytes row.old row.new (flat_map group_cell (named_captures names.now captures.now))) }
+    ensures { OnOk result (AppendsBytes row.old row.new
+        (flat_map group_cell (named_captures names.now captures.now))) }
 {
     for (name, capture) in names.iter().zip(captures) {
         push_group_cell(row, name, *capture)?;
@@ -160,10 +160,10 @@ fn push_group_cells(
     Ok(())
 }
 
-/// Appends a group: its name, and its capture if it took part.
+/// Appends the cell of a group: its name, and its capture if it took part (`Some`).
 fn push_group_cell(row: &mut String, name: &str, capture: Option<&str>) -> Result<(), AllocError>
     ensures { OnOk result
-        (GetsBytes row.old row.new (group_cell (chars name.now, option_text capture.entry))) }
+        (AppendsBytes row.old row.new (group_cell (chars name.now, option_text capture.entry))) }
 {
     row.push_str("  ")?;
     row.push_str(name)?;

@@ -13,21 +13,22 @@ use urlpattern_engine::PatternRegexp;
 use urlpattern_init::UrlPatternInit;
 use urlpattern_pattern::UrlPattern;
 
-/// A constructor string with its pattern and the values of its components.
+/// What `explain` explains: a constructor string with its pattern and the values of its components.
 #[derive(Clone, Copy)]
 pub struct Explained<'a> {
     /// The constructor string.
     pub string: &'a str,
-    /// The pattern that it is compiled to.
+    /// The pattern to which the constructor string is compiled.
     pub pattern: &'a UrlPattern<PatternRegexp>,
-    /// The texts that the constructor string has for components.
+    /// The texts that the constructor string itself has for components.
     pub init: &'a UrlPatternInit,
     /// The values of the components, inherited ones included.
     pub values: &'a UrlPatternInit,
 }
 
 impl Explained<'_> {
-    /// The origin of a component's value: `given`, `inherited` or `left out`.
+    /// The origin of a component's value: `given` in the constructor string, `inherited` from the
+    /// base URL, or `left out`.
     pub fn origin(&self, name: ComponentName) -> &'static str
         ensures { result.now
             ≡ origin (at (explained_view self.now).given name)
@@ -36,8 +37,8 @@ impl Explained<'_> {
         origin_of(self.init.get(name), self.values.get(name))
     }
 
-    /// The place of a component's text in the constructor string, in bytes. `None`: the text is not
-    /// in the string, or implied by it, or empty.
+    /// The place of a component's text in the constructor string, in bytes. `None`: the string has
+    /// no text for the component, or only implies one, or the text is empty.
     pub fn place(&self, name: ComponentName) -> Option<Span>
         ensures { MayBeAt (explained_view self.now).string (at (explained_view self.now).given name)
             result }
@@ -50,7 +51,7 @@ impl Explained<'_> {
         )
     }
 
-    /// The texts of components in the constructor string.
+    /// The texts that the constructor string itself has for components.
     fn given(&self) -> Eight<Option<&str>> {
         let init = self.init;
         Eight {
@@ -66,7 +67,8 @@ impl Explained<'_> {
     }
 }
 
-/// The origin of a value, by the text in the constructor string and the value of the component.
+/// The origin of a component's value. `given` is its text in the constructor string, and `value` is
+/// the value.
 fn origin_of(given: Option<&str>, value: Option<&str>) -> &'static str
     ensures { result.now ≡ origin (option_text given.entry) (option_text value.entry) }
 {

@@ -20,8 +20,8 @@ use urlpattern_inputs::json_writing::put_text;
 use urlpattern_matcher::component::Component;
 use urlpattern_syntax::Error;
 
-/// The explanation as a line of JSON: an object with a key for each component, with the texts of a
-/// URL if there are any.
+/// The explanation of a pattern as a line of JSON: an object with a key for each component. `texts`
+/// are the texts of the input, if there is one that is a URL.
 pub fn explanation_json(
     alloc: Global,
     explained: &Explained<'_>,
@@ -35,7 +35,8 @@ pub fn explanation_json(
     Ok(json_line(alloc, &tree)?)
 }
 
-/// The explanation as JSON.
+/// The explanation of a pattern as JSON: an object with a key for each component. `texts` are the
+/// texts of the input, if there is one that is a URL.
 fn explanation_tree(
     alloc: Global,
     explained: &Explained<'_>,
@@ -51,7 +52,7 @@ fn explanation_tree(
     Ok(Value::Object(members))
 }
 
-/// Inserts the explanation of a component into an object.
+/// Inserts the explanation of the component `name` into an object, under its name.
 fn put_component(
     members: &mut Map<String, Value>,
     alloc: Global,
@@ -67,7 +68,8 @@ fn put_component(
     Ok(())
 }
 
-/// The explanation of a component as JSON.
+/// The explanation of the component `name` as JSON: an object with its pattern and, if there are
+/// texts, the outcome of matching its text.
 fn component_tree(
     alloc: Global,
     explained: &Explained<'_>,
@@ -92,7 +94,8 @@ fn component_tree(
     Ok(Value::Object(members))
 }
 
-/// Inserts the pattern of a component into an object, with its origin, and its place if it has one.
+/// Inserts the pattern of a component into an object, with the origin of its value, and its place
+/// if it has one.
 fn put_pattern(
     members: &mut Map<String, Value>,
     alloc: Global,
@@ -125,7 +128,7 @@ fn put_place(
     serde_json::put(members, alloc, "end", Value::from(end))
 }
 
-/// Inserts a text into an object, with whether a component matches it, and its captures.
+/// Inserts a text into an object, with whether a component matches the text, and the captures.
 fn put_match(
     members: &mut Map<String, Value>,
     alloc: Global,
@@ -144,7 +147,7 @@ fn put_match(
     Ok(())
 }
 
-/// Inserts into an object whether a text matches, and the captures of groups with these names.
+/// Inserts into an object whether a text matches, and the captures of the groups with these names.
 fn put_verdict(
     members: &mut Map<String, Value>,
     alloc: Global,
@@ -160,7 +163,7 @@ fn put_verdict(
     serde_json::put(members, alloc, "groups", groups)
 }
 
-/// An object with the capture of each group, or null if it took no part.
+/// An object with the capture of each group under its name, null for a group that took no part.
 fn groups_tree(
     alloc: Global,
     names: &[String],

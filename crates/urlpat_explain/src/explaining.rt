@@ -1,5 +1,5 @@
-//! The command `explain`: prints a line for each component of a pattern and notes on what the
-//! pattern leaves out, or all of it as JSON.
+//! The command `explain`: prints a line for each component of a pattern and notes on where the
+//! components come from; or, as JSON, an object with a key for each component.
 
 ghost use Rattle.std.specs.Prelude.{◌≡◌, ◌≢◌, ◌⊎◌, length, option_copied, string_bytes, IfNone, IfOk, IfSome};
 ghost use Rattle.urlpat_matching.specs.Status.{status_of};
@@ -33,7 +33,7 @@ usage: urlpat explain PATTERN BASE [INPUT]
        add --ignore-case for patterns that ignore case, --json for JSON
 ";
 
-/// The arguments of `explain`: a constructor string, its base URL, and an input.
+/// The arguments of `explain`: a constructor string, and a base URL and an input if there are any.
 #[derive(Clone, Copy)]
 struct Asked<'a> {
     string: &'a str,
@@ -41,15 +41,17 @@ struct Asked<'a> {
     input: Option<&'a str>,
 }
 
-/// An explanation, and the exit status: whether the pattern matches the input, if there is one.
+/// The output of `explain`, and the exit status, which says whether the pattern matches the input,
+/// if there is one.
 #[derive(Drop)]
 struct Explanation {
     text: String,
     status: u8,
 }
 
-/// Runs `explain` with these arguments. Returns the exit status: `NO_MATCH` if the pattern does not
-/// match the input. An input that is not a URL is reported to `err`.
+/// Runs `explain` with the arguments after it. Returns the exit status: `NO_MATCH` if there is an
+/// input that the pattern does not match. An input that is not a URL is not matched, and is
+/// reported to `err`.
 pub fn explain<Out: Write, Err: Write>(
     alloc: Global,
     words: &[String],
@@ -85,7 +87,7 @@ pub fn explain<Out: Write, Err: Write>(
     }
 }
 
-/// Parses the arguments of `explain`. `None`: they are invalid.
+/// Parses the arguments of `explain`. `None`: the arguments are invalid.
 fn asked_by(words: &[String]) -> Option<Asked<'_>>
     ensures asked { IfSome result (λ asked.
         AskToExplain (words_view words.now) (asked_view asked)) }
@@ -106,7 +108,8 @@ fn asked_by(words: &[String]) -> Option<Asked<'_>>
     }
 }
 
-/// A note that the input is not a URL. `None`: it is one, or there is no input.
+/// Returns a note that the input is not a URL under the base URL, if there is one. `None`: the
+/// input is a URL, or there is no input.
 fn input_note(
     alloc: Global,
     base: Option<&str>,
@@ -118,7 +121,7 @@ fn input_note(
     }
 }
 
-/// The explanation of a pattern, with or without an input.
+/// The output of `explain` for its arguments.
 ///
 /// The error is the one with which the pattern or its base is rejected, or that memory ran out.
 fn explanation_for(alloc: Global, asked: Asked<'_>, flags: Flags) -> Result<Explanation, Error>
@@ -132,7 +135,8 @@ fn explanation_for(alloc: Global, asked: Asked<'_>, flags: Flags) -> Result<Expl
     found
 }
 
-/// The explanation of a pattern, given the compiled pattern and the init of the constructor string.
+/// The output of `explain` for its arguments, given the compiled pattern and the init of the
+/// constructor string.
 fn explanation_of(
     alloc: Global,
     asked: Asked<'_>,
@@ -156,7 +160,9 @@ fn explanation_of(
     found
 }
 
-/// The explanation of a constructor string, with the texts of the input if that is a URL.
+/// The output for a constructor string, with the texts of the input if there is one that is a URL,
+/// and the exit status: `NO_MATCH` if the pattern does not match the input, or the input is not a
+/// URL.
 fn answer(
     alloc: Global,
     explained: &Explained<'_>,
@@ -187,8 +193,8 @@ fn answer(
     })
 }
 
-/// The output for a pattern: JSON, or a line for each component and the notes, with the texts of a
-/// URL if there are any.
+/// The output for a constructor string: JSON, or a line for each component and the notes. `texts`
+/// are the texts of the input, if there is one that is a URL.
 fn shown(
     alloc: Global,
     explained: &Explained<'_>,
@@ -206,7 +212,8 @@ fn shown(
     Ok(text)
 }
 
-/// A line for each component, with its text if there is one.
+/// A line for each component: its name and its pattern, and, if there are texts, its text, whether
+/// the text matches, and the captures.
 fn table(
     alloc: Global,
     pattern: &UrlPattern<PatternRegexp>,

@@ -14,10 +14,11 @@ use urlpattern_engine::PatternRegexp;
 use urlpattern_generate::GivenGroup;
 use urlpattern_pattern::UrlPattern;
 
-/// The reason why arguments give no groups.
+/// The reason why arguments of `link` give no groups.
 #[derive(Drop)]
 pub enum ArgumentError<'w> {
-    /// The argument is not the name of a group, `=` and a text.
+    /// The argument that gives no group a text: it has no `=`, or what is before `=` names no
+    /// group, or a group that several components have.
     Word(&'w str),
     /// Memory ran out.
     OutOfMemory,
@@ -31,9 +32,10 @@ impl From<AllocError> for ArgumentError<'_> {
     }
 }
 
-/// Parses arguments, each of which gives the text for a group.
+/// Parses arguments, each of which gives the text for a group. After the name of a component and a
+/// dot, any name of a group is accepted.
 ///
-/// The error is an argument that gives no group, or that memory ran out.
+/// The error is the first argument that gives no group a text, or that memory ran out.
 pub fn given_by<'w>(
     alloc: Global,
     pattern: &UrlPattern<PatternRegexp>,
@@ -58,8 +60,8 @@ pub fn given_by<'w>(
     Ok(groups)
 }
 
-/// Parses an argument that gives the text for a group: its name, `=`, and the text. `None`: the
-/// argument has no `=`, or its name names no group.
+/// Parses an argument that gives the text for a group: what names the group, `=`, and the text.
+/// `None`: the argument has no `=`, or what is before it names no group.
 fn word_group<'w>(pattern: &UrlPattern<PatternRegexp>, word: &'w str) -> Option<GivenGroup<'w>>
     ensures given { IfSome result (WordGivesGroup (pattern_view pattern.now) word.now) }
     ensures nothing { IfNone result (WordGivesNothing (pattern_view pattern.now) word.now) }
@@ -69,8 +71,9 @@ fn word_group<'w>(pattern: &UrlPattern<PatternRegexp>, word: &'w str) -> Option<
     Some((component, group, text))
 }
 
-/// The group with a name: a component, a dot and the group, or the group alone if a single
-/// component has it. After a dot, any name of a group is accepted.
+/// The group that `name` names: a component, a dot and the group, or the group alone if a single
+/// component has it. After a dot, any name of a group is accepted. `None`: no component has the
+/// name before the dot; or, without a dot, no component has the group, or several have it.
 fn named_group<'w>(
     pattern: &UrlPattern<PatternRegexp>,
     name: &'w str,
@@ -85,7 +88,8 @@ fn named_group<'w>(
     }
 }
 
-/// The component that alone has a group with this name.
+/// The only component that has a group with this name. `None`: no component has one, or several
+/// have.
 fn owner(pattern: &UrlPattern<PatternRegexp>, name: &str) -> Option<ComponentName>
     ensures alone { IfSome result (IsOnlyOwner (pattern_view pattern.now) (chars name.now)) }
     ensures none { IfNone result (HasNoSingleOwner (pattern_view pattern.now) (chars name.now)) }

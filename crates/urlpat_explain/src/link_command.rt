@@ -1,4 +1,4 @@
-//! The command `link`: prints the URL of a pattern, given texts for its groups.
+//! The command `link`: prints the URL of a pattern with given texts for its groups.
 
 ghost use Rattle.std.specs.Prelude.{◌≡◌, ◌≢◌, ◌⊎◌, ◌++◌, codes, IfErr, IfOk, OnOk};
 ghost use Rattle.std.specs.Io.KnownBytes.{Appends};
@@ -21,10 +21,10 @@ use urlpattern_pattern::UrlPattern;
 /// The usage of `link`.
 const LINK_USAGE: &str = "usage: urlpat link PATTERN BASE NAME=VALUE..\n";
 
-/// The reason why there is no URL.
+/// The reason why `link` has no URL.
 #[derive(Drop)]
 pub enum LinkError<'w> {
-    /// The argument is not the name of a group, `=` and a text.
+    /// The argument that gives no group a text.
     Word(&'w str),
     /// The pattern has no URL with these texts for its groups.
     NoLink(NoLink),
@@ -32,8 +32,8 @@ pub enum LinkError<'w> {
     OutOfMemory,
 }
 
-/// Runs `link` with these arguments. Returns the exit status: `NO_MATCH` if there is no URL, which
-/// is reported to `err`.
+/// Runs `link` with the arguments after it. Returns the exit status: `NO_MATCH` if there is no URL
+/// or an argument gives no group a text, which is reported to `err` with the reason.
 pub fn link<Out: Write, Err: Write>(
     alloc: Global,
     words: &[String],
@@ -65,7 +65,8 @@ pub fn link<Out: Write, Err: Write>(
     }
 }
 
-/// Reports why there is no URL. Returns the exit status.
+/// Reports why there is no URL. Returns the exit status: `FAILED` if memory ran out, else
+/// `NO_MATCH`.
 fn report<Err: Write>(reason: &LinkError<'_>, err: &mut Err) -> u8
     ensures status { (result ≡ NO_MATCH) ⊎ (result ≡ FAILED) }
     ensures known { result ≡ NO_MATCH → reason.now ≢ all_unlinked.OutOfMemory }
@@ -77,7 +78,9 @@ fn report<Err: Write>(reason: &LinkError<'_>, err: &mut Err) -> u8
     }
 }
 
-/// The URL of a pattern, given arguments with texts for its groups.
+/// Returns the URL of a pattern with the texts for its groups that the arguments give.
+///
+/// The error is the reason why there is no URL.
 fn linked<'w>(
     alloc: Global,
     pattern: &UrlPattern<PatternRegexp>,

@@ -1,4 +1,4 @@
-//! Messages on why there is no URL.
+//! The messages of `link` on why there is no URL.
 
 use crate::link_command::LinkError;
 use std::io;
@@ -17,7 +17,7 @@ pub(crate) fn write_reason<Err: Write>(reason: &LinkError<'_>, err: &mut Err) ->
     }
 }
 
-/// Writes why there is no URL, and which argument is missing for a group.
+/// Writes the reason of the library, and which argument to add if the text for a group is missing.
 fn write_refusal<Err: Write>(refusal: &NoLink, err: &mut Err) -> io::Result<()> {
     match refusal {
         NoLink::Component(GenerateError::Missing(component, name)) => {

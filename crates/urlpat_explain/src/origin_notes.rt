@@ -2,8 +2,8 @@
 //! the base URL, what it leaves out, and what its port is.
 
 ghost use Rattle.std.specs.Prelude.{◌≡◌, string_bytes, IfOk, OnOk};
-ghost use Rattle.urlpat_matching.specs.GroupLines.{GetsLines};
-ghost use Rattle.urlpat_explain.specs.Explained.{explained_view, GetsBytes};
+ghost use Rattle.urlpat_matching.specs.GroupLines.{AppendsLines};
+ghost use Rattle.urlpat_explain.specs.Explained.{explained_view, AppendsBytes};
 ghost use Rattle.urlpat_explain.specs.OriginNotes.{AreNotes, ArePlaces, inherited_name, left_out_name, names_line, port_note, value_notes};
 ghost use Rattle.urlpat_explain.specs.ComponentPlaces.{place_cell};
 ghost use Rattle.urlpattern_init.specs.Inheritance.{values_view};
@@ -15,13 +15,13 @@ use urlpattern_components::ComponentName;
 use urlpattern_diagnosis::Span;
 use urlpattern_init::UrlPatternInit;
 
-/// The note on components in the constructor string.
+/// The beginning of the note that says where the texts of components are in the constructor string.
 const PLACES: &str = "bytes of the pattern:";
 
-/// The note on components that are inherited.
+/// The beginning of the note that names the components that are inherited.
 const INHERITED: &str = "inherited from the base URL:";
 
-/// The note on components that are neither given nor inherited.
+/// The beginning of the note that names the components that are neither given nor inherited.
 const LEFT_OUT: &str = "left out, so that any text matches:";
 
 /// The note on a port that is empty.
@@ -30,13 +30,15 @@ const EMPTY_PORT: &str = "the port is empty: only the default port of the protoc
 /// The note on a port that is removed since it is the default one.
 const DEFAULT_PORT: &str = "the port is the default port of the protocol, which a URL leaves out\n";
 
-/// Appends the notes on a constructor string.
+/// Appends the notes on a constructor string: where its components are, what is inherited, what is
+/// left out, and what the port is. A note that would name nothing is left out.
 pub fn push_notes(
     alloc: Global,
     text: &mut String,
     explained: &Explained<'_>,
 ) -> Result<(), AllocError>
-    ensures { OnOk result (GetsLines (AreNotes (explained_view explained.now)) text.old text.new) }
+    ensures { OnOk result
+        (AppendsLines (AreNotes (explained_view explained.now)) text.old text.new) }
 {
     let places = places_of(alloc, explained)?;
     let notes = value_notes(alloc, explained.init, explained.values)?;
@@ -45,7 +47,8 @@ pub fn push_notes(
     Ok(())
 }
 
-/// The components in the constructor string, each with its place.
+/// The name and the place of each component whose text has a place in the constructor string, with
+/// a space before each.
 fn places_of(alloc: Global, explained: &Explained<'_>) -> Result<String, AllocError>
     ensures { IfOk result (λ cells. ArePlaces (explained_view explained.now) (string_bytes cells)) }
 {
@@ -56,14 +59,14 @@ fn places_of(alloc: Global, explained: &Explained<'_>) -> Result<String, AllocEr
     Ok(cells)
 }
 
-/// Appends a component and its place, if it has one.
+/// Appends the name and the place of a component, if it has a place.
 fn push_place(
     alloc: Global,
     cells: &mut String,
     name: ComponentName,
     place: Option<Span>,
 ) -> Result<(), AllocError>
-    ensures { OnOk result (GetsBytes cells.old cells.new (place_cell name place)) }
+    ensures { OnOk result (AppendsBytes cells.old cells.new (place_cell name place)) }
 {
     let Some(Span { start, end }) = place else {
         return Ok(());
@@ -74,7 +77,8 @@ fn push_place(
     Ok(())
 }
 
-/// The notes on the texts of an init, which has these values.
+/// The notes on what is inherited, what is left out, and what the port is. `init` has the texts
+/// that are given, and `values` has the values of the components.
 fn value_notes(
     alloc: Global,
     init: &UrlPatternInit,
@@ -100,14 +104,15 @@ fn value_notes(
     Ok(notes)
 }
 
-/// Appends the name of a component, if it is inherited.
+/// Appends a space and the name of a component, if it is inherited: it has no text that is given,
+/// but a value.
 fn push_inherited(
     names: &mut String,
     name: ComponentName,
     given: Option<&str>,
     value: Option<&str>,
 ) -> Result<(), AllocError>
-    ensures { OnOk result (GetsBytes names.old names.new
+    ensures { OnOk result (AppendsBytes names.old names.new
         (inherited_name name (option_text given.entry) (option_text value.entry))) }
 {
     if given.is_none() && value.is_some() {
@@ -117,14 +122,15 @@ fn push_inherited(
     Ok(())
 }
 
-/// Appends the name of a component, if it is neither given nor inherited.
+/// Appends a space and the name of a component, if it has no value: it is neither given nor
+/// inherited.
 fn push_left_out(
     names: &mut String,
     name: ComponentName,
     value: Option<&str>,
 ) -> Result<(), AllocError>
     ensures { OnOk result
-        (GetsBytes names.old names.new (left_out_name name (option_text value.entry))) }
+        (AppendsBytes names.old names.new (left_out_name name (option_text value.entry))) }
 {
     if value.is_none() {
         names.push(' ')?;
@@ -133,9 +139,9 @@ fn push_left_out(
     Ok(())
 }
 
-/// Appends a line with names, if there are any.
+/// Appends a line of `lead` and `names`, unless `names` is empty.
 fn push_names(notes: &mut String, lead: &str, names: &str) -> Result<(), AllocError>
-    ensures { OnOk result (GetsBytes notes.old notes.new (names_line lead.now names.now)) }
+    ensures { OnOk result (AppendsBytes notes.old notes.new (names_line lead.now names.now)) }
 {
     if names.is_empty() {
         return Ok(());
@@ -145,13 +151,13 @@ fn push_names(notes: &mut String, lead: &str, names: &str) -> Result<(), AllocEr
     notes.push('\n')
 }
 
-/// Appends the note on the port, if the constructor string has one and its value is empty.
+/// Appends the note on the port, if a port is given and its value is empty.
 fn push_port_note(
     notes: &mut String,
     given: Option<&str>,
     value: Option<&str>,
 ) -> Result<(), AllocError>
-    ensures { OnOk result (GetsBytes notes.old notes.new
+    ensures { OnOk result (AppendsBytes notes.old notes.new
         (port_note (option_text given.entry) (option_text value.entry))) }
 {
     let (Some(given), Some(value)) = (given, value) else {

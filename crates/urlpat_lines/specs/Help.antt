@@ -1,8 +1,8 @@
--- The help texts of the program.
+-- The help texts of the program and its version, and which arguments ask for them.
 use Rattle.std.specs.Prelude.{◌≡◌, ◌⊎◌, ℕ, List, [], ◌∷◌, codes}
 use Rattle.urlpat_lines.specs.declared.help.TheConstants.{HELP, VERSION, COMPONENT_HELP, MATCH_HELP, FIRST_HELP, FILTER_HELP, ROUTE_HELP, EXPLAIN_HELP, LINK_HELP, COVERS_HELP, UNREACHABLE_HELP}
 
--- The argument asks for this help text, or for the version.
+-- `text` is what the argument asks for: `help` for `--help`, the version for `--version`.
 abbrev pub IsHelpBy : (help word text : List ℕ) → Type 0
 IsHelpBy help word text =
     ((word ≡ codes "--help") × (text ≡ help)) ⊎ ((word ≡ codes "--version") × (text ≡ VERSION.now))
@@ -11,7 +11,7 @@ IsHelpBy help word text =
 abbrev pub IsHelpWord : (word : List ℕ) → Type 0
 IsHelpWord word = (word ≡ codes "--help") ⊎ (word ≡ codes "--version")
 
--- The help text of a command.
+-- `text` is the help text of the command.
 abbrev pub IsHelpOn : (command text : List ℕ) → Type 0
 IsHelpOn command text =
     ((command ≡ codes "component") × (text ≡ COMPONENT_HELP.now))
@@ -24,16 +24,17 @@ IsHelpOn command text =
     ⊎ ((command ≡ codes "covers") × (text ≡ COVERS_HELP.now))
     ⊎ ((command ≡ codes "unreachable") × (text ≡ UNREACHABLE_HELP.now))
 
--- The arguments after a command ask for its help text, or for the version.
+-- The arguments after a command are a single one, `--help` or `--version`.
 abbrev pub AskForHelp : (words : List (List ℕ)) → Type 0
 AskForHelp words = (word : List ℕ) × (words ≡ word ∷ []) × IsHelpWord word
 
--- The text that the arguments after a command ask for.
+-- `text` is what the arguments after a command ask for: its help text, or the version.
 abbrev pub IsCommandHelp : (command : List ℕ) → (words : List (List ℕ)) → (text : List ℕ) → Type 0
 IsCommandHelp command words text =
     (word help : List ℕ) × (words ≡ word ∷ []) × IsHelpOn command help × IsHelpBy help word text
 
--- The text that the arguments ask for.
+-- `text` is what the arguments ask for: the help text of the program or of a command, or the
+-- version.
 abbrev pub IsHelp : (words : List (List ℕ)) → (text : List ℕ) → Type 0
 IsHelp [] text = ⊥
 IsHelp (word ∷ []) text = IsHelpBy HELP.now word text

@@ -1,4 +1,4 @@
--- A table of patterns. Texts are bytes.
+-- A table of patterns, a text with a pattern a line. Texts are bytes.
 use Rattle.std.specs.Prelude.{◌≡◌, ◌+◌, ◌==◌, ℕ, Bool, true, List, [], ◌∷◌, ◌++◌, codes, map, slice_get, slice_index, take, All, Some, if◌then◌else◌}
 use Rattle.std.specs.List.{before_first, after_first}
 use Rattle.std.specs.Str.{IsUtf8}
@@ -7,7 +7,7 @@ use Rattle.urlpat_lines.specs.declared.table.Entry.{Entry}
 use Rattle.urlpat_lines.specs.declared.table.NoTable.{NoTable}
 use Rattle.urlpat_lines.specs.declared.table.NoTable.TheVariants.{NotUtf8, OutOfMemory}
 
--- A pattern of a table: the number of its line, its text, and its name.
+-- An entry of a table: the number of its line, the text of its pattern, and its name.
 pub record EntryView : Type 0 where
   pub number : ℕ
   pub pattern : List ℕ
@@ -29,7 +29,7 @@ entries_view entries = map entry_view entries
 abbrev pub table_lines : (table : List ℕ) → List (List ℕ)
 table_lines table = map without_terminator (lines_of table)
 
--- A line that is empty or a comment has no entry.
+-- Whether a line has no entry: it is empty, or begins with `#`.
 abbrev pub is_skipped : (line : List ℕ) → Bool
 is_skipped [] = true
 is_skipped (first ∷ line) = first == slice_index (codes "#") 0
@@ -39,7 +39,7 @@ abbrev pub is_tab : ℕ → Bool
 is_tab c = c == slice_index (codes "\t") 0
 
 -- The entry of a line that is not skipped: the pattern is before the first tab, and the name after
--- it.
+-- it. Without a tab, the pattern is the line, and the name is empty.
 abbrev pub line_entry : (number : ℕ) → (line : List ℕ) → EntryView
 line_entry number line = record {
   number = number;
@@ -47,11 +47,11 @@ line_entry number line = record {
   name = after_first is_tab line;
 }
 
--- The entry of a line, if it has one.
+-- The entry of a line as a list, which is empty if the line is skipped.
 abbrev pub line_entries : (number : ℕ) → (line : List ℕ) → List EntryView
 line_entries number line = if is_skipped line then [] else line_entry number line ∷ []
 
--- The entries of lines, of which the first has this number.
+-- The entries of lines, of which the first has the number `number`.
 abbrev pub entries_from : (number : ℕ) → (lines : List (List ℕ)) → List EntryView
 entries_from number [] = []
 entries_from number (line ∷ lines) = line_entries number line ++ entries_from (number + 1) lines

@@ -7,10 +7,10 @@ use Rattle.urlpat_lines.specs.Help.{AskForHelp}
 abbrev pub words_view : List (String Global) → List (List ℕ)
 words_view words = map (λ word. string_bytes word) words
 
--- The arguments are the command and `rest`, which does not ask for help.
+-- The arguments are the command and `rest`, which does not ask for help or for the version.
 abbrev pub AreArgumentsAfter : (command : List ℕ) → (words rest : List (List ℕ)) → Type 0
 AreArgumentsAfter command words rest = (words ≡ command ∷ rest) × ¬ AskForHelp rest
 
--- The arguments are not this command with arguments that do not ask for help.
+-- The first argument is not the command, or the arguments after it ask for help or for the version.
 abbrev pub HasNoneAfter : (command : List ℕ) → (words : List (List ℕ)) → Type 0
 HasNoneAfter command words = (rest : List (List ℕ)) → ¬ AreArgumentsAfter command words rest

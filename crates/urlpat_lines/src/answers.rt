@@ -1,4 +1,4 @@
-//! Processes the lines of a reader by a rule.
+//! Writes the output of a rule for the lines of a reader.
 ghost use Rattle.std.specs.Prelude.{◌≡◌, ◌+◌, ◌<◌, ◌^◌, ℕ, List, IfOk, OnOk};
 ghost use Rattle.std.specs.Io.KnownBytes.{Appends};
 ghost use Rattle.urlpat_lines.specs.LineAnswers.{AppendsAnswer, AppendsAnswerTo, WritesInput, selected_by};
@@ -9,12 +9,13 @@ use std::alloc::{AllocError, Global};
 use std::io::{BufRead, Write};
 use std::{io, str};
 
-/// The verdict on a line.
+/// The verdict on a line. A command that reads lines ends with status 1 if it selects none, unless
+/// it fails.
 #[derive(Debug, Clone, Copy, PartialEq, Eq)]
 pub enum Verdict {
-    /// The line is selected.
+    /// The line is a URL, and is selected.
     Selected,
-    /// The line is not selected.
+    /// The line is a URL, and is not selected.
     Passed,
     /// The line is not selected, and not a URL.
     NoUrl,
@@ -24,28 +25,31 @@ pub enum Verdict {
     Refused,
 }
 
-/// A rule that decides what is written for a line.
+/// A rule that decides what is written for a line, and whether the line is selected, such as those
+/// of `filter` and `route`.
 pub trait Rule {
+    // The verdict on a line, and what is written for it. `text` is the line without its end.
     ghost Answers: { Self → (text line : List ℕ) → Verdict → (written : List ℕ) → Type 0 };
 
-    /// Decides on a line, and appends what is written for it. `text` is the line without its end.
+    /// Returns the verdict on a line, and appends what is written for it. `text` is the line
+    /// without its end.
     fn answer(&self, text: &str, line: &[u8], written: &mut Vec<u8>) -> Result<Verdict, AllocError>
         ensures { IfOk result (AppendsAnswer (Answers self.now) text.now line.now written.old.items
             written.new.items) };
 }
 
-/// The numbers of lines of each kind.
+/// How many lines there are of each kind. A selected line that is not a URL is of two kinds.
 #[derive(Debug, Clone, Copy, PartialEq, Eq)]
 pub struct Tally {
-    /// The lines that are selected.
+    /// The number of lines that are selected.
     pub selected: u64,
-    /// The lines that are not URLs.
+    /// The number of lines that are not URLs.
     pub no_url: u64,
-    /// The lines that are not UTF-8, or too long.
+    /// The number of lines that are not UTF-8, or too long.
     pub refused: u64,
 }
 
-/// The reason why processing stopped.
+/// The reason why not all lines were processed.
 #[derive(Debug, Drop)]
 pub enum LinesError {
     /// The reader failed.
@@ -71,8 +75,8 @@ impl From<AllocError> for LinesError {
     }
 }
 
-/// Writes, for each line of a reader, what a rule decides. A line that is rejected is reported to
-/// `err`, with its number.
+/// Writes the output of a rule for each line of a reader. Returns how many lines there are of each
+/// kind. A line that is too long or not UTF-8 is reported to `err`, with its number.
 pub fn answer_lines<In: BufRead, Out: Write, Err: Write, R: Rule>(
     alloc: Global,
     rule: &R,
@@ -113,7 +117,8 @@ fn write_piece<Out: Write>(out: &mut Out, piece: &[u8]) -> Result<(), LinesError
     }
 }
 
-/// Decides on a line by a rule, and appends what is written for it.
+/// Returns the verdict of a rule on a line, and appends what is written for it. A line that is too
+/// long or not UTF-8 is rejected, and nothing is written for it.
 fn answer_line<R: Rule>(rule: &R, line: &[u8], written: &mut Vec<u8>) -> Result<Verdict, AllocError>
     ensures { IfOk result
         (AppendsAnswerTo (R.Answers rule.now) line.now written.old.items written.new.items) }
@@ -127,7 +132,8 @@ fn answer_line<R: Rule>(rule: &R, line: &[u8], written: &mut Vec<u8>) -> Result<
     }
 }
 
-/// Reports a line that is rejected.
+/// Reports that a line is too long or not UTF-8, if the verdict is `Refused`. `number` is how many
+/// lines are before it.
 fn report<Err: Write>(verdict: Verdict, number: u64, line: &[u8], err: &mut Err) {
     if verdict == Verdict::Refused {
         let number = number.saturating_add(1);
@@ -139,7 +145,7 @@ fn report<Err: Write>(verdict: Verdict, number: u64, line: &[u8], err: &mut Err)
     }
 }
 
-/// The tally with one more line.
+/// The tally with a line of this verdict added.
 fn counted(tally: Tally, verdict: Verdict) -> Tally
     requires { tally.selected + 1 < 2 ^ 64 }
     ensures { result.selected ≡ tally.selected + selected_by verdict }

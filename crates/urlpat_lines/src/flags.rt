@@ -22,11 +22,12 @@ pub struct Flags {
     pub ignore_case: bool,
     /// Whether results are printed as JSON.
     pub json: bool,
-    /// Whether a command explains an error that it would print alone.
+    /// Whether errors are explained by a command that otherwise prints an error alone.
     pub explain_errors: bool,
 }
 
-/// Removes the flags that the command has from the arguments.
+/// Removes from the arguments the flags that the command among them accepts, and returns which of
+/// them were there. Other flags are left in place.
 pub fn remove_flags(words: &mut Vec<String>) -> Flags
     ensures { RemovesFlags words.old.items words.new.items result }
 {
@@ -41,14 +42,15 @@ pub fn remove_flags(words: &mut Vec<String>) -> Flags
     }
 }
 
-/// Removes a flag from the arguments if the command has it, and returns whether it was there.
+/// Removes each copy of a flag from the arguments, and returns whether there was one. If `may` is
+/// false, the command does not accept the flag: it is left in place, and the result is false.
 fn remove_flag(words: &mut Vec<String>, may: bool, flag: &str) -> bool
     ensures { RemovesFlag may flag.now words.old.items words.new.items result }
 {
     if may { remove_word(words, flag) } else { false }
 }
 
-/// The flags that the command among the arguments has.
+/// The flags that the command among the arguments accepts. Without a command no flag is accepted.
 fn flags_of(words: &[String]) -> Flags
     ensures { AreFlagsOf (command_of words.now) result }
 {
@@ -62,21 +64,24 @@ fn flags_of(words: &[String]) -> Flags
     }
 }
 
-/// The command: the first argument that is not a flag.
+/// The command, or the pattern of the short form: the first argument that is not a flag. `None`:
+/// there is no such argument.
 fn command_of(words: &[String]) -> Option<&String>
     ensures { option_copied result ≡ command_of words.now }
 {
     words.iter().find(|word| !is_flag(word))
 }
 
-/// Whether a word is a flag.
+/// Whether a word is `--ignore-case`, `--json` or `--explain-errors`.
 fn is_flag(word: &str) -> bool
     ensures { result ≡ is_flag word.now }
 {
     matches!(word, IGNORE_CASE | JSON | EXPLAIN_ERRORS)
 }
 
-/// The flags that a command has.
+/// The flags that a command accepts. `match`, `first` and the short form, whose pattern is passed
+/// as the command, accept each flag; `component` only `--explain-errors`; `filter`, `route` and
+/// `explain` each flag but `--explain-errors`; `covers`, `link` and `unreachable` none.
 fn command_flags(command: &str) -> Flags
     ensures { MayHave command.now result }
 {

@@ -180,7 +180,7 @@ URL for the patterns, or - for none.
 example: urlpat unreachable routes.txt https://example.com/
 ";
 
-/// The help text or version that the arguments ask for, if any.
+/// The help text or the version that the arguments ask for. `None`: they ask for neither.
 pub fn help_of(words: &[String]) -> Option<&'static str>
     ensures { IfSome result (λ text. IsHelp (words_view words.now) text.now) }
 {
@@ -194,7 +194,8 @@ pub fn help_of(words: &[String]) -> Option<&'static str>
     }
 }
 
-/// The help text of a command or the version, if the arguments after it ask for one.
+/// The help text of a command or the version, as the arguments after the command ask. `None`: they
+/// ask for neither, or there is no such command.
 fn command_help(command: &str, words: &[String]) -> Option<&'static str>
     ensures { IfSome result (λ text. IsCommandHelp command.now (words_view words.now) text.now) }
 {
@@ -204,7 +205,8 @@ fn command_help(command: &str, words: &[String]) -> Option<&'static str>
     help_by(help_on(command)?, word)
 }
 
-/// The help text or the version, if the argument asks for one.
+/// What an argument asks for: `help` for `--help`, the version for `--version`. `None` for any
+/// other.
 fn help_by(help: &'static str, word: &str) -> Option<&'static str>
     ensures { IfSome result (λ text. IsHelpBy help.now word.now text.now) }
 {
@@ -215,7 +217,7 @@ fn help_by(help: &'static str, word: &str) -> Option<&'static str>
     }
 }
 
-/// Whether the arguments after a command ask for its help text, or for the version.
+/// Whether the arguments after a command are a single one, `--help` or `--version`.
 pub fn asks_for_help(words: &[String]) -> bool
     ensures asked { IsTrue result → AskForHelp (words_view words.now) }
     ensures other { IsFalse result → ¬ AskForHelp (words_view words.now) }
@@ -226,7 +228,7 @@ pub fn asks_for_help(words: &[String]) -> bool
     is_help_word(word)
 }
 
-/// Whether an argument asks for help, or for the version.
+/// Whether an argument is `--help` or `--version`.
 fn is_help_word(word: &str) -> bool
     ensures asked { IsTrue result → IsHelpWord word.now }
     ensures other { IsFalse result → ¬ IsHelpWord word.now }
@@ -237,7 +239,7 @@ fn is_help_word(word: &str) -> bool
     }
 }
 
-/// The help text of a command.
+/// The help text of a command. `None`: there is no such command.
 fn help_on(command: &str) -> Option<&'static str>
     ensures { IfSome result (λ text. IsHelpOn command.now text.now) }
 {

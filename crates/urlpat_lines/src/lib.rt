@@ -1,6 +1,7 @@
 //! The input and output of the program's commands: arguments, lines and tables of patterns.
 //!
-//! Only one line at a time is in memory. A line that is too long is not kept.
+//! Of the lines that a command reads, only one at a time is in memory, and of a line that is too
+//! long only a part.
 #![tactic(auto)]
 
 mod answers;

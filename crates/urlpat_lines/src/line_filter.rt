@@ -1,7 +1,7 @@
-//! The command `filter`, for any matcher of lines.
+//! The command `filter`, for any matcher of lines; and `write_answers`, which `route` calls too.
 ghost use Rattle.std.specs.Prelude.{◌≡◌, ℕ, List, IfOk, IfSome, OnOk, None, nat_lt};
 ghost use Rattle.std.specs.Io.KnownBytes.{Appends};
-ghost use Rattle.urlpat_lines.specs.Filters.{AnswersMatched, AnswersUnmatched, FilterAnswers, Filters, FiltersFor, GetsPiece, IsOutcome, asked_shape, count_line};
+ghost use Rattle.urlpat_lines.specs.Filters.{AnswersMatched, AnswersUnmatched, AppendsPiece, FilterAnswers, Filters, FiltersFor, IsOutcome, asked_shape, count_line};
 ghost use Rattle.urlpat_lines.specs.LineAnswers.{selected_by};
 ghost use Rattle.urlpat_lines.specs.declared.query.Shape.{Shape as Asked};
 
@@ -11,24 +11,27 @@ use std::alloc::{AllocError, Global};
 use std::io;
 use std::io::{BufRead, Write};
 
-/// The outcome of matching a text.
+/// The outcome of matching the text of a line.
 #[derive(Debug, Clone, Copy, PartialEq, Eq)]
 pub enum Outcome {
     /// The pattern matches.
     Match,
-    /// The pattern does not match.
+    /// The text is a URL that the pattern does not match.
     NoMatch,
     /// The text is not a URL.
     NoUrl,
 }
 
-/// A matcher of lines.
+/// Matches a pattern against the texts of lines.
 pub trait LineMatcher {
+    // The pattern matches the text, and `piece` is what the shape prints of the match.
     ghost Matches: { Self → (text : List ℕ) → Asked → (piece : List ℕ) → Type 0 };
 
+    // The pattern does not match the text.
     ghost Differs: { Self → (text : List ℕ) → Type 0 };
 
-    /// Matches a text. Appends to `written` what the shape prints of a match.
+    /// Matches a text. If the pattern matches, appends to `written` what `shape` prints of the
+    /// match.
     fn outcome(
         &self,
         text: &str,
@@ -39,7 +42,7 @@ pub trait LineMatcher {
             (Differs self.now text.now) written.old.items written.new.items) };
 }
 
-/// A rule that selects the lines that match, or those that do not.
+/// A rule that selects the lines that match, or, if `inverted`, the lines that do not match.
 #[derive(Drop)]
 struct LineFilter<'a, M> {
     matcher: &'a M,
@@ -47,9 +50,9 @@ struct LineFilter<'a, M> {
     shape: Shape<'a>,
 }
 
-/// Prints what a query asks for, for each line that matches, or for each that does not. Returns
-/// whether there is such a line. `None`: an error occurred, which is reported to `err` unless it is
-/// an error of the output.
+/// Prints what a query asks for of each line that matches, or, if the query is inverted, of each
+/// line that does not match. Returns whether there is such a line. `None`: an error occurred, which
+/// is reported to `err` unless it is an error of the output.
 pub fn filter_lines<In: BufRead, Out: Write, Err: Write, M: LineMatcher>(
     alloc: Global,
     query: Query<'_>,
@@ -89,8 +92,8 @@ pub fn write_answers<In: BufRead, Out: Write, Err: Write, R: Rule>(
     }
 }
 
-/// Writes the count, if lines are counted, and reports how many lines were not URLs. Returns
-/// whether a line is selected.
+/// Writes the count, if lines are counted, and reports how many lines were not URLs or were
+/// rejected. Returns whether a line is selected. `None`: the output failed.
 fn finish<Out: Write, Err: Write>(
     shape: Shape<'_>,
     tally: Tally,
@@ -125,7 +128,7 @@ fn write_count<Out: Write>(shape: Shape<'_>, selected: u64, out: &mut Out) -> io
     }
 }
 
-/// Reports how many lines were not URLs, or were rejected.
+/// Reports how many lines were not URLs, and how many were rejected, if there are any.
 fn report_tally<Err: Write>(tally: Tally, err: &mut Err) {
     let Tally {
         selected: _,
@@ -140,7 +143,7 @@ fn report_tally<Err: Write>(tally: Tally, err: &mut Err) {
     }
 }
 
-/// Reports why processing stopped, unless the output failed.
+/// Reports why not all lines were processed, unless the output failed. Always returns `None`.
 fn report_fault<Err: Write>(fault: &LinesError, err: &mut Err) -> Option<bool>
     ensures { result ≡ None }
 {
@@ -184,14 +187,17 @@ impl<M: LineMatcher> Rule for LineFilter<'_, M> {
     }
 }
 
-/// The shape for lines that match. Nothing is printed of them if the query is inverted.
+/// The shape with which a line is matched: `Count`, which prints nothing of a match, if the query
+/// is inverted.
 fn asked_shape(inverted: bool, shape: Shape<'_>) -> Shape<'_>
     ensures { result ≡ asked_shape inverted shape.entry }
 {
     if inverted { Shape::Count } else { shape }
 }
 
-/// Appends the rest of the output for a line that matches, after what is printed of its match.
+/// Returns the verdict on a line that matches, and appends what is written for it after what is
+/// printed of its match. If the query is inverted, the line is not selected, and nothing is
+/// written.
 fn answer_match(
     inverted: bool,
     shape: Shape<'_>,
@@ -199,7 +205,7 @@ fn answer_match(
     written: &mut Vec<u8>,
 ) -> Result<Verdict, AllocError>
     ensures { IfOk result (λ verdict.
-        GetsPiece (AnswersMatched inverted shape.entry line.now verdict) written.old.items
+        AppendsPiece (AnswersMatched inverted shape.entry line.now verdict) written.old.items
         written.new.items) }
 {
     if inverted {
@@ -213,8 +219,9 @@ fn answer_match(
     Ok(Verdict::Selected)
 }
 
-/// Appends the output for a line that does not match. `verdict` is the verdict if the line is not
-/// selected.
+/// Returns the verdict on a line that does not match, and appends what is written for it. If the
+/// query is inverted, the line is selected; otherwise the verdict is `verdict`, and nothing is
+/// written.
 fn answer_other(
     inverted: bool,
     shape: Shape<'_>,
@@ -224,7 +231,7 @@ fn answer_other(
 ) -> Result<Verdict, AllocError>
     requires { selected_by verdict ≡ 0 }
     ensures { IfOk result (λ answer.
-        GetsPiece (AnswersUnmatched inverted shape.entry line.now answer) written.old.items
+        AppendsPiece (AnswersUnmatched inverted shape.entry line.now answer) written.old.items
         written.new.items) }
 {
     if !inverted {
@@ -237,7 +244,8 @@ fn answer_other(
     Ok(selected(verdict))
 }
 
-/// The verdict if the line is selected, given the one if it is not.
+/// The verdict on a line that is selected. `verdict` is what the verdict is if the line is not
+/// selected.
 fn selected(verdict: Verdict) -> Verdict
     ensures { selected_by result ≡ 1 }
 {

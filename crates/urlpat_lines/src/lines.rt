@@ -4,7 +4,7 @@ ghost use Rattle.std.specs.Io.BufRead.{drop_through, take_through};
 ghost use Rattle.std.specs.Io.{IsEmptyOrEndsWith, StopsAt};
 ghost use Rattle.bstr.specs.Text.{without_terminator};
 ghost use Rattle.bstr.specs.Records.{trim_record};
-ghost use Rattle.urlpat_lines.specs.Lines.{Gets, IsAppended, IsLineKept};
+ghost use Rattle.urlpat_lines.specs.Lines.{AppendsSome, IsAppended, IsLineKept};
 
 use std::alloc::AllocError;
 use std::io;
@@ -37,8 +37,8 @@ pub fn read_line<In: BufRead>(input: &mut In, line: &mut Vec<u8>) -> io::Result<
 /// Appends to a line what a reader has in its buffer, through the first line end. Returns whether
 /// the line is complete, by its end or by that of the input. An interrupted read appends nothing.
 fn append_some<In: BufRead>(input: &mut In, line: &mut Vec<u8>) -> io::Result<bool>
-    ensures { IfOk result
-        (Gets (In.remaining input.old) (In.remaining input.new) line.old.items line.new.items) }
+    ensures { IfOk result (AppendsSome (In.remaining input.old) (In.remaining input.new)
+        line.old.items line.new.items) }
 {
     let filled = match input.fill_buf() {
         Ok(filled) => filled,
@@ -58,7 +58,7 @@ fn append_some<In: BufRead>(input: &mut In, line: &mut Vec<u8>) -> io::Result<bo
     Ok(ended)
 }
 
-/// The bytes through the first line end, or all of them.
+/// The bytes through the first line end, or all bytes if there is none.
 fn first_part(bytes: &[u8]) -> &[u8]
     ensures front { result.now ≡ take (length result.now) bytes.now }
     ensures within { length result.now ≤ length bytes.now }
@@ -71,7 +71,8 @@ fn first_part(bytes: &[u8]) -> &[u8]
     }
 }
 
-/// Whether a part of a line has the line end, or is empty.
+/// Whether a line is complete with its last part: the part ends with the line end, or is empty
+/// since the input has ended.
 fn is_ended(part: &[u8]) -> bool
     requires { StopsAt part.now 10 }
     ensures { MatchBool result (IsEmptyOrEndsWith part.now 10) (All (λ byte. byte ≢ 10) part.now) }
@@ -80,7 +81,7 @@ fn is_ended(part: &[u8]) -> bool
     length == 0 || part[length - 1] == b'\n'
 }
 
-/// Appends a part to a line, unless the line is already too long.
+/// Appends a part to a line, unless the line is already longer than `LONGEST`.
 fn keep(line: &mut Vec<u8>, part: &[u8]) -> Result<(), AllocError>
     ensures { OnOk result (IsAppended line.old.items line.new.items part.now) }
 {
@@ -90,7 +91,7 @@ fn keep(line: &mut Vec<u8>, part: &[u8]) -> Result<(), AllocError>
     line.extend_from_slice(part)
 }
 
-/// A line without its end.
+/// A line without its end, `\n` or `\r\n`.
 pub fn without_end(line: &[u8]) -> &[u8]
     ensures { result.now ≡ without_terminator line.now }
 {
@@ -102,7 +103,7 @@ pub fn without_end(line: &[u8]) -> &[u8]
     }
 }
 
-/// The bytes without this byte at the end, if it is there.
+/// The bytes without their last one, if that is `byte`.
 fn without_last(bytes: &[u8], byte: u8) -> &[u8]
     ensures { result.now ≡ trim_record byte bytes.now }
 {

@@ -1,7 +1,7 @@
 //! Parses the arguments of `filter`.
 
 ghost use Rattle.std.specs.Prelude.{◌≡◌, true, false, IfNone, IfSome};
-ghost use Rattle.urlpat_lines.specs.Queries.{AsksNothing, AskForNoQuery, IsQuery, IsAskedByFlags, IsAskedByOne, IsAskedByTwo, IsQueryOf, NamesGroup};
+ghost use Rattle.urlpat_lines.specs.Queries.{HasNoQuery, AreNoQuery, IsQuery, IsAskedByFlags, IsAskedByOne, IsAskedByTwo, IsQueryOf, NamesGroup};
 ghost use Rattle.urlpat_lines.specs.declared.query.Shape.TheVariants as shapes;
 ghost use Rattle.urlpat_lines.specs.Words.{words_view};
 
@@ -27,16 +27,17 @@ pub struct Query<'a> {
     pub pattern: &'a str,
     /// The argument for the base URL.
     pub base: &'a str,
-    /// Whether the lines that do not match are selected.
+    /// Whether the lines that do not match are selected, in place of those that match.
     pub inverted: bool,
     /// What is printed for a selected line.
     pub shape: Shape<'a>,
 }
 
-/// Parses the arguments of `filter`, with output as JSON or not. `None`: the arguments are invalid.
+/// Parses the arguments of `filter`. `json` says whether output is JSON. `None`: the arguments are
+/// invalid.
 pub fn query_of(words: &[String], json: bool) -> Option<Query<'_>>
     ensures asked { IfSome result (IsQueryOf json (words_view words.now)) }
-    ensures other { IfNone result (AskForNoQuery json (words_view words.now)) }
+    ensures other { IfNone result (AreNoQuery json (words_view words.now)) }
 {
     let [pattern, base, rest @ ..] = words else {
         return None;
@@ -55,10 +56,10 @@ pub fn query_of(words: &[String], json: bool) -> Option<Query<'_>>
 }
 
 /// Parses the arguments after the base URL when output is JSON: there are none, and the match is
-/// printed.
+/// printed. `None`: there are arguments.
 fn asked_as_json(words: &[String]) -> Option<(bool, Shape<'_>)>
     ensures asked { IfSome result (IsQuery true (words_view words.now)) }
-    ensures other { IfNone result (AsksNothing (IsQuery true (words_view words.now))) }
+    ensures other { IfNone result (HasNoQuery (IsQuery true (words_view words.now))) }
 {
     if words.is_empty() {
         Some((false, Shape::Json))
@@ -67,11 +68,11 @@ fn asked_as_json(words: &[String]) -> Option<(bool, Shape<'_>)>
     }
 }
 
-/// Parses the arguments after the base URL: whether lines that do not match are selected, and what
-/// is printed for a line.
+/// Parses the arguments after the base URL. Returns whether the lines that do not match are
+/// selected, and what is printed for a selected line. `None`: the arguments are invalid.
 fn asked_by(flags: &[String]) -> Option<(bool, Shape<'_>)>
     ensures asked { IfSome result (IsAskedByFlags (words_view flags.now)) }
-    ensures other { IfNone result (AsksNothing (IsAskedByFlags (words_view flags.now))) }
+    ensures other { IfNone result (HasNoQuery (IsAskedByFlags (words_view flags.now))) }
 {
     match flags {
         [] => Some((false, Shape::Line)),
@@ -81,10 +82,10 @@ fn asked_by(flags: &[String]) -> Option<(bool, Shape<'_>)>
     }
 }
 
-/// Parses a single argument after the base URL.
+/// Parses a single argument after the base URL: `--not` or `--count`. `None`: it is neither.
 fn asked_by_one(flag: &str) -> Option<(bool, Shape<'_>)>
     ensures asked { IfSome result (IsAskedByOne flag.now) }
-    ensures other { IfNone result (AsksNothing (IsAskedByOne flag.now)) }
+    ensures other { IfNone result (HasNoQuery (IsAskedByOne flag.now)) }
 {
     match flag {
         "--not" => Some((true, Shape::Line)),
@@ -93,10 +94,11 @@ fn asked_by_one(flag: &str) -> Option<(bool, Shape<'_>)>
     }
 }
 
-/// Parses two arguments after the base URL: two flags in any order, or `--group` and a group.
+/// Parses two arguments after the base URL: `--not` and `--count` in any order, or `--group` and a
+/// group. `None`: the arguments are invalid.
 fn asked_by_two<'a>(first: &str, second: &'a str) -> Option<(bool, Shape<'a>)>
     ensures asked { IfSome result (IsAskedByTwo first.now second.now) }
-    ensures other { IfNone result (AsksNothing (IsAskedByTwo first.now second.now)) }
+    ensures other { IfNone result (HasNoQuery (IsAskedByTwo first.now second.now)) }
 {
     match first {
         "--not" => others_counted(second == "--count"),
@@ -106,7 +108,8 @@ fn asked_by_two<'a>(first: &str, second: &'a str) -> Option<(bool, Shape<'a>)>
     }
 }
 
-/// The query for the count of the lines that do not match, if both flags are there.
+/// The query for the count of the lines that do not match. `both` says whether the two arguments
+/// are `--not` and `--count`. `None`: they are not.
 fn others_counted<'a>(both: bool) -> Option<(bool, Shape<'a>)>
     ensures asked { IfSome result (λ asked. (both ≡ true) × (asked ≡ (true, shapes.Count))) }
     ensures other { IfNone result (both ≡ false) }
@@ -118,10 +121,11 @@ fn others_counted<'a>(both: bool) -> Option<(bool, Shape<'a>)>
     }
 }
 
-/// Parses the name of a component, a dot, and the name of a group.
+/// Parses the argument of `--group`: the name of a component, a dot, and the name of a group.
+/// `None`: the argument has no dot, or no component has the name.
 fn asked_group(word: &str) -> Option<(bool, Shape<'_>)>
     ensures asked { IfSome result (NamesGroup word.now) }
-    ensures other { IfNone result (AsksNothing (NamesGroup word.now)) }
+    ensures other { IfNone result (HasNoQuery (NamesGroup word.now)) }
 {
     let (component, name) = word.split_once('.')?;
     let component = ComponentName::from_name(component)?;

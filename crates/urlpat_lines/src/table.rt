@@ -1,4 +1,4 @@
-//! The entries of a table.
+//! The entries of a table of patterns, a text with a pattern a line.
 
 ghost use Rattle.std.specs.Prelude.{◌≡◌, ◌++◌, All, IfErr, IfOk, OnOk};
 ghost use Rattle.std.specs.Str.{IsUtf8};
@@ -8,14 +8,14 @@ use bstr::ByteSlice;
 use std::alloc::{AllocError, Global};
 use std::str;
 
-/// A pattern of a table.
+/// An entry of a table: the text of a pattern, and its name.
 #[derive(Clone, Copy)]
 pub struct Entry<'t> {
-    /// The number of the line, from 1 on.
+    /// The number of the line that has the entry, from 1 on.
     pub number: u64,
     /// The pattern.
     pub pattern: &'t str,
-    /// The name, or an empty text.
+    /// The name. Empty if the line has none.
     pub name: &'t str,
 }
 
@@ -39,9 +39,10 @@ impl From<AllocError> for NoTable {
 }
 
 /// The entries of a table, in order. A line that is empty, or that begins with `#`, has none. In
-/// any other line the pattern is before the first tab, and the name after it.
+/// any other line the pattern is before the first tab, and the name after it; a line without a tab
+/// is a pattern whose name is empty.
 ///
-/// The error is that a line is not UTF-8, or that memory ran out.
+/// The error is `NotUtf8` with the number of the first line that is not UTF-8, or `OutOfMemory`.
 pub fn entries_of<'t>(alloc: Global, table: &'t [u8]) -> Result<Vec<Entry<'t>>, NoTable>
     ensures entries { IfOk result (λ entries.
         entries_view entries.items ≡ table_entries table.now) }
@@ -75,7 +76,7 @@ fn push_entry<'t>(
     Ok(())
 }
 
-/// Whether a line has no entry.
+/// Whether a line has no entry: it is empty, or begins with `#`.
 fn is_skipped(line: &str) -> bool
     ensures { result ≡ is_skipped line.now }
 {
@@ -85,7 +86,7 @@ fn is_skipped(line: &str) -> bool
     }
 }
 
-/// The entry of a line.
+/// The entry of a line that is not skipped. `number` is the number of the line.
 fn entry_of(number: u64, line: &str) -> Entry<'_>
     ensures { entry_view result ≡ line_entry number line.now }
 {

@@ -1,4 +1,4 @@
-//! The arguments after a command, and those that hold for all commands.
+//! The arguments after a command, and words that are removed from the arguments.
 
 ghost use Rattle.std.specs.Prelude.{◌≡◌, IfNone, IfSome, not, bytes_eq, string_bytes};
 ghost use Rattle.std.specs.List.{filter, list_any};
@@ -6,8 +6,8 @@ ghost use Rattle.urlpat_lines.specs.Words.{AreArgumentsAfter, HasNoneAfter, word
 
 use crate::help::asks_for_help;
 
-/// The arguments after a command. `None`: the first argument is another command, or the arguments
-/// ask for help.
+/// The arguments after `command`. `None`: the first argument is not `command`, or the arguments
+/// after it ask for help or for the version.
 pub fn arguments_after<'w>(words: &'w [String], command: &str) -> Option<&'w [String]>
     ensures after { IfSome result (λ rest.
         AreArgumentsAfter command.now (words_view words.now) (words_view rest.now)) }

@@ -9,38 +9,42 @@ use Rattle.urlpattern_components.specs.Eight.{components, name_text}
 use Rattle.urlpattern_components.specs.declared.eight.ComponentName.{ComponentName}
 use Rattle.urlpattern_matches.specs.ResultViews.{ResultView}
 
--- The capture of a group. Nothing is printed if the group took no part.
+-- What the line of a group has after the name: `=` and the capture, or nothing if the group took no
+-- part.
 abbrev pub capture_text : Option (List ℕ) → List ℕ
 capture_text None = []
 capture_text (Some capture) = codes "=" ++ capture
 
--- The line of a group of a match: its component, its name, and its capture.
+-- The line of a group of a match: its component, its name, and its capture if it took part.
 abbrev pub group_line : (component name : List ℕ) → (capture : Option (List ℕ)) → List ℕ
 group_line component name capture =
     component ++ codes " " ++ name ++ capture_text capture ++ codes "\n"
 
--- The capture of a group as bytes, if the group took part.
+-- The capture of a group in UTF-8. `None`: the group took no part, or there is no such group.
 abbrev pub group_bytes : Option (Option (List ℕ)) → Option (List ℕ)
 group_bytes (Some (Some text)) = Some (encode_utf8_all text)
 group_bytes capture = None
 
--- The names of the component's groups, each once, sorted by their bytes.
+-- `names` are the names of the component's groups, each once, sorted by their bytes. `found` is the
+-- component's result.
 pub record AreNames (found : ResultView) (names : List (List ℕ)) : Type 0 where
   pub are_all : (name : List ℕ) → Contains names name ↔ IsSome (found.group name)
   pub in_order : IsStrictlySortedBy (on encode_utf8_all (slice_cmp nat_cmp)) names
 
--- The line of the component's group with this name.
+-- The line of the component's group with this name. `found` is the component's result.
 abbrev pub named_group_line : (component : List ℕ) → ResultView → (name : List ℕ) → List ℕ
 named_group_line component found name =
     group_line component (encode_utf8_all name) (group_bytes (found.group name))
 
--- The text has a line for each group of the component.
+-- The text is a line for each group of the component, sorted by name. `found` is the component's
+-- result.
 abbrev pub AreGroupLines : (component : List ℕ) → ResultView → (text : List ℕ) → Type 0
 AreGroupLines component found text =
     (names : List (List ℕ)) × AreNames found names
     × (text ≡ flat_map (named_group_line component found) names)
 
--- The text has the lines of the components, one after the other.
+-- The text is the lines for the groups of each component, one component after the other. The list
+-- has the names and the results of the components.
 abbrev pub AreLines : List (List ℕ × ResultView) → (text : List ℕ) → Type 0
 AreLines [] text = text ≡ []
 AreLines (component ∷ rest) text =
@@ -48,9 +52,9 @@ AreLines (component ∷ rest) text =
     × AreGroupLines component.0 component.1 first
     × AreLines rest others
 
--- Lines for which `AreSuch` is true are appended to the text.
-abbrev pub GetsLines : (AreSuch : List ℕ → Type 0) → (old new : String Global) → Type 0
-GetsLines AreSuch old new =
+-- `new` is `old` with lines appended for which `AreSuch` is true.
+abbrev pub AppendsLines : (AreSuch : List ℕ → Type 0) → (old new : String Global) → Type 0
+AppendsLines AreSuch old new =
     (lines : List ℕ) × (string_bytes new ≡ string_bytes old ++ lines) × AreSuch lines
 
 -- The results of components, with the names of the components.

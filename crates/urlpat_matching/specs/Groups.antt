@@ -1,4 +1,4 @@
--- The groups of a pattern.
+-- Which components of a pattern have a group with a given name.
 use Rattle.std.specs.Prelude.{ℕ, Bool, List, bytes_eq}
 use Rattle.std.specs.List.{list_any}
 use Rattle.urlpattern_components.specs.declared.eight.ComponentName.{ComponentName}

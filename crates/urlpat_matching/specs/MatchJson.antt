@@ -11,13 +11,13 @@ use Rattle.urlpattern_matches.specs.declared.result.UrlPatternResult.{UrlPattern
 abbrev pub json_line : Data → List ℕ
 json_line tree = compact_text tree ++ codes "\n"
 
--- The JSON of a match: that of a result with the same texts and groups.
+-- `tree` is the JSON of a match, whose components have the results `result`.
 abbrev pub IsMatchTree : (ComponentName → ResultView) → Data → Type 0
 IsMatchTree result tree =
     (copy : UrlPatternResult)
     × ((name : ComponentName) → IsSameResult (result_view copy name) (result name))
     × IsResultTree (plain_results_view copy) tree
 
--- The text is the line of a match.
+-- `text` is the JSON of a match as a line.
 abbrev pub IsMatchJson : (ComponentName → ResultView) → (text : List ℕ) → Type 0
 IsMatchJson result text = (tree : Data) × IsMatchTree result tree × (text ≡ json_line tree)

@@ -15,12 +15,13 @@ use Rattle.urlpattern_matches.specs.ResultViews.{ResultView}
 use Rattle.urlpattern_pattern.specs.Match.{HasNoMatch, IsMatch}
 use Rattle.urlpattern_pattern.specs.Patterns.{PatternView}
 
--- The text has the captures of a match: as JSON, or a line for each group.
+-- `text` is what is printed of a match: JSON, or a line for each group.
 abbrev pub ShowsMatch : (json : Bool) → (ComponentName → ResultView) → (text : List ℕ) → Type 0
 ShowsMatch true result text = IsMatchJson result text
 ShowsMatch false result text = AreLines (all_named_results result) text
 
--- The pattern matches the input, a URL under this base URL, and the text has the captures.
+-- The pattern matches the input, a URL under the base URL `base`, and `text` is what is printed of
+-- the match.
 pub record IsMatchTextBy (json : Bool) (compiled : PatternView PatternRegexp) (input : List ℕ)
     (base : Option (List ℕ)) (text : List ℕ) : Type 0 where
   pub url : Parts
@@ -29,14 +30,16 @@ pub record IsMatchTextBy (json : Bool) (compiled : PatternView PatternRegexp) (i
   pub is_match : IsMatch pattern_result compiled (match_inputs.Url url) result
   pub shows : ShowsMatch json result text
 
--- The pattern text compiles to a pattern that matches the input, and the text has the captures.
+-- The constructor string `pattern` is compiled to a pattern that matches the input, and `text` is
+-- what is printed of the match.
 abbrev pub IsMatchText : Flags → (pattern input : List ℕ) → (base : Option (List ℕ))
     → (text : List ℕ) → Type 0
 IsMatchText flags pattern input base text =
     (compiled : PatternView PatternRegexp) × IsPatternOf flags.ignore_case pattern base compiled
     × IsMatchTextBy flags.json compiled input base text
 
--- The pattern does not match the input: `url` rejects the input, or the pattern has no match on it.
+-- The pattern does not match the input: the input is not a URL under the base URL, or may be too
+-- long for `url`, or the pattern has no match on the URL.
 abbrev pub IsUnmatchedUnder : (compiled : PatternView PatternRegexp) → (input : List ℕ) → BaseView
     → Type 0
 IsUnmatchedUnder compiled input base =
@@ -44,20 +47,21 @@ IsUnmatchedUnder compiled input base =
     ⊎ ((url : Parts) × IsUrlUnder input base url
     × HasNoMatch pattern_result compiled (match_inputs.Url url))
 
--- The pattern does not match the input, under this base URL if there is one.
+-- The pattern does not match the input (`IsUnmatchedUnder`), given the text of the base URL, or
+-- `None` if there is no base URL.
 abbrev pub IsUnmatchedBy : (compiled : PatternView PatternRegexp) → (input : List ℕ)
     → (base : Option (List ℕ)) → Type 0
 IsUnmatchedBy compiled input base = IsUnmatchedUnder compiled input (base_view base)
 
--- The pattern text compiles to a pattern that does not match the input.
+-- The constructor string `pattern` is compiled to a pattern that does not match the input.
 abbrev pub IsUnmatched : (ignores : Bool) → (pattern input : List ℕ)
     → (base : Option (List ℕ)) → Type 0
 IsUnmatched ignores pattern input base =
     (compiled : PatternView PatternRegexp) × IsPatternOf ignores pattern base compiled
     × IsUnmatchedBy compiled input base
 
--- No pattern of the list matches the input: `url` rejects the input, or no pattern has a match on
--- it.
+-- No pattern of the list matches the input: the input is not a URL under the base URL, or may be
+-- too long for `url`, or no pattern has a match on the URL.
 abbrev pub IsUnmatchedByAllUnder : (compiled : List (PatternView PatternRegexp)) → (input : List ℕ)
     → BaseView → Type 0
 IsUnmatchedByAllUnder compiled input base =
@@ -65,14 +69,16 @@ IsUnmatchedByAllUnder compiled input base =
     ⊎ ((url : Parts) × IsUrlUnder input base url
     × All (λ pattern. HasNoMatch pattern_result pattern (match_inputs.Url url)) compiled)
 
--- The text of the match of a pattern text. `None`: there is no match.
+-- `found` is what is printed of the match of the input by the pattern to which the constructor
+-- string `pattern` is compiled. `None`: the input does not match.
 abbrev pub FindsMatch : Flags → (pattern input : List ℕ) → (base : Option (List ℕ))
     → Option (String Global) → Type 0
 FindsMatch flags pattern input base found =
     MatchOption found (IsUnmatched flags.ignore_case pattern input base) (λ text.
     IsMatchText flags pattern input base (string_bytes text))
 
--- The text of the match of a compiled pattern. `None`: there is no match.
+-- `found` is what is printed of the match of the input by a compiled pattern. `None`: the input
+-- does not match.
 abbrev pub FindsMatchBy : (json : Bool) → PatternView PatternRegexp
     → (input : List ℕ) → (base : Option (List ℕ)) → Option (String Global) → Type 0
 FindsMatchBy json compiled input base found =

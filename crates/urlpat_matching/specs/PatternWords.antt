@@ -1,4 +1,5 @@
--- The pattern of an argument and its base URL. Arguments are bytes.
+-- Patterns and base URLs that arguments name. Arguments are bytes. `ignores` says whether patterns
+-- ignore case.
 use Rattle.std.specs.Prelude.{ℕ, Bool, false, if◌then◌else◌, List, bytes_eq, codes, Option, None, Some}
 use Rattle.std.specs.Str.{chars}
 use Rattle.urlpattern_compile.specs.FromString.{IsPatternOfText, RejectsPatternOfText}
@@ -11,11 +12,11 @@ use Rattle.urlpattern_pattern.specs.UrlPatterns.{UrlPattern}
 use Rattle.urlpattern_syntax.specs.Errors.{ErrorView}
 use Rattle.urlpattern_syntax.specs.declared.parser.RegexSyntax.TheVariants.{Rust}
 
--- The base URL of an argument: none for `-`.
+-- The base URL that an argument names. `None`: the argument is `-`.
 abbrev pub base_of : List ℕ → Option (List ℕ)
 base_of word = if bytes_eq word (codes "-") then None else Some word
 
--- The options for patterns, which ignore case or not.
+-- The options for patterns: the syntax of `regex`, and case ignored or not.
 abbrev pub pattern_options : (ignores : Bool) → UrlPatternOptions
 pattern_options ignores = record { regex_syntax = Rust; ignore_case = ignores }
 
@@ -23,21 +24,23 @@ pattern_options ignores = record { regex_syntax = Rust; ignore_case = ignores }
 abbrev pub default_pattern_options : UrlPatternOptions
 default_pattern_options = pattern_options false
 
--- The constructor string with this base URL is compiled to the pattern, with the engine
--- `PatternRegexp`.
+-- The constructor string `text` with the base URL `base` is compiled to the pattern, with the
+-- engine `PatternRegexp`.
 abbrev pub IsPatternOf : (ignores : Bool) → (text : List ℕ)
     → (base : Option (List ℕ)) → PatternView PatternRegexp → Type 0
 IsPatternOf ignores text base pattern =
     IsPatternOfText pattern_engine (chars text) base (pattern_options ignores) pattern
 
--- The pattern keeps the parts that the component texts of the constructor string read as.
+-- The pattern keeps the parts that the texts of its components are parsed to, and its components
+-- are made of these parts. The texts are those of the constructor string `text` with the base URL
+-- `base`.
 abbrev pub KeepsPartsOfWord : (ignores : Bool) → (text : List ℕ)
     → (base : Option (List ℕ)) → UrlPattern PatternRegexp → Type 0
 KeepsPartsOfWord ignores text base pattern =
     KeepsPartsOfText pattern_engine (chars text) base (pattern_options ignores) pattern
 
--- The constructor string with this base URL is rejected with this error, when it is parsed or
--- compiled.
+-- The constructor string `text` with the base URL `base` is rejected with this error, when it is
+-- parsed or compiled.
 abbrev pub RejectsPatternOf : (ignores : Bool) → (text : List ℕ)
     → (base : Option (List ℕ)) → ErrorView → Type 0
 RejectsPatternOf ignores text base error =

@@ -15,25 +15,28 @@ use urlpattern_syntax::Error;
 /// The exit status of a run that succeeded.
 pub const DONE: u8 = 0;
 
-/// The exit status of a run whose input does not match.
+/// The exit status of a run with a negative outcome: the input does not match, no line is selected,
+/// a pattern does not cover the other one, no pattern of a table is covered by an earlier one, or
+/// there is no URL for given groups.
 pub const NO_MATCH: u8 = 1;
 
 /// The exit status of any other run.
 pub const FAILED: u8 = 2;
 
-/// The usage of `component`.
+/// The usage of `component`, the first line of the usage that `report` writes.
 const COMPONENT_USAGE: &str = "usage: urlpat component default|hostname|pathname PATTERN\n";
 
-/// The usage of `match`.
+/// The usage of `match`, the second line of the usage that `report` writes.
 const MATCH_USAGE: &str = "       urlpat match PATTERN BASE INPUT\n";
 
-/// The usage of `first`.
+/// The usage of `first`, the last line of the usage that `report` writes.
 const FIRST_USAGE: &str = "       urlpat first BASE INPUT PATTERN..\n";
 
 /// The reason why a run has no output.
 #[derive(Debug, Drop)]
 pub enum Failure {
-    /// The arguments are not a command.
+    /// The arguments are not UTF-8, or not those of `component`, `match`, `first` or the short
+    /// form.
     Usage,
     /// The library rejected an argument, or memory ran out.
     Refused(Error),
@@ -63,7 +66,7 @@ pub fn print<Out: Write>(text: &[u8], out: &mut Out) -> io::Result<()>
     out.flush()
 }
 
-/// Reports why a run has no output. Returns the exit status.
+/// Reports why a run has no output. Returns the exit status, `FAILED`.
 pub fn fail<Err: Write>(failure: &Failure, err: &mut Err) -> u8
     ensures { result ≡ FAILED }
 {
@@ -71,7 +74,8 @@ pub fn fail<Err: Write>(failure: &Failure, err: &mut Err) -> u8
     FAILED
 }
 
-/// Writes why a run has no output: the usage of the program, or the error and a line end.
+/// Writes why a run has no output: the usage of `component`, `match` and `first`, or the error and
+/// a line end.
 pub fn report<Err: Write>(failure: &Failure, err: &mut Err) -> io::Result<()>
     ensures { IfSome (failure_lines failure.now) (λ lines.
         OnOk result (Appends (Err.contents err.old) (Err.contents err.new) lines)) }

@@ -1,4 +1,4 @@
-//! The groups of a component.
+//! Whether a component has a group with a given name.
 
 ghost use Rattle.std.specs.List.{list_any};
 ghost use Rattle.std.specs.Prelude.{◌≡◌, bytes_eq, string_bytes};

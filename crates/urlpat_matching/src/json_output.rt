@@ -10,7 +10,7 @@ use serde_json::Value;
 use std::alloc::{AllocError, Global};
 use urlpattern_matches::UrlPatternCaptures;
 
-/// The match as a line of JSON.
+/// Returns a match as a line of JSON, as `UrlPatternCaptures::to_json_value` writes it.
 pub fn match_json(alloc: Global, found: &UrlPatternCaptures<'_, '_>) -> Result<String, AllocError>
     ensures { IfOk result (λ text.
         IsMatchJson (pattern_captures_view found.now) (string_bytes text)) }
@@ -19,7 +19,7 @@ pub fn match_json(alloc: Global, found: &UrlPatternCaptures<'_, '_>) -> Result<S
     json_line(alloc, &tree)
 }
 
-/// The match as JSON.
+/// Returns a match as JSON, as `UrlPatternCaptures::to_json_value` writes it.
 pub fn match_tree(alloc: Global, found: &UrlPatternCaptures<'_, '_>) -> Result<Value, AllocError>
     ensures { IfOk result (λ tree. IsMatchTree (pattern_captures_view found.now) (view tree)) }
 {
@@ -29,7 +29,8 @@ pub fn match_tree(alloc: Global, found: &UrlPatternCaptures<'_, '_>) -> Result<V
     }
 }
 
-/// The text of JSON without floats, and a line end.
+/// Returns the text of `tree`, and a line end. The contract says which text that is only if the
+/// JSON has no floats.
 pub fn json_line(alloc: Global, tree: &Value) -> Result<String, AllocError>
     ensures { IfOk result (λ text.
         has_float (view tree.now) ≡ false → string_bytes text ≡ json_line (view tree.now)) }

@@ -1,5 +1,6 @@
-//! The base of the program's commands: patterns and URLs from arguments, groups and their captures,
-//! as lines or as JSON, exit statuses, and the reasons why a pattern or an input is rejected.
+//! What the commands of the program share: patterns and URLs from arguments, groups and their
+//! captures, as lines or as JSON, exit statuses, and the reasons why a pattern or an input is
+//! rejected.
 #![tactic(auto)]
 
 mod exit_status;

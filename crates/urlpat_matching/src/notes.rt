@@ -16,7 +16,7 @@ use urlpattern_pattern::UrlPattern;
 use urlpattern_syntax::Error;
 use urlpattern_syntax::error::OutOfMemory;
 
-/// A note that an input is not a URL. `None`: it is one.
+/// Returns a note that `input` is not a URL under the base URL `base`. `None`: it is a URL.
 pub fn note_of(alloc: Global, base: Option<&str>, input: &str) -> Result<Option<String>, Error>
     ensures { IfOk result (λ note. IfSome note (λ text.
         IsRejectedText input.now (option_copied base.entry))) }
@@ -39,7 +39,8 @@ pub fn note_of(alloc: Global, base: Option<&str>, input: &str) -> Result<Option<
     }
 }
 
-/// Parses an input as a URL, under a base URL if there is one.
+/// Parses an input as a URL, under a base URL if there is one. The error says why `url` rejects the
+/// base or the input.
 fn parsed(alloc: Global, base: Option<&str>, input: &str) -> Result<Url, ParseError> {
     let Some(base) = base else {
         return Url::parse(alloc, input);
@@ -50,8 +51,8 @@ fn parsed(alloc: Global, base: Option<&str>, input: &str) -> Result<Url, ParseEr
     url
 }
 
-/// Reports why a constructor string or its base is rejected, and what is wrong with it. Returns the
-/// exit status.
+/// Reports the error with which a constructor string or its base is rejected, and after it a
+/// diagnosis. If memory runs out, only that is reported. Returns the exit status, `FAILED`.
 pub fn write_refusal<Err: Write>(
     alloc: Global,
     pattern: &str,
@@ -80,7 +81,8 @@ pub fn write_refusal<Err: Write>(
     FAILED
 }
 
-/// Diagnoses a constructor string and its base, in lines for a reader. `None`: neither is rejected.
+/// Returns a diagnosis of a constructor string and its base, as lines of text. `None`: neither is
+/// rejected.
 pub fn match_diagnosis(
     alloc: Global,
     pattern: &str,
@@ -96,8 +98,8 @@ pub fn match_diagnosis(
     }
 }
 
-/// Diagnoses the first constructor string that is rejected, after its number, or the base. `None`:
-/// none is rejected.
+/// Returns a diagnosis of the first constructor string that is rejected, with its index, or of the
+/// base, as lines of text. `None`: each string is accepted with the base.
 pub fn first_diagnosis(
     alloc: Global,
     base: Option<&str>,
@@ -113,7 +115,8 @@ pub fn first_diagnosis(
     Ok(None)
 }
 
-/// A diagnosis after the number of its pattern. No pattern is named if the base is at fault.
+/// A diagnosis as lines of text. The first one begins with `index`, that of the pattern, unless the
+/// base is at fault.
 fn numbered(alloc: Global, index: usize, diagnosis: &Diagnosis) -> Result<String, OutOfMemory> {
     match diagnosis.subject {
         Subject::Base => Ok(format!(in alloc; "{diagnosis}\n")?),
@@ -121,7 +124,8 @@ fn numbered(alloc: Global, index: usize, diagnosis: &Diagnosis) -> Result<String
     }
 }
 
-/// Diagnoses a constructor string and its base.
+/// Diagnoses a constructor string and its base, under the default options. `None`: neither is
+/// rejected.
 fn diagnosed(
     alloc: Global,
     pattern: &str,

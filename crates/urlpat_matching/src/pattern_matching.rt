@@ -1,9 +1,10 @@
-//! The captures of a URL.
+//! Compiles the pattern of an argument, matches an input by it, and writes the match: a line for
+//! each group, or JSON.
 
 ghost use Rattle.std.specs.Map.{keys_of};
 ghost use Rattle.std.specs.Prelude.{◌≡◌, ◌++◌, ◌∷◌, [], map, option_copied, string_bytes, IfErr, IfOk, IfSome, OnOk};
 ghost use Rattle.std.specs.Str.{chars};
-ghost use Rattle.urlpat_matching.specs.GroupLines.{AreGroupLines, AreLines, AreNames, GetsLines, group_bytes, all_named_results, group_line};
+ghost use Rattle.urlpat_matching.specs.GroupLines.{AreGroupLines, AreLines, AreNames, AppendsLines, group_bytes, all_named_results, group_line};
 ghost use Rattle.urlpat_matching.specs.MatchTexts.{FindsMatch, FindsMatchBy, ShowsMatch};
 ghost use Rattle.urlpat_matching.specs.PatternWords.{IsPatternOf, KeepsPartsOfWord, RejectsPatternOf, base_of};
 ghost use Rattle.urlpattern_matches.specs.BorrowedMatches.{pattern_captures_view, groups_view};
@@ -26,7 +27,9 @@ use urlpattern_syntax::{Error, RegexSyntax};
 /// The argument for no base URL.
 pub const NO_BASE: &str = "-";
 
-/// The captures of an input: a line for each group, or JSON. `None`: the input does not match.
+/// Returns what the groups of a pattern capture of an input, a URL under the base URL that the
+/// argument `base` names: a line for each group, or JSON, as `flags` say. `None`: the input does
+/// not match, or is not a URL.
 ///
 /// The error is the one with which the pattern or its base is rejected, or that memory ran out.
 pub fn matched_groups(
@@ -47,14 +50,15 @@ pub fn matched_groups(
     Ok(answer?)
 }
 
-/// The base URL of an argument.
+/// The base URL that an argument names. `None`: the argument is `-`.
 pub fn base_of(word: &str) -> Option<&str>
     ensures { option_copied result ≡ base_of word.now }
 {
     if word == NO_BASE { None } else { Some(word) }
 }
 
-/// Compiles a constructor string with the engine `PatternRegexp`.
+/// Compiles a constructor string, under a base URL if there is one, with the engine
+/// `PatternRegexp`.
 ///
 /// The error is the one with which the pattern or its base is rejected, or that memory ran out.
 pub fn compiled(
@@ -77,7 +81,8 @@ pub fn compiled(
     UrlPattern::from_constructor_string(alloc, pattern, base, options)
 }
 
-/// The captures of an input: a line for each group, or JSON. `None`: the input does not match.
+/// Returns what the groups of a pattern capture of an input, a URL under a base URL if there is
+/// one: a line for each group, or JSON. `None`: the input does not match, or is not a URL.
 fn groups_of_match(
     alloc: Global,
     pattern: &UrlPattern<PatternRegexp>,
@@ -117,13 +122,14 @@ fn match_text(
     Ok(text)
 }
 
-/// Appends a line for each group of a match.
+/// Appends a line for each group of a match, component by component, and sorted by the bytes of the
+/// names in each.
 pub fn push_match(
     alloc: Global,
     text: &mut String,
     found: &UrlPatternCaptures<'_, '_>,
 ) -> Result<(), AllocError>
-    ensures { OnOk result (GetsLines
+    ensures { OnOk result (AppendsLines
         (AreLines (all_named_results (pattern_captures_view found.now))) text.old text.new) }
 {
     for name in ComponentName::all() {
@@ -139,7 +145,7 @@ fn push_group_lines(
     found: &UrlPatternCaptures<'_, '_>,
     name: ComponentName,
 ) -> Result<(), AllocError>
-    ensures { OnOk result (GetsLines
+    ensures { OnOk result (AppendsLines
         (AreGroupLines (name_text name) (pattern_captures_view found.now name)) text.old text.new) }
 {
     if let Some(group) = only_group(found, name) {
@@ -153,7 +159,7 @@ fn push_group_lines(
     Ok(())
 }
 
-/// The name of the group of a component that has a single group.
+/// The name of a component's only group. `None`: the component has no group, or several.
 fn only_group<'p>(found: &UrlPatternCaptures<'p, '_>, name: ComponentName) -> Option<&'p str>
     ensures { IfSome result (λ group. keys_of (groups_view found.now name) ≡ chars group.now ∷ []) }
 {
@@ -197,7 +203,8 @@ fn names_of(
     Ok(names)
 }
 
-/// The capture of a group. `None`: the group took no part.
+/// The capture of the group `group` of the component `name`. `None`: the group took no part, or
+/// there is no such group.
 pub fn capture_of<'u>(
     found: &UrlPatternCaptures<'_, 'u>,
     name: ComponentName,
@@ -212,7 +219,7 @@ pub fn capture_of<'u>(
     }
 }
 
-/// Appends the line of a group: its component, its name, and its capture, if it took part.
+/// Appends the line of a group: its component, its name, and its capture if it took part.
 fn push_group_line(
     text: &mut String,
     component: &str,

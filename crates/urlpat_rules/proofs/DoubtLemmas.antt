@@ -6,7 +6,7 @@ use Rattle.std.specs.Option.{option_or, option_to_list}
 use Rattle.std.specs.Prelude.{All, MatchOption, None, Option, Some, slice_get}
 use Rattle.std.specs.Prelude.{Err, Ok, OnOk, Result, if◌then◌else◌}
 use Rattle.std.specs.Result.{is_ok}
-use Rattle.urlpat_rules.specs.Doubts.{AreDoubts, HasDoubts, IsDoubtAbout, IsDoubtAt, IsParted, PrintsDoubts}
+use Rattle.urlpat_rules.specs.Doubts.{AreDoubts, HasDoubts, HasParting, IsDoubtAbout, IsDoubtAt, PrintsDoubts}
 use Rattle.urlpat_rules.specs.UnreachedLines.{ArePartsOfEach}
 use Rattle.urlpat_lines.specs.Tables.{EntryView, entries_view, table_entries}
 use Rattle.urlpat_lines.specs.declared.table.Entry.{Entry}
@@ -25,13 +25,13 @@ pub record IsDoubt (index : ℕ) (patterns : List PatternParts) (asked : Pattern
   pub pattern : PatternParts
   pub is_there : slice_get patterns doubt.by ≡ Some pattern
   pub why : IsReasonIn pattern asked doubt.component doubt.reason
-  pub parted : All (IsParted asked) (take doubt.by patterns)
+  pub parted : All (HasParting asked) (take doubt.by patterns)
 
 -- The doubt because of the first `count` patterns, none of which is known to cover the asked one.
 pub record IsDoubtBelow (index : ℕ) (patterns : List PatternParts) (asked : PatternParts) (count : ℕ)
     (first : Option Doubt) : Type 0 where
   pub uncovered : All (IsNotKnownToCover asked) (take count patterns)
-  pub found : MatchOption first (All (IsParted asked) (take count patterns))
+  pub found : MatchOption first (All (HasParting asked) (take count patterns))
       (IsDoubt index patterns asked)
 
 module _ (index : ℕ) (patterns : List PatternParts) (asked : PatternParts) (by : ℕ)
@@ -48,8 +48,8 @@ module _ (index : ℕ) (patterns : List PatternParts) (asked : PatternParts) (by
       → IsDoubtBelow index patterns asked by first → IsDoubtBelow index patterns asked (by + 1) first
   below-parted None parting parts below = record {
     uncovered = uncovered-more below.uncovered (inl (parting, parts));
-    found = All-more (IsParted asked) patterns by pattern within below.found
-        (subst (IsParted asked) is (parting, parts));
+    found = All-more (HasParting asked) patterns by pattern within below.found
+        (subst (HasParting asked) is (parting, parts));
   }
   below-parted (Some doubt) parting parts below = record {
     uncovered = uncovered-more below.uncovered (inl (parting, parts));
@@ -81,7 +81,7 @@ pub about-all : (index : ℕ) (patterns : List PatternParts) (asked : PatternPar
     (first : Option Doubt) → length patterns ≤ count → IsDoubtBelow index patterns asked count first
     → IsDoubtAbout index patterns asked first
 about-all index patterns asked count None past below =
-    inr (subst (All (IsParted asked)) (take_all count patterns past) below.found)
+    inr (subst (All (HasParting asked)) (take_all count patterns past) below.found)
 about-all index patterns asked count (Some doubt) past below = (
   below.found.is_pattern,
   record {

@@ -16,39 +16,44 @@ use Rattle.urlpattern_compare.specs.declared.pattern_parts.PatternParts.{Pattern
 
 -- ---- doubts
 
--- The pattern is known not to cover the asked one, by texts that only the asked one matches.
-abbrev pub IsParted : (asked pattern : PatternParts) → Type 0
-IsParted asked pattern = (parting : Parting) × IsParting pattern asked parting
+-- The pattern is known not to cover the asked one: the asked one matches eight texts, and the
+-- pattern does not match one of them.
+abbrev pub HasParting : (asked pattern : PatternParts) → Type 0
+HasParting asked pattern = (parting : Parting) × IsParting pattern asked parting
 
--- A pattern is known to cover the asked one, or all are known not to.
+-- Whether some pattern of the list covers the asked one is known: one is known to cover it, or each
+-- is known not to.
 abbrev pub IsDecided : List PatternParts → (asked : PatternParts) → Type 0
 IsDecided patterns asked =
-    ((index : ℕ) × CoversAt patterns asked index) ⊎ All (IsParted asked) patterns
+    ((index : ℕ) × CoversAt patterns asked index) ⊎ All (HasParting asked) patterns
 
--- No pattern is known to cover the asked one. The doubt has the first one for which it is not
--- known, and the reason.
+-- No pattern of the list is known to cover the asked one. The doubt has the index of the first
+-- pattern for which it is not known whether it covers the asked one, and the component and the
+-- reason to which that is due.
 pub record IsInDoubt (patterns : List PatternParts) (asked : PatternParts) (doubt : Doubt) :
     Type 0 where
   pub pattern : PatternParts
   pub is_there : slice_get patterns doubt.by ≡ Some pattern
   pub why : IsReasonIn pattern asked doubt.component doubt.reason
-  pub parted : All (IsParted asked) (take doubt.by patterns)
+  pub parted : All (HasParting asked) (take doubt.by patterns)
   pub uncovered : All (IsNotKnownToCover asked) patterns
 
--- The doubt about the asked pattern, which has this index. `None` if there is none.
+-- `found` is the doubt whether a pattern of the list covers the asked one, whose index is `index`.
+-- `None`: there is no doubt.
 abbrev pub IsDoubtAbout : (index : ℕ) → List PatternParts → (asked : PatternParts) → Option Doubt
     → Type 0
 IsDoubtAbout index patterns asked found =
     MatchOption found (IsDecided patterns asked)
     (λ doubt. (doubt.pattern ≡ index) × IsInDoubt patterns asked doubt)
 
--- The doubt about the pattern at an index, because of the ones before it.
+-- `found` is the doubt whether an earlier pattern covers the pattern at `index`. `None`: there is
+-- no doubt.
 abbrev pub IsDoubtAt : List PatternParts → (index : ℕ) → Option Doubt → Type 0
 IsDoubtAt patterns index found =
     (asked : PatternParts) × (slice_get patterns index ≡ Some asked)
     × IsDoubtAbout index (take index patterns) asked found
 
--- The doubts about the first `count` patterns, in order.
+-- The doubts whether an earlier pattern covers one of the first `count` patterns, in order.
 abbrev pub AreDoubts : List PatternParts → (count : ℕ) → List Doubt → Type 0
 AreDoubts patterns zero found = found ≡ []
 AreDoubts patterns (suc count) found =
@@ -58,13 +63,15 @@ AreDoubts patterns (suc count) found =
 
 -- ---- output
 
--- The reason, in words that follow the name of the component.
+-- A reason why it is not known whether a pattern covers another, in words that follow the name of
+-- the component.
 abbrev pub reason_text : Reason → List ℕ
 reason_text reasons.CustomExpression = codes "has a custom expression"
 reason_text reasons.IgnoredCase = codes "ignores case"
 reason_text reasons.TooMany = codes "would take too many steps to compare"
 
--- A line with the line number of a pattern, that of the one that may cover it, and the reason.
+-- The line that says for which pattern and because of which earlier one it is not known, by their
+-- line numbers, and why.
 abbrev pub doubt_line : List EntryView → Doubt → List ℕ
 doubt_line entries doubt =
     codes "line " ++ decimal (number_at entries doubt.pattern)
@@ -72,20 +79,20 @@ doubt_line entries doubt =
     ++ codes " covers it: the " ++ name_text doubt.component
     ++ codes " " ++ reason_text doubt.reason ++ codes "\n"
 
--- A line for each doubt.
+-- `text` is a line for each doubt about the patterns. `entries` have their line numbers.
 abbrev pub PrintsDoubts : List PatternParts → List EntryView → (text : List ℕ) → Type 0
 PrintsDoubts patterns entries text =
     (found : List Doubt) × AreDoubts patterns (length patterns) found
     × (text ≡ flat_map (doubt_line entries) found)
 
--- The table has patterns in doubt.
+-- The table has a pattern for which it is not known whether an earlier one covers it.
 abbrev pub HasDoubts : (table : List ℕ) → (base : Option (List ℕ)) → Type 0
 HasDoubts table base =
     (patterns : List PatternParts) × ArePartsOfEach base (table_entries table) patterns
     × (text : List ℕ) × PrintsDoubts patterns (table_entries table) text × (0 < length text)
 
--- The table that the arguments of `unreachable` name has patterns in doubt. `Has` says which file
--- has which table.
+-- The arguments of `unreachable` name a table of which some pattern is in doubt (`HasDoubts`).
+-- `Has` says which file has which table.
 abbrev pub LeaveDoubts : (Has : (name table : List ℕ) → Type 0) → (words : List (List ℕ)) → Type 0
 LeaveDoubts Has words =
     (name : List ℕ) × (base : Option (List ℕ)) × NameTable words name base

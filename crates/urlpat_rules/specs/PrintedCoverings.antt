@@ -1,4 +1,5 @@
--- Whether a pattern covers another, and the output for it. Arguments and texts are bytes.
+-- Whether a pattern covers another, and the output for it. Arguments and texts are bytes. `old` and
+-- `new` are the output before and after, as far as it is known.
 use Rattle.std.specs.Prelude.{◌≡◌, ℕ, false, List, [], ◌∷◌, ◌++◌, codes, Option, None, Some, String, string_bytes}
 use Rattle.std.specs.List.{flat_map}
 use Rattle.std.specs.Io.KnownBytes.{Appends}
@@ -16,13 +17,15 @@ use Rattle.urlpattern_compare.specs.declared.pattern_parts.PatternCovering.TheVa
 
 -- ---- parts
 
--- The parts of the pattern to which the constructor string with this base URL is compiled.
+-- `parts` are the parts of the pattern to which the constructor string `text` with the base URL
+-- `base` is compiled.
 abbrev pub ArePartsOf : (text : List ℕ) → (base : Option (List ℕ)) → PatternParts → Type 0
 ArePartsOf text base parts =
     (compiled : UrlPattern PatternRegexp) × IsPatternOf false text base (pattern_view compiled)
     × KeepsPartsOfWord false text base compiled × (compiled.parts ≡ Some parts)
 
--- Whether the pattern of the first constructor string covers that of the asked one.
+-- `covering` says whether the pattern of the constructor string `pattern` covers the pattern of
+-- `asked`.
 abbrev pub ComparesWith : (pattern asked : List ℕ) → PatternCovering → Type 0
 ComparesWith pattern asked covering =
     (parts asked_parts : PatternParts) × ArePartsOf pattern None parts
@@ -31,28 +34,29 @@ ComparesWith pattern asked covering =
 
 -- ---- output
 
--- A line with the text of a component.
+-- A line with the name of a component and its text.
 abbrev pub text_line : Eight (String Global) → ComponentName → List ℕ
 text_line texts name = name_text name ++ codes "=" ++ string_bytes (at texts name) ++ codes "\n"
 
--- A line with the text of each component.
+-- A line for each component, with its name and its text.
 abbrev pub text_lines : Eight (String Global) → List ℕ
 text_lines texts = flat_map (text_line texts) components
 
--- A line with the component in which patterns differ, and the texts that only the asked one
--- matches.
+-- A line with the component in which two patterns differ, and a line with the text of each
+-- component, of eight texts that only the asked pattern matches.
 abbrev pub parting_lines : Parting → List ℕ
 parting_lines parting =
     codes "not covered: " ++ name_text parting.component ++ codes "\n" ++ text_lines parting.texts
 
--- The output and the exit status. If it is not known, the run fails.
+-- The output for a comparison, and the exit status: 0 if the asked pattern is covered, 1 if not. If
+-- that is not known, the run fails.
 abbrev pub PrintsCovering : PatternCovering → (status : ℕ) → (old new : Option (List ℕ)) → Type 0
 PrintsCovering Covered status old new = (status ≡ 0) × Appends old new (codes "covered\n")
 PrintsCovering (NotCovered parting) status old new =
     (status ≡ 1) × Appends old new (parting_lines parting)
 PrintsCovering (Unknown component reason) status old new = ⊥
 
--- The output and the exit status for the arguments of `covers`.
+-- The output and the exit status of `covers` for the arguments after it.
 abbrev pub PrintsWhether : (words : List (List ℕ)) → (status : ℕ)
     → (old new : Option (List ℕ)) → Type 0
 PrintsWhether (pattern ∷ asked ∷ []) status old new =

@@ -1,5 +1,6 @@
--- The first pattern of a table that matches each line, and the output for it. Arguments and texts
--- are bytes.
+-- The first pattern of a table that matches the URL in each line, and the output for it. Arguments
+-- and texts are bytes. `input` is what the reader has left, and `old` and `new` are the output
+-- before and after, as far as they are known.
 use Rattle.std.specs.Prelude.{◌≡◌, ◌≢◌, ◌⊎◌, ℕ, All, Bool, true, false, List, [], ◌∷◌, ◌++◌, codes, decimal, map, IfSome, Option, Some, String, option_copied, slice_get}
 use Rattle.std.specs.Borrow.{Bor}
 use Rattle.std.specs.List.{flat_map}
@@ -36,12 +37,12 @@ use Rattle.urlpattern_inputs.specs.Trees.{object_of}
 use Rattle.urlpattern_engine.specs.PatternRegexps.{pattern_result}
 use Rattle.urlpattern_engine.specs.declared.pattern_regexp.PatternRegexp.{PatternRegexp}
 
--- Patterns, each with an entry of a table.
+-- Compiled patterns in order, each with its entry of a table.
 abbrev pub Routes : Type 0
 Routes = List (UrlPattern PatternRegexp × Entry)
 
--- The routes have these entries, each with the pattern to which its text is compiled under the base
--- URL.
+-- The routes have these entries, in order, each with the pattern to which its text with the base
+-- URL `base` is compiled.
 abbrev pub AreRoutesOf : (ignores : Bool) → (base : Option (List ℕ)) → List EntryView → Routes
     → Type 0
 AreRoutesOf ignores base entries routes =
@@ -54,47 +55,48 @@ AreRoutesOf ignores base entries routes =
 abbrev pub bare_lines : (text : List ℕ) → List (List ℕ)
 bare_lines text = map without_terminator (lines_of text)
 
--- A line after a tab.
+-- A cell of a row: a tab and a text.
 abbrev pub cell_text : (line : List ℕ) → List ℕ
 cell_text line = codes "\t" ++ line
 
--- The number of an entry, its name, and each line of a text, separated by tabs.
+-- The row of an entry: its number, its name, and each line of a text, separated by tabs.
 abbrev pub row_text : EntryView → (text : List ℕ) → List ℕ
 row_text entry text =
     decimal entry.number ++ codes "\t" ++ entry.name ++ flat_map cell_text (bare_lines text)
     ++ codes "\n"
 
--- The row of an entry, with the lines that `match` prints for each group.
+-- `row` is the row of an entry as text: its number, its name, and for each group of the match the
+-- line that `match` prints.
 abbrev pub IsRouteRow : EntryView → (ComponentName → ResultView) → (row : List ℕ) → Type 0
 IsRouteRow entry result row =
     (text : List ℕ) × AreLines (all_named_results result) text × (row ≡ row_text entry text)
 
--- The JSON of a route: the number and the name of its entry, and the match.
+-- The JSON of a row: the number and the name of an entry, and `found`, the JSON of the match.
 abbrev pub route_tree : EntryView → (found : Data) → Data
 route_tree entry found =
     object_of ((codes "number", Some (number (unsigned entry.number)))
     ∷ (codes "name", Some (string entry.name)) ∷ (codes "match", Some found) ∷ [])
 
--- The row of an entry as JSON.
+-- `row` is the row of an entry as a line of JSON.
 abbrev pub IsRouteJson : EntryView → (ComponentName → ResultView) → (row : List ℕ) → Type 0
 IsRouteJson entry result row =
     (tree : Data) × IsMatchTree result tree × (row ≡ json_line (route_tree entry tree))
 
--- The row of an entry, as JSON or not.
+-- `row` is the row of an entry, whose pattern matches with these results, as JSON or as text.
 abbrev pub IsRowShown : (json : Bool) → EntryView → (ComponentName → ResultView)
     → (row : List ℕ) → Type 0
 IsRowShown true entry result row = IsRouteJson entry result row
 IsRowShown false entry result row = IsRouteRow entry result row
 
--- The text that is printed for a line that no pattern matches.
+-- The text that is printed for a line that is not a URL or that no pattern matches.
 abbrev pub unmatched_text : (json : Bool) → List ℕ
 unmatched_text true = codes "null\n"
 unmatched_text false = codes "-\n"
 
 -- ---- verdicts on lines
 
--- A pattern is the first that matches the text, a URL under this base URL, and the row is that of
--- its entry.
+-- A route is the first whose pattern matches `text`, a URL under the base URL, and `row` is the row
+-- of its entry.
 pub record IsRouted (json : Bool) (routes : Routes) (base : BaseView) (text row : List ℕ) : Type 0
   where
     pub url : Parts
@@ -107,7 +109,8 @@ pub record IsRouted (json : Bool) (routes : Routes) (base : BaseView) (text row 
     pub is_there : slice_get (values_of routes) index ≡ Some entry
     pub shows : IsRowShown json (entry_view entry) result row
 
--- The verdict on a line and the output for it: the row of a match, or a mark if no pattern matches.
+-- The verdict on a line and what is written for it: the row of the first route that matches, or, if
+-- no pattern matches, `unmatched_text`.
 abbrev pub IsLineAnswered : (json : Bool) → Routes → BaseView → (text line : List ℕ) → Verdict
     → (written : List ℕ) → Type 0
 IsLineAnswered json routes base text line verdict written =
@@ -116,22 +119,24 @@ IsLineAnswered json routes base text line verdict written =
     × (written ≡ unmatched_text json)
     × (selected_by verdict ≡ 0))
 
--- The output for the lines of a text is written, with exit status 1 if no line matches.
+-- The output for the lines of a text is written. The exit status is 0 if a pattern matches some
+-- line, else 1.
 abbrev pub RoutesText : (json : Bool) → Routes → BaseView → (text : List ℕ) → (status : ℕ)
     → (old new : Option (List ℕ)) → Type 0
 RoutesText json routes base text status old new =
     (any : Bool) × (status ≡ status_of any)
     × FiltersText (IsLineAnswered json routes base) Line text any old new
 
--- The output for the lines of the reader is written, by the patterns of a table, if the contents of
--- the reader are known.
+-- The output for the lines of the reader is written, by the patterns of a table. The output and the
+-- exit status are known if the contents of the reader are.
 abbrev pub RoutesBy : Flags → (table : List ℕ) → (base : Option (List ℕ))
     → (status : ℕ) → (input old new : Option (List ℕ)) → Type 0
 RoutesBy flags table base status input old new =
     (routes : Routes) × AreRoutesOf flags.ignore_case base (table_entries table) routes
     × IfSome input (λ text. RoutesText flags.json routes (base_view base) text status old new)
 
--- The output for the arguments of `route` is written. `Has` says which file has which table.
+-- The output of `route` for the arguments after it is written. `Has` says which file has which
+-- table.
 abbrev pub RoutesLines : Flags → (Has : (name table : List ℕ) → Type 0) → (words : List (List ℕ))
     → (status : ℕ) → (input old new : Option (List ℕ)) → Type 0
 RoutesLines flags Has words status input old new =
@@ -141,13 +146,14 @@ RoutesLines flags Has words status input old new =
 -- ---- unless the run failed
 
 -- `RoutesBy` unless the run failed.
-abbrev pub RoutesTable : Flags → (table : List ℕ) → (base : Option (Bor (List ℕ)))
+abbrev pub RoutesByUnlessFailed : Flags → (table : List ℕ) → (base : Option (Bor (List ℕ)))
     → (status : ℕ) → (input old new : Option (List ℕ)) → Type 0
-RoutesTable flags table base status input old new =
+RoutesByUnlessFailed flags table base status input old new =
     status ≢ FAILED → RoutesBy flags table (option_copied base) status input old new
 
 -- `RoutesLines` unless the run failed.
-abbrev pub Replies : Flags → (Has : (name table : List ℕ) → Type 0) → (words : List (String Global))
+abbrev pub RoutesLinesUnlessFailed : Flags
+    → (Has : (name table : List ℕ) → Type 0) → (words : List (String Global))
     → (status : ℕ) → (input old new : Option (List ℕ)) → Type 0
-Replies flags Has words status input old new =
+RoutesLinesUnlessFailed flags Has words status input old new =
     status ≢ FAILED → RoutesLines flags Has (words_view words) status input old new

@@ -2,7 +2,7 @@
 use Rattle.std.specs.Prelude.{◌≡◌, ℕ, List, [], ◌∷◌, Option, None}
 use Rattle.urlpat_matching.specs.PatternWords.{base_of}
 
--- The arguments name a file, and a base URL if there is a second argument other than `-`.
+-- The arguments are the name of a file and, if there is a second one other than `-`, a base URL.
 abbrev pub NameTable : (words : List (List ℕ)) → (name : List ℕ) → (base : Option (List ℕ)) → Type 0
 NameTable (file ∷ []) name base = (name ≡ file) × (base ≡ None)
 NameTable (file ∷ word ∷ []) name base = (name ≡ file) × (base ≡ base_of word)

@@ -16,7 +16,8 @@ use urlpattern::{ComponentName, Eight};
 /// The usage of `covers`.
 const COVERS_USAGE: &str = "usage: urlpat covers PATTERN ASKED\n";
 
-/// Runs `covers` with these arguments. Returns the exit status.
+/// Runs `covers` with the arguments after it. Returns the exit status: `DONE` if the first pattern
+/// covers the second, the asked one, `NO_MATCH` if not, `FAILED` if that is not known.
 pub fn covers<Out: Write, Err: Write>(
     alloc: Global,
     words: &[String],
@@ -40,8 +41,8 @@ pub fn covers<Out: Write, Err: Write>(
     status
 }
 
-/// Whether a pattern covers the asked one. `None`: one of them is rejected, or memory ran out,
-/// which is reported.
+/// Compares the patterns of two constructor strings: whether `pattern` covers `asked`. `None`: a
+/// pattern is rejected, or memory ran out, which is reported.
 fn compared<Err: Write>(
     alloc: Global,
     pattern: &str,
@@ -67,8 +68,8 @@ fn compared<Err: Write>(
     }
 }
 
-/// The parts of the pattern of a constructor string. `None`: it is rejected, or memory ran out,
-/// which is reported.
+/// The parts of the pattern of a constructor string. `None`: the pattern is rejected, or memory ran
+/// out, which is reported.
 fn parts_or_report<Err: Write>(alloc: Global, text: &str, err: &mut Err) -> Option<PatternParts>
     ensures { IfSome result (ArePartsOf text.now None) }
 {
@@ -81,8 +82,8 @@ fn parts_or_report<Err: Write>(alloc: Global, text: &str, err: &mut Err) -> Opti
     }
 }
 
-/// Writes whether a pattern covers another, or reports that it is not known. Returns the exit
-/// status.
+/// Writes whether a pattern covers the asked one, or reports why it is not known. Returns the exit
+/// status: `DONE` if it covers, `NO_MATCH` if not, `FAILED` if that is not known.
 fn print_covering<Out: Write, Err: Write>(
     alloc: Global,
     covering: &PatternCovering,
@@ -106,8 +107,9 @@ fn print_covering<Out: Write, Err: Write>(
     }
 }
 
-/// Writes the component in which two patterns differ, and texts that only the asked one matches.
-/// Returns the exit status.
+/// Writes the component in which two patterns differ, and eight texts that only the asked one
+/// matches. Returns the exit status: `NO_MATCH`, or `FAILED` if memory runs out or the output
+/// cannot be written.
 fn print_difference<Out: Write, Err: Write>(
     alloc: Global,
     parting: &Parting,
@@ -128,7 +130,8 @@ fn print_difference<Out: Write, Err: Write>(
     }
 }
 
-/// A line with the component in which two patterns differ, and one with the text of each component.
+/// A line with the component in which two patterns differ, and a line with the text of each
+/// component, of eight texts that only the asked pattern matches.
 fn difference_text(alloc: Global, parting: &Parting) -> Result<String, AllocError>
     ensures { IfOk result (λ text. string_bytes text ≡ parting_lines parting.now) }
 {
@@ -139,7 +142,7 @@ fn difference_text(alloc: Global, parting: &Parting) -> Result<String, AllocErro
     Ok(text)
 }
 
-/// Appends a line with the text of each component.
+/// Appends a line for each component, with its name and its text.
 fn push_texts(text: &mut String, texts: &Eight<String>) -> Result<(), AllocError>
     ensures { OnOk result (string_bytes text.new ≡ string_bytes text.old ++ text_lines texts.now) }
 {
@@ -152,7 +155,8 @@ fn push_texts(text: &mut String, texts: &Eight<String>) -> Result<(), AllocError
     Ok(())
 }
 
-/// Reports why it is not known whether a pattern covers another.
+/// Reports that it is not known whether a pattern covers another, because of which component, and
+/// why.
 fn report_unknown<Err: Write>(component: ComponentName, reason: Reason, err: &mut Err) {
     let why = reason_text(reason);
     let _ = writeln!(err, "not known: the {component} {why}");

@@ -5,7 +5,8 @@ ghost use Rattle.urlpat_rules.specs.Doubts.{reason_text};
 
 use urlpattern::rules::Reason;
 
-/// The reason, in words that follow the name of the component.
+/// A reason why it is not known whether a pattern covers another, in words that follow the name of
+/// the component.
 pub fn reason_text(reason: Reason) -> &'static str
     ensures { result.now ≡ reason_text reason }
 {

@@ -17,15 +17,17 @@ use urlpattern::rules::{PatternCovering, PatternParts, Reason};
 pub struct Doubt {
     /// The index of the pattern.
     pub pattern: usize,
-    /// The index of the first pattern for which it is not known whether it covers this one.
+    /// The index of the first earlier pattern for which it is not known whether it covers the
+    /// pattern.
     pub by: usize,
     /// The component because of which it is not known.
     pub component: ComponentName,
-    /// The reason.
+    /// The reason why it is not known.
     pub reason: Reason,
 }
 
-/// A line for each pattern for which it is not known whether an earlier one covers it.
+/// A line for each pattern for which it is not known whether an earlier one covers it, as
+/// `unreachable` reports them. `entries` have the line numbers of the patterns.
 pub fn doubts_text(
     alloc: Global,
     entries: &[Entry<'_>],
@@ -42,8 +44,8 @@ pub fn doubts_text(
     Ok(text)
 }
 
-/// Lists each pattern for which it is not known whether an earlier one covers it, in order, unless
-/// one is known to cover it.
+/// Lists each pattern for which it is not known whether an earlier one covers it, in order. A
+/// pattern that an earlier one is known to cover is not listed.
 fn doubts(alloc: Global, patterns: &[PatternParts]) -> Result<Vec<Doubt>, AllocError>
     ensures { IfOk result (λ found. AreDoubts patterns.now (length patterns.now) found.items) }
 {
@@ -65,8 +67,9 @@ fn push_some(found: &mut Vec<Doubt>, doubt: Option<Doubt>) -> Result<(), AllocEr
     Ok(())
 }
 
-/// The first of `patterns` for which it is not known whether it covers `asked`, whose index is
-/// `pattern`. `None`: one of them is known to cover it, or all are known not to.
+/// Returns the doubt whether one of `patterns` covers `asked`, whose index is `pattern`: the first
+/// for which it is not known. `None`: some pattern is known to cover `asked`, or each is known not
+/// to.
 fn doubt_about(
     alloc: Global,
     patterns: &[PatternParts],
@@ -94,8 +97,8 @@ fn doubt_about(
     Ok(first)
 }
 
-/// Appends a line with the line number of a pattern, that of the one that may cover it, and the
-/// reason.
+/// Appends a line that says for which pattern and because of which earlier one it is not known, by
+/// their line numbers, and why.
 fn push_doubt(
     alloc: Global,
     text: &mut String,

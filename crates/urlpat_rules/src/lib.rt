@@ -1,4 +1,5 @@
-//! The commands of the program `urlpat` that compare patterns or read a table of patterns.
+//! The commands `covers`, `unreachable` and `route` of the program `urlpat`, which compare patterns
+//! or read a table of patterns.
 #![tactic(auto)]
 
 mod covers_command;

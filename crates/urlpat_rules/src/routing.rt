@@ -1,8 +1,8 @@
-//! The command `route`: the first pattern of a table that matches the URL of each line.
+//! The command `route`: finds the first pattern of a table that matches the URL of each line.
 
 ghost use Rattle.std.specs.Prelude.{◌≡◌, ◌⊎◌, option_copied, IfSome};
 ghost use Rattle.urlpattern_canonical.specs.BaseUrls.{kept_base};
-ghost use Rattle.urlpat_rules.specs.TableRoutes.{AreRoutesOf, IsLineAnswered, Replies, RoutesTable, unmatched_text};
+ghost use Rattle.urlpat_rules.specs.TableRoutes.{AreRoutesOf, IsLineAnswered, RoutesByUnlessFailed, RoutesLinesUnlessFailed, unmatched_text};
 ghost use Rattle.urlpat_lines.specs.Tables.{entries_view};
 
 use crate::row::push_route;
@@ -21,7 +21,8 @@ usage: urlpat route FILE [BASE]
        add --ignore-case for patterns that ignore case
 ";
 
-/// The entries of a table with their patterns, as a rule for the URLs in lines, under a base URL.
+/// The rule of `route`: finds the first entry of a table whose pattern matches the URL in a line,
+/// under a base URL.
 #[derive(Drop)]
 struct Router<'a, 't> {
     alloc: Global,
@@ -30,7 +31,8 @@ struct Router<'a, 't> {
     json: bool,
 }
 
-/// Runs `route` with these arguments. Returns the exit status.
+/// Runs `route` with the arguments after it. Returns the exit status: `NO_MATCH` if no pattern
+/// matches any line.
 pub fn route<T: Tables, In: BufRead, Out: Write, Err: Write>(
     alloc: Global,
     tables: &T,
@@ -41,8 +43,8 @@ pub fn route<T: Tables, In: BufRead, Out: Write, Err: Write>(
     err: &mut Err,
 ) -> u8
     ensures status { (result ≡ DONE) ⊎ (result ≡ NO_MATCH) ⊎ (result ≡ FAILED) }
-    ensures answers { Replies flags (T.Has tables.now) words.now result (In.remaining input.old)
-        (Out.contents out.old) (Out.contents out.new) }
+    ensures answers { RoutesLinesUnlessFailed flags (T.Has tables.now) words.now result
+        (In.remaining input.old) (Out.contents out.old) (Out.contents out.new) }
 {
     let Some((name, base)) = table_words(words) else {
         let _ = err.write_all(ROUTE_USAGE.as_bytes());
@@ -56,7 +58,9 @@ pub fn route<T: Tables, In: BufRead, Out: Write, Err: Write>(
     status
 }
 
-/// Routes each line by the patterns of a table. Returns the exit status.
+/// Writes for each line the row of the first entry of a table whose pattern matches the URL in the
+/// line, or `unmatched_text`. For a line that is too long or not UTF-8 nothing is written, and the
+/// line is reported. Returns the exit status: `NO_MATCH` if no pattern matches any line.
 fn route_by<In: BufRead, Out: Write, Err: Write>(
     alloc: Global,
     table: &[u8],
@@ -67,8 +71,8 @@ fn route_by<In: BufRead, Out: Write, Err: Write>(
     err: &mut Err,
 ) -> u8
     ensures status { (result ≡ DONE) ⊎ (result ≡ NO_MATCH) ⊎ (result ≡ FAILED) }
-    ensures answers { RoutesTable flags table.now base.entry result (In.remaining input.old)
-        (Out.contents out.old) (Out.contents out.new) }
+    ensures answers { RoutesByUnlessFailed flags table.now base.entry result
+        (In.remaining input.old) (Out.contents out.old) (Out.contents out.new) }
 {
     let Some(entries) = read_entries(alloc, table, err) else {
         return FAILED;
@@ -95,7 +99,7 @@ fn route_by<In: BufRead, Out: Write, Err: Write>(
     }
 }
 
-/// The entries with their patterns. `None`: a pattern is rejected, or memory ran out, which is
+/// Compiles the pattern of each entry. `None`: a pattern is rejected, or memory ran out, which is
 /// reported.
 fn routes_of<'t, Err: Write>(
     alloc: Global,
@@ -124,7 +128,7 @@ fn routes_of<'t, Err: Write>(
     Some(routes)
 }
 
-/// The text that is printed for a line that no pattern matches.
+/// The text that is printed for a line that is not a URL or that no pattern matches.
 fn unmatched_text(json: bool) -> &'static str
     ensures { result.now ≡ unmatched_text json }
 {

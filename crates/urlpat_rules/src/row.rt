@@ -3,7 +3,7 @@
 ghost use Rattle.std.specs.List.{flat_map};
 ghost use Rattle.std.specs.Prelude.{◌≡◌, ◌++◌, IfOk, OnOk};
 ghost use Rattle.serde_json.specs.View.{view};
-ghost use Rattle.urlpat_lines.specs.Filters.{GetsPiece};
+ghost use Rattle.urlpat_lines.specs.Filters.{AppendsPiece};
 ghost use Rattle.urlpat_rules.specs.TableRoutes.{IsRouteRow, IsRowShown, bare_lines, cell_text, route_tree};
 ghost use Rattle.urlpat_lines.specs.Tables.{entry_view};
 ghost use Rattle.urlpattern.specs.BorrowedMatches.{pattern_captures_view};
@@ -16,7 +16,7 @@ use urlpat_matching::{json_line, match_tree, push_match};
 use urlpattern::UrlPatternCaptures;
 use urlpattern_inputs::json_writing::put_text;
 
-/// The usual maximum length of a row's groups in bytes.
+/// The number of bytes that are reserved for the groups of a row before they are written.
 const USUAL: usize = 256;
 
 /// Appends the row of an entry whose pattern matches: as JSON, or its number, its name and each
@@ -28,7 +28,7 @@ pub fn push_route(
     found: &UrlPatternCaptures<'_, '_>,
     row: &mut Vec<u8>,
 ) -> Result<(), AllocError>
-    ensures { OnOk result (GetsPiece
+    ensures { OnOk result (AppendsPiece
         (IsRowShown json (entry_view entry.now) (pattern_captures_view found.now)) row.old.items
         row.new.items) }
 {
@@ -41,7 +41,7 @@ pub fn push_route(
     Ok(())
 }
 
-/// The number and the name of an entry, and the match, as JSON.
+/// The JSON of a row: the number and the name of an entry, and `found`, the JSON of the match.
 fn route_tree(alloc: Global, entry: &Entry<'_>, found: Value) -> Result<Value, AllocError>
     ensures { IfOk result (λ tree. view tree ≡ route_tree (entry_view entry.now) (view found)) }
 {
@@ -59,7 +59,7 @@ fn push_row(
     found: &UrlPatternCaptures<'_, '_>,
     row: &mut Vec<u8>,
 ) -> Result<(), AllocError>
-    ensures { OnOk result (GetsPiece
+    ensures { OnOk result (AppendsPiece
         (IsRouteRow (entry_view entry.now) (pattern_captures_view found.now)) row.old.items
         row.new.items) }
 {
@@ -74,7 +74,7 @@ fn push_row(
     Ok(())
 }
 
-/// Appends each line of a text, after a tab.
+/// Appends each line of a text without its end, after a tab.
 fn push_cells(text: &[u8], row: &mut Vec<u8>) -> Result<(), AllocError>
     ensures { OnOk result
         (row.new.items ≡ row.old.items ++ flat_map cell_text (bare_lines text.now)) }

@@ -12,8 +12,9 @@ use urlpat_lines::{Entry, NoTable, entries_of};
 use urlpat_matching::{base_of, write_refusal};
 use urlpattern::Error;
 
-/// A source of files with tables.
+/// A source of files that have tables of patterns.
 pub trait Tables {
+    // The file `name` has the bytes `table`.
     ghost Has: { Self → (name table : List ℕ) → Type 0 };
 
     /// Reads the file with this name.
@@ -21,8 +22,8 @@ pub trait Tables {
         ensures { IfOk result (λ table. Has self.now name.now table.items) };
 }
 
-/// The file that the arguments name, and the base URL, if there is one. `None`: the arguments are
-/// invalid.
+/// The name of the file that the arguments give, and the base URL, if there is one. `None`: the
+/// arguments are invalid.
 pub fn table_words(words: &[String]) -> Option<(&str, Option<&str>)>
     ensures asked { IfSome result (λ asked.
         NameTable (words_view words.now) asked.0.now (option_copied asked.1)) }
@@ -35,7 +36,7 @@ pub fn table_words(words: &[String]) -> Option<(&str, Option<&str>)>
     }
 }
 
-/// Reads the table with this name. `None`: it cannot be read, which is reported.
+/// Reads the file with this name. `None`: it cannot be read, or memory ran out, which is reported.
 pub fn read_table<T: Tables, Err: Write>(tables: &T, name: &str, err: &mut Err) -> Option<Vec<u8>>
     ensures table { IfSome result (λ table. T.Has tables.now name.now table.items) }
     ensures quiet { IfSome result (λ table. err.new ≡ err.old) }
@@ -53,7 +54,7 @@ pub fn read_table<T: Tables, Err: Write>(tables: &T, name: &str, err: &mut Err) 
     }
 }
 
-/// The entries of a table. `None`: it has none, which is reported.
+/// The entries of a table. `None`: a line is not UTF-8, or memory ran out, which is reported.
 pub fn read_entries<'t, Err: Write>(
     alloc: Global,
     table: &'t [u8],
@@ -76,8 +77,8 @@ pub fn read_entries<'t, Err: Write>(
     }
 }
 
-/// Reports why the pattern of an entry or its base is rejected, with the number of its line, or
-/// that memory ran out.
+/// Reports the error with which the pattern of an entry or its base is rejected, with the number of
+/// the entry's line, and a diagnosis; or that memory ran out.
 pub fn report_refused<Err: Write>(
     alloc: Global,
     entry: &Entry<'_>,

@@ -1,4 +1,5 @@
-//! The parts of the pattern of a constructor string.
+//! How the commands that compare patterns compile a constructor string: to the parts of its
+//! pattern.
 
 ghost use Rattle.std.specs.Prelude.{option_copied, IfOk};
 ghost use Rattle.urlpat_rules.specs.PrintedCoverings.{ArePartsOf};

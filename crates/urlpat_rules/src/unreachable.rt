@@ -1,4 +1,4 @@
-//! The command `unreachable`: the patterns of a table that one before them covers.
+//! The command `unreachable`: lists the patterns of a table that an earlier one covers.
 
 ghost use Rattle.std.specs.Prelude.{◌≡◌, ◌≢◌, ◌⊎◌, ◌++◌, length, map, nat_lt, string_bytes, option_copied, IfOk, IfSome, OnOk};
 ghost use Rattle.urlpat_lines.specs.Words.{words_view};
@@ -19,8 +19,9 @@ use urlpattern::rules::{PatternParts, Shadowed, unreachable};
 /// The usage of `unreachable`.
 const UNREACHABLE_USAGE: &str = "usage: urlpat unreachable FILE [BASE]\n";
 
-/// Runs `unreachable` with these arguments. Returns the exit status. Patterns for which it is not
-/// known whether an earlier one covers them are reported.
+/// Runs `unreachable` with the arguments after it. Returns the exit status: `NO_MATCH` if no
+/// pattern is known to be covered by an earlier one. Patterns for which it is not known whether an
+/// earlier one covers them are reported to `err`.
 pub fn list_unreachable<T: Tables, Out: Write, Err: Write>(
     alloc: Global,
     tables: &T,
@@ -47,8 +48,9 @@ pub fn list_unreachable<T: Tables, Out: Write, Err: Write>(
     status
 }
 
-/// Writes the patterns of a table that an earlier one covers, and reports those for which it is not
-/// known. Returns the exit status.
+/// Writes a line for each pattern of a table that an earlier one is known to cover, and reports
+/// each for which it is not known whether an earlier one covers it. Returns the exit status:
+/// `NO_MATCH` if no line is written.
 fn print_unreachable<Out: Write, Err: Write>(
     alloc: Global,
     table: &[u8],
@@ -86,7 +88,8 @@ fn print_unreachable<Out: Write, Err: Write>(
     }
 }
 
-/// A line for each pattern that an earlier one covers, and one for each for which it is not known.
+/// Returns two texts: a line for each pattern that an earlier one is known to cover, and a line for
+/// each pattern for which it is not known whether an earlier one covers it.
 fn texts_of(
     alloc: Global,
     entries: &[Entry<'_>],
@@ -102,7 +105,7 @@ fn texts_of(
     Ok((text, doubts))
 }
 
-/// The exit status of a run that printed these lines.
+/// The exit status of a run that printed these lines: `NO_MATCH` if there is no line.
 fn status_of(text: &str) -> u8
     ensures either { (result ≡ DONE) ⊎ (result ≡ NO_MATCH) }
     ensures is { result ≡ status_of (nat_lt 0 (length text.now)) }
@@ -110,8 +113,8 @@ fn status_of(text: &str) -> u8
     if text.is_empty() { NO_MATCH } else { DONE }
 }
 
-/// The parts of the pattern of each entry. `None`: a pattern is rejected, or memory ran out, which
-/// is reported.
+/// Compiles the pattern of each entry, and returns their parts. `None`: a pattern is rejected, or
+/// memory ran out, which is reported.
 fn parts_of_each<Err: Write>(
     alloc: Global,
     entries: &[Entry<'_>],
@@ -139,7 +142,7 @@ fn parts_of_each<Err: Write>(
     Some(patterns)
 }
 
-/// A line for each pattern that an earlier one covers.
+/// A line for each pattern that an earlier one is known to cover, by the line numbers in `entries`.
 fn unreached_text(
     alloc: Global,
     entries: &[Entry<'_>],
@@ -164,7 +167,8 @@ fn references(alloc: Global, patterns: &[PatternParts]) -> Result<Vec<&PatternPa
     patterns.iter().collect(alloc)
 }
 
-/// Appends a line with the line number of a pattern, and that of the one that covers it.
+/// Appends a line with the line number of a pattern, and the line number of the first one that is
+/// known to cover it.
 fn push_shadowed(
     alloc: Global,
     text: &mut String,
@@ -180,7 +184,7 @@ fn push_shadowed(
     text.push_str(&line)
 }
 
-/// The line number of an entry.
+/// The line number of the entry at an index. 0 if the index is out of range.
 pub fn number_at(entries: &[Entry<'_>], index: usize) -> u64
     ensures { result ≡ number_at (entries_view entries.now) index }
 {

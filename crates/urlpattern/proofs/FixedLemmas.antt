@@ -9,7 +9,7 @@ use Rattle.std.specs.List.{remove}
 use Rattle.std.specs.Prelude.{All, Err, IfOk, Ok, Option, None, Result, Some, bytes_eq, slice_get}
 use Rattle.urlpattern_index.specs.FixedTexts.{FixedTexts, HasTexts, IsText}
 use Rattle.urlpattern_index.specs.Keys.{Hashes, form_key, hashes_of}
-use Rattle.urlpattern_index.specs.Listed.{Finds, GetsPattern, Listing}
+use Rattle.urlpattern_index.specs.Listed.{AppendsPattern, Finds, Listing}
 use Rattle.urlpattern_components.specs.declared.eight.ComponentName.TheVariants.{Hostname, Pathname, Protocol}
 use Rattle.urlpattern_meaning.specs.Matching.{Returns, IsMatched, MatcherView}
 use Rattle.urlpattern_meaning.specs.PartMeaning.{Captures}
@@ -87,7 +87,7 @@ indexed-none answer patterns index none empty = rw (none, empty) record { as_man
 
 module _ {E : Type 0} (answer : E → List ℕ → Option Captures) (patterns : List (UrlPattern E)) (index : Listing) (are : AreIndexed answer patterns index) where
   -- A pattern is appended.
-  pub indexed-push : (pattern : UrlPattern E) (new : Listing) (fixed : FixedTexts) → GetsPattern index new fixed → AreFixed answer (pattern_view pattern) fixed
+  pub indexed-push : (pattern : UrlPattern E) (new : Listing) (fixed : FixedTexts) → AppendsPattern index new fixed → AreFixed answer (pattern_view pattern) fixed
       → AreIndexed answer (patterns ++ pattern ∷ []) new
   indexed-push pattern new fixed appends is_fixed = record {
     as_many = appends.one_more ∙ ap (λ n. n + 1) are.as_many ∙ sym (length_push patterns pattern);

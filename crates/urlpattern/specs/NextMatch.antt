@@ -1,4 +1,5 @@
--- The matches of a list after the first one.
+-- The matches of a list of patterns, one after the other. Eight texts are the texts of an input's
+-- eight components. `answer` is what an engine returns for a text.
 use Rattle.std.specs.Prelude.{◌≡◌, ◌+◌, ◌<◌, ◌≤◌, ℕ, List, length, Option, Some, None, Result, Ok, Err, slice_get, unwrap_or}
 use Rattle.urlpattern.specs.FirstMatch.{FirstView, HasGroupsInOrder, first_captures_view, patterns_view}
 use Rattle.urlpattern.specs.PatternKeys.{address_of}
@@ -14,23 +15,24 @@ use Rattle.urlpattern_syntax.specs.declared.error.Error.{Error}
 use Rattle.urlpattern_syntax.specs.declared.error.Error.TheVariants as errors
 use Rattle.urlpattern_components.specs.Eight.{Texts}
 
--- No pattern from one index up to another (exclusive) matches eight texts.
+-- No pattern whose index is at least `from` and less than `end` matches eight texts.
 abbrev pub NoneMatchBetween : {E : Type 0} → (answer : E → List ℕ → Option Captures)
     → List (PatternView E) → Texts → (from end : ℕ) → Type 0
 NoneMatchBetween {E} answer patterns texts from end =
     (index : ℕ) (pattern : PatternView E) → from ≤ index → index < end
     → slice_get patterns index ≡ Some pattern → DoesNotMatch answer pattern texts
 
--- No pattern from an index up to the one that is found, or up to the end, matches eight texts with
--- these hashes.
+-- No pattern whose index is at least `from` and less than `found` matches eight texts that have
+-- `hashes`, by which an index finds patterns. `None`: no pattern whose index is at least `from`
+-- matches them.
 abbrev pub SkipsOnlyMismatches : {E : Type 0} → (answer : E → List ℕ → Option Captures)
     → List (PatternView E) → Hashes → (from : ℕ) → (found : Option ℕ) → Type 0
 SkipsOnlyMismatches answer patterns hashes from found =
     (texts : Texts) → hashes ≡ hashes_of (address_of texts)
     → NoneMatchBetween answer patterns texts from (unwrap_or found (length patterns))
 
--- The least index, not below `from`, whose pattern matches eight texts, and the match. `None` if no
--- such pattern matches.
+-- The option is the first match of eight texts by a pattern whose index is at least `from`: the
+-- least such index, and the results of the pattern's components. `None`: no such pattern matches.
 abbrev pub IsFirstMatchFrom : {E : Type 0} → (answer : E → List ℕ → Option Captures)
     → List (PatternView E) → Texts → (from : ℕ) → Option FirstView → Type 0
 IsFirstMatchFrom {E} answer patterns texts from (Some first) =
@@ -41,13 +43,15 @@ IsFirstMatchFrom {E} answer patterns texts from (Some first) =
 IsFirstMatchFrom answer patterns texts from None =
     NoneMatchBetween answer patterns texts from (length patterns)
 
--- `IsFirstMatchFrom` for a borrowed match.
+-- `found`, which borrows from the patterns, is the first match of eight texts by a pattern whose
+-- index is at least `from` (`IsFirstMatchFrom`).
 abbrev pub IsFirstCapturedFrom : {E : Type 0} → (answer : E → List ℕ → Option Captures)
     → List (PatternView E) → Texts → (from : ℕ) → Option (ℕ × UrlPatternCaptures) → Type 0
 IsFirstCapturedFrom answer patterns texts from found =
     IsFirstMatchFrom answer patterns texts from (first_captures_view found)
 
--- A pattern at `from` or later calls an engine, and none of those from `from` on before it matches.
+-- Some pattern whose index is at least `from` calls an engine for eight texts, and no pattern from
+-- `from` on, before that one, matches them.
 abbrev pub CallsEngineBeforeMatchFrom : {E : Type 0} → (answer : E → List ℕ → Option Captures)
     → List (PatternView E) → Texts → (from : ℕ) → Type 0
 CallsEngineBeforeMatchFrom {E} answer patterns texts from =
@@ -57,13 +61,14 @@ CallsEngineBeforeMatchFrom {E} answer patterns texts from =
     × CallsAnEngine answer pattern texts
     × NoneMatchBetween answer patterns texts from index
 
--- The remaining matches of a list: those by patterns from an index on.
+-- What an iterator over matches has yet to try: the patterns whose index is at least `from`, on
+-- eight texts.
 pub record MatchesLeft (E : Type 0) : Type 0 where
   pub patterns : List (PatternView E)
   pub texts : Texts
   pub from : ℕ
 
--- The view of the iterator.
+-- What a `UrlPatternMatches` has yet to try.
 abbrev pub matches_left : {E : Type 0} → UrlPatternMatches E → MatchesLeft E
 matches_left matches = record {
   patterns = patterns_view matches.list.now;
@@ -71,8 +76,10 @@ matches_left matches = record {
   from = matches.from;
 }
 
--- Taking an item: the first of the remaining matches, after which those by later patterns
--- remain; or an error because memory ran out, after which none remain.
+-- A call of `next`, where `old` and `new` are what is yet to be tried before and after. A match is
+-- the first from `old.from` on, and the patterns after its index are then left. The error is that
+-- an engine ran out of memory, and no pattern is then left. `None`: no pattern that is left
+-- matches.
 abbrev pub YieldsMatch : {E : Type 0} → (answer : E → List ℕ → Option Captures) → MatchesLeft E
     → Option (Result (ℕ × UrlPatternCaptures) Error) → MatchesLeft E → Type 0
 YieldsMatch answer old (Some (Ok first)) new =

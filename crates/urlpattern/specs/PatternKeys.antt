@@ -1,4 +1,4 @@
--- The fixed texts of a pattern, by which a list finds it.
+-- The fixed texts of patterns, and the index of a list of patterns.
 use Rattle.std.specs.Prelude.{◌≡◌, ℕ, List, length, slice_get, Option, Some}
 use Rattle.urlpattern_index.specs.FixedTexts.{AddressTexts, FixedTexts, IsText}
 use Rattle.urlpattern_index.specs.Keys.{hashes_of}
@@ -12,7 +12,8 @@ use Rattle.urlpattern_pattern.specs.Match.{DoesNotMatch}
 use Rattle.urlpattern_pattern.specs.Patterns.{PatternView, pattern_view}
 use Rattle.urlpattern_pattern.specs.UrlPatterns.{UrlPattern}
 
--- The texts that a pattern matches have these fixed texts.
+-- `fixed` is true of all that the pattern matches: each protocol and each hostname is the fixed
+-- one, where `fixed` has one, and each pathname fits what `fixed` says of it.
 pub record AreFixed {E : Type 0} (answer : E → List ℕ → Option Captures) (pattern : PatternView E)
     (fixed : FixedTexts) : Type 0 where
   pub protocol : (text : List ℕ) → IsMatched answer (pattern Protocol).matcher text
@@ -22,7 +23,7 @@ pub record AreFixed {E : Type 0} (answer : E → List ℕ → Option Captures) (
   pub pathname : (text : List ℕ) → IsMatched answer (pattern Pathname).matcher text
       → FitsPath fixed.pathname text
 
--- The texts by which patterns are looked up.
+-- The protocol, the hostname and the pathname, by which an index finds patterns.
 abbrev pub address_of : Texts → AddressTexts
 address_of texts = record {
   protocol = texts.protocol;
@@ -30,8 +31,8 @@ address_of texts = record {
   pathname = texts.pathname;
 }
 
--- The index has one number for each pattern. A pattern whose number is not found for some texts
--- does not match them.
+-- The index has a key for each pattern, and a pattern's number is its place in the list. A pattern
+-- whose number the index does not find for the hashes of eight texts does not match the texts.
 pub record AreIndexed {E : Type 0} (answer : E → List ℕ → Option Captures)
     (patterns : List (UrlPattern E)) (index : Listing) : Type 0 where
   pub as_many : length index.keys ≡ length patterns

@@ -1,8 +1,9 @@
 //! Lists of patterns, which find the first one that matches an input.
 //!
-//! The texts of the input are made once. An index finds the patterns that can match them, by the
-//! literal protocol and hostname and by the segments of the pathname. Only these patterns are
-//! tried, in the order of the list. No result is built for patterns that do not match.
+//! The texts of the input are made once, however many patterns are tried. An index finds the
+//! patterns that can match them, by the literal protocol and hostname and by the segments of the
+//! pathname. Only these patterns are tried, in the order of the list. No result is built for
+//! patterns that do not match.
 ghost use Rattle.std.specs.Iterator.Adapters.{IterYieldsInOrder};
 ghost use Rattle.std.specs.List.{remove};
 ghost use Rattle.std.specs.Prelude.{◌≡◌, ◌==◌, ◌++◌, ◌<◌, [], ◌∷◌, length, option_copied, slice_get, IfErr, IfOk, OnErr, OnOk};
@@ -56,12 +57,13 @@ use urlpattern_syntax::Error;
 #[derive(Debug)]
 pub struct UrlPatternList<R: RegExp = regex::Regex> {
     patterns: Vec<UrlPattern<R>>,
-    /// The patterns that can match a URL, by its protocol, hostname and path.
+    /// Finds the patterns that can match a URL, by its protocol, hostname and path.
     index: Index,
 }
 
 impl<R: RegExp> Drop for UrlPatternList<R> {
-    /// Drops the patterns. The prover then handles one call where a list goes out of scope.
+    /// Drops the patterns and the index, in a function of its own, so that the prover handles a
+    /// single call where a list goes out of scope.
     fn drop(self) {
         let Self {
             patterns: _patterns,
@@ -93,7 +95,8 @@ impl<R: RegExp> UrlPatternList<R> {
         }
     }
 
-    /// Returns an empty list with room for `capacity` patterns.
+    /// Returns an empty list with room for `capacity` patterns, but not for their entries in the
+    /// index: adding a pattern may still allocate.
     pub fn with_capacity(alloc: Global, capacity: usize) -> Result<Self, Error>
         ensures empty { IfOk result (λ list. list ≡ []) }
         ensures memory { OnlyOutOfMemory result }
@@ -244,18 +247,18 @@ impl<R: RegExp> UrlPatternList<R> {
         let mut hashes = AddressHashes::new();
         hashes.fill(url_address(url));
         match self.next_candidate(&hashes, 0) {
-            Some(index) => self.listed_captures(alloc, url, &hashes, index),
+            Some(index) => self.captures_from_candidate(alloc, url, &hashes, index),
             None => Ok(None),
         }
     }
 
-    /// Returns the first match of a URL by the pattern at an index or a later one. `None`: none of
-    /// them matches.
+    /// Returns the first match of a URL by a pattern whose index is at least `index`, with the
+    /// index of that pattern. `hashes` are those of the URL. `None`: no such pattern matches.
     ///
-    /// Only an engine allocates. A function of its own, since a call clears all variables of its
-    /// function, and some are needed only for a match.
+    /// Only an engine allocates. The variables that this function needs are initialized only for a
+    /// URL that some pattern may match, since it is not inlined into `first_captures`.
     #[inline(never)]
-    fn listed_captures<'p, 'u>(
+    fn captures_from_candidate<'p, 'u>(
         &'p self,
         alloc: Global,
         url: &'u Url,
@@ -273,7 +276,7 @@ impl<R: RegExp> UrlPatternList<R> {
             CallsEngineBeforeMatchFrom R.answer (patterns_view self.now) (texts_of_url url.now)
             index) }
     {
-        Ok(self.first_listed(alloc, &url_texts(url), hashes, index)?)
+        Ok(self.first_from_candidate(alloc, &url_texts(url), hashes, index)?)
     }
 
     /// Returns the least index whose pattern matches an input that is parsed into its eight texts,
@@ -308,7 +311,7 @@ impl<R: RegExp> UrlPatternList<R> {
     }
 }
 
-/// The texts of a URL by which patterns are looked up.
+/// The protocol, the hostname and the path of a URL, by which the index finds patterns.
 fn url_address(url: &Url) -> Address<'_>
     ensures { address_texts result ≡ address_of (texts_of_url url.now) }
 {

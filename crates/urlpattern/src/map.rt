@@ -72,7 +72,8 @@ impl<T, R: RegExp> UrlPatternMap<T, R> {
         }
     }
 
-    /// Returns an empty map with room for `capacity` patterns.
+    /// Returns an empty map with room for `capacity` patterns and their values, but not for the
+    /// patterns' entries in the index: adding a pattern may still allocate.
     pub fn with_capacity(alloc: Global, capacity: usize) -> Result<Self, Error>
         ensures empty { IfOk result (λ map. map ≡ []) }
         ensures memory { OnlyOutOfMemory result }
@@ -185,8 +186,8 @@ impl<T, R: RegExp> UrlPatternMap<T, R> {
         }
     }
 
-    /// Lists each pattern that an earlier one is known to cover, as `UrlPatternList::unreachable`
-    /// does.
+    /// Lists each pattern that an earlier one is known to cover, with the first such pattern, as
+    /// `UrlPatternList::unreachable` does.
     ///
     /// The error is `NoParts` if a pattern has no parts, or `OutOfMemory`.
     pub fn unreachable(&self, alloc: Global) -> Result<Vec<Shadowed>, CompareError>

@@ -1,5 +1,5 @@
-//! Patterns compared by their parts: which one is more specific, whether one covers another, and
-//! whether two overlap.
+//! Patterns compared by their parts: which one is more specific, whether one covers another,
+//! whether two overlap, and which of a list an earlier one covers.
 //!
 //! A compiled pattern keeps its parts: `UrlPattern::parts` borrows them, `UrlPattern::into_parts`
 //! moves them out. No URL is needed.

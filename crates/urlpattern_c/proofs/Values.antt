@@ -26,7 +26,7 @@ use Rattle.std.proofs.ResultValues.{and_tt}
 use Rattle.std.specs.Prelude.{IsSome, Option, None, Some}
 use Rattle.urlpattern_c.specs.Memory.{leads_to}
 use Rattle.urlpattern_ffi.specs.declared.pattern_box.PatternBox.{PatternBox}
-use Rattle.urlpattern_c.specs.contracts.box_parts.BoxParts as loose
+use Rattle.urlpattern_c.specs.contracts.box_parts.BoxParts as parts
 use Rattle.urlpattern_c.specs.contracts.slot.Slot as slot
 
 abbrev pub both : Val → Val → Val
@@ -34,7 +34,7 @@ both v w = vstruct (vcons v (vcons w vnil))
 
 module _ (R Z : RattleType) (L : Laws Z) (g : Ghosts Z.Denot) where
   abbrev pub BoxParts : RattleType
-  BoxParts = loose.the_row R Z g
+  BoxParts = parts.the_row R Z g
 
   abbrev al : Al
   al = record { row = Z; laws = L; g = g; d = impl [] tnil dnil; drops = impl [] tnil dnil }
@@ -56,7 +56,7 @@ module _ (R Z : RattleType) (L : Laws Z) (g : Ghosts Z.Denot) where
         → Step K 𝓛 (‵ (BoxParts.own_val (record { at = block_ptr b o; alloc = a; value = x }) (both (vptr b o) h ∷ [])) ∷ Γ) G (‵ (box_owns (g.dealloc_token a) R (block_ptr b o) x) ∷ ‵ (Z.own_val a (h ∷ [])) ∷ Γ) G
     loose_in t b o h a x = step (λ s. let v : Val = both (vptr b o) h in
         nothing t $ move t (2 ∷ 0 ∷ []) $ fjoin t $ feq_i t (List Val) (vptr b o ∷ []) (vptr b o ∷ []) refl $ fjoin t $ feq_i t (List Val) (v ∷ []) (v ∷ []) refl $ fjoin t $
-        fpack t (Valss (RawPtr ∷ Z ∷ [])) (within (shape (loose.the_type R Z g)) (block_ptr b o, (a, tt)) (v ∷ [])) (vptr b o ∷ [], (h ∷ [], tt)) $ fjoin t $ s)
+        fpack t (Valss (RawPtr ∷ Z ∷ [])) (within (shape (parts.the_type R Z g)) (block_ptr b o, (a, tt)) (v ∷ [])) (vptr b o ∷ [], (h ∷ [], tt)) $ fjoin t $ s)
 
 abbrev pub single : Val → Val
 single v = vstruct (vcons v vnil)

@@ -2,6 +2,6 @@
 use Rattle.urlpattern_c.specs.declared.patterns.Patterns.{Patterns}
 use Rattle.urlpattern_ffi.specs.KeptPatterns.{PatternList, kept_patterns}
 
--- The patterns of a handle, none if it is empty.
+-- The patterns of a handle, in order. An empty handle has no pattern.
 abbrev pub patterns_in : Patterns → PatternList
 patterns_in patterns = kept_patterns patterns.slot.held

@@ -14,8 +14,8 @@ pub(crate) struct BoxParts<T, A: Allocator> {
 }
 
 impl<T, A: Allocator> Model for BoxParts<T, A> {
-    ghost also_owns = { λ loose.
-        box_owns (A.dealloc_token loose.alloc) T.row loose.at loose.value };
+    ghost also_owns = { λ parts.
+        box_owns (A.dealloc_token parts.alloc) T.row parts.at parts.value };
 }
 
 impl<T: Drop, A: Allocator> BoxParts<T, A> {
@@ -27,7 +27,7 @@ impl<T: Drop, A: Allocator> BoxParts<T, A> {
         BoxParts { at, alloc }
     }
 
-    /// Puts the box together again.
+    /// Puts the box together again from its pointer and its allocator.
     pub(crate) fn into_box(self) -> Box<T, A>
         ensures { result.value ≡ self.value }
     {

@@ -1,7 +1,8 @@
-//! The functions that C calls.
+//! The functions that C calls. Each returns the number of a `Status`, apart from `urlpattern_free`
+//! and `urlpattern_version`. A URL is parsed under a base URL unless `base` is empty.
 ghost use Rattle.std.specs.Prelude.{◌≡◌, None};
 ghost use Rattle.urlpattern_c.specs.Handles.{patterns_in};
-ghost use Rattle.urlpattern_c.specs.Returns.{GivesCaptures, GivesFirst, GivesGroupName, GivesLink};
+ghost use Rattle.urlpattern_c.specs.Returns.{ReportsCaptures, ReportsFirstMatch, ReportsGroupName, ReportsLink};
 ghost use Rattle.urlpattern_ffi.specs.Calls.{IsAdded, IsFirstReported, IsTested, ReturnsStatus};
 ghost use Rattle.urlpattern_ffi.specs.ReportedCoverings.{IsCoveringReported};
 ghost use Rattle.urlpattern_ffi.specs.ReportedDiagnoses.{IsDiagnosed, IsInitDiagnosed};
@@ -18,6 +19,7 @@ use urlpattern_ffi::{
 };
 
 /// Compiles a constructor string, under a base URL unless `base` is empty, and appends the pattern.
+/// If an error occurs, the patterns are unchanged.
 #[unsafe(no_mangle)]
 pub extern "C" fn urlpattern_add(
     alloc: Global,
@@ -35,7 +37,8 @@ pub extern "C" fn urlpattern_add(
     status.number()
 }
 
-/// Compiles an init, a JSON object, and appends the pattern.
+/// Compiles an init, a JSON object with the texts of components and of a base URL, and appends the
+/// pattern. If an error occurs, the patterns are unchanged.
 #[unsafe(no_mangle)]
 pub extern "C" fn urlpattern_add_init(
     alloc: Global,
@@ -61,7 +64,8 @@ pub extern "C" fn urlpattern_free(alloc: Global, patterns: &mut Patterns)
     drop(patterns.take(alloc));
 }
 
-/// Whether a pattern matches a URL.
+/// Whether the pattern at an index matches a URL: 0 if it matches, 1 if it does not or the text is
+/// not a URL.
 #[unsafe(no_mangle)]
 pub extern "C" fn urlpattern_test(
     alloc: Global,
@@ -80,7 +84,8 @@ pub extern "C" fn urlpattern_test(
     status.number()
 }
 
-/// Finds the first pattern that matches a URL, and writes its index.
+/// Finds the first pattern that matches a URL, and writes its index. Returns 1 if no pattern
+/// matches or the text is not a URL.
 #[unsafe(no_mangle)]
 pub extern "C" fn urlpattern_first(
     alloc: Global,
@@ -99,7 +104,9 @@ pub extern "C" fn urlpattern_first(
     status.number()
 }
 
-/// Writes the number of the first component of a pattern that does not match a URL.
+/// Matches the pattern at an index against a URL, and writes the number of the first component that
+/// does not match, or 8 if none is found: each matches, there is no URL or no pattern, or memory
+/// ran out.
 #[unsafe(no_mangle)]
 pub extern "C" fn urlpattern_mismatch(
     alloc: Global,
@@ -120,7 +127,8 @@ pub extern "C" fn urlpattern_mismatch(
     status.number()
 }
 
-/// Writes the match of a URL as JSON.
+/// Writes the match of a URL by the pattern at an index to `buffer`, as JSON, and the length of the
+/// JSON in bytes to `needed`.
 #[unsafe(no_mangle)]
 pub extern "C" fn urlpattern_exec(
     alloc: Global,
@@ -141,7 +149,8 @@ pub extern "C" fn urlpattern_exec(
     status.number()
 }
 
-/// Writes what the groups of a pattern capture of a URL, and a span for each group.
+/// Matches the pattern at an index against a URL. If it matches, writes the captures of its groups
+/// to `buffer`, a span for each group to `spans`, and the room that both need to `needed`.
 #[unsafe(no_mangle)]
 pub extern "C" fn urlpattern_captures(
     alloc: Global,
@@ -153,7 +162,7 @@ pub extern "C" fn urlpattern_captures(
     spans: &mut [GroupSpan],
     needed: &mut Sizes,
 ) -> u32
-    ensures answer { GivesCaptures patterns.old index url.now base.now buffer.old buffer.new
+    ensures answer { ReportsCaptures patterns.old index url.now base.now buffer.old buffer.new
         spans.old spans.new needed.new result }
     ensures unchanged { patterns_in patterns.new ≡ patterns_in patterns.old }
 {
@@ -163,8 +172,9 @@ pub extern "C" fn urlpattern_captures(
     status.number()
 }
 
-/// Finds the first pattern that matches a URL, and writes its index, what its groups capture, and a
-/// span for each group.
+/// Finds the first pattern that matches a URL. If there is one, writes its index, the captures of
+/// its groups to `buffer`, a span for each group to `spans`, and the room that both need to
+/// `needed`.
 #[unsafe(no_mangle)]
 pub extern "C" fn urlpattern_first_captures(
     alloc: Global,
@@ -176,7 +186,7 @@ pub extern "C" fn urlpattern_first_captures(
     spans: &mut [GroupSpan],
     needed: &mut Sizes,
 ) -> u32
-    ensures answer { GivesFirst patterns.old url.now base.now index.old index.new buffer.old
+    ensures answer { ReportsFirstMatch patterns.old url.now base.now index.old index.new buffer.old
         buffer.new spans.old spans.new needed.new result }
     ensures unchanged { patterns_in patterns.new ≡ patterns_in patterns.old }
 {
@@ -186,7 +196,9 @@ pub extern "C" fn urlpattern_first_captures(
     status.number()
 }
 
-/// Writes the URL of a pattern, given texts for its groups, or why there is none.
+/// Writes to `buffer` the URL of the pattern at an index, with the groups that `given` cuts out of
+/// `text`, and its length in bytes to `needed`. Returns 3 if there is no URL, and then writes the
+/// reason in its place.
 #[unsafe(no_mangle)]
 pub extern "C" fn urlpattern_link(
     alloc: Global,
@@ -197,7 +209,7 @@ pub extern "C" fn urlpattern_link(
     buffer: &mut [u8],
     needed: &mut usize,
 ) -> u32
-    ensures answer { GivesLink patterns.old index text.now given.now buffer.old buffer.new
+    ensures answer { ReportsLink patterns.old index text.now given.now buffer.old buffer.new
         needed.new result }
     ensures unchanged { patterns_in patterns.new ≡ patterns_in patterns.old }
 {
@@ -207,7 +219,8 @@ pub extern "C" fn urlpattern_link(
     status.number()
 }
 
-/// Writes the name of a group, given its number in a component.
+/// Writes the name of a group of the pattern at an index to `buffer`, and its length in bytes to
+/// `needed`, given the number of its component and its number in the component.
 #[unsafe(no_mangle)]
 pub extern "C" fn urlpattern_group_name(
     alloc: Global,
@@ -218,7 +231,7 @@ pub extern "C" fn urlpattern_group_name(
     buffer: &mut [u8],
     needed: &mut usize,
 ) -> u32
-    ensures answer { GivesGroupName patterns.old index component group buffer.old buffer.new
+    ensures answer { ReportsGroupName patterns.old index component group buffer.old buffer.new
         needed.new result }
     ensures unchanged { patterns_in patterns.new ≡ patterns_in patterns.old }
 {
@@ -228,7 +241,8 @@ pub extern "C" fn urlpattern_group_name(
     status.number()
 }
 
-/// Writes the pattern text of a component.
+/// Writes the pattern text of a component of the pattern at an index to `buffer`, and its length in
+/// bytes to `needed`. `component` is the number of the component.
 #[unsafe(no_mangle)]
 pub extern "C" fn urlpattern_component(
     alloc: Global,
@@ -248,7 +262,8 @@ pub extern "C" fn urlpattern_component(
     status.number()
 }
 
-/// Whether a pattern has a custom regular expression.
+/// Whether the pattern at an index has a custom regular expression: 0 if it has one, 1 if it has
+/// none, 5 if there is no such pattern.
 #[unsafe(no_mangle)]
 pub extern "C" fn urlpattern_has_regexp_groups(
     alloc: Global,
@@ -264,7 +279,9 @@ pub extern "C" fn urlpattern_has_regexp_groups(
     status.number()
 }
 
-/// Whether a pattern covers another one of the same handle.
+/// Whether the pattern at `index` covers the asked one, the pattern at `asked` of the same handle:
+/// 0 if it does, 1 if not, 7 if it is not known. Writes the number of a component in which the two
+/// differ, or because of which it is not known, or else 8.
 #[unsafe(no_mangle)]
 pub extern "C" fn urlpattern_covers_within(
     alloc: Global,
@@ -283,7 +300,9 @@ pub extern "C" fn urlpattern_covers_within(
     status.number()
 }
 
-/// Whether a pattern covers one of another handle.
+/// Whether the pattern at `index` covers the asked one, the pattern of `others` at `asked`: 0 if it
+/// does, 1 if not, 7 if it is not known. Writes the number of a component in which the two differ,
+/// or because of which it is not known, or else 8.
 #[unsafe(no_mangle)]
 pub extern "C" fn urlpattern_covers_between(
     alloc: Global,
@@ -306,7 +325,8 @@ pub extern "C" fn urlpattern_covers_between(
     status.number()
 }
 
-/// Writes why a constructor string is rejected, and where the fault is.
+/// Writes to `buffer` why a constructor string or its base URL is rejected, the length of that in
+/// bytes to `needed`, and to `place` where the fault is. Returns 1 if neither is rejected.
 #[unsafe(no_mangle)]
 pub extern "C" fn urlpattern_diagnose(
     alloc: Global,
@@ -324,7 +344,9 @@ pub extern "C" fn urlpattern_diagnose(
     diagnose(alloc, text, base, ignore_case, buffer, needed, place).number()
 }
 
-/// Writes why an init is rejected, in which of its texts the fault is, and where.
+/// Writes to `buffer` why an init in JSON is rejected, the length of that in bytes to `needed`, and
+/// to `place` in which of its texts and where the fault is. Returns 1 if the init is not rejected,
+/// 3 if the JSON is not an init or its base URL is rejected.
 #[unsafe(no_mangle)]
 pub extern "C" fn urlpattern_diagnose_init(
     alloc: Global,
@@ -340,7 +362,7 @@ pub extern "C" fn urlpattern_diagnose_init(
     diagnose_init(alloc, json, ignore_case, buffer, needed, place).number()
 }
 
-/// The version: 1,000 times its first number, plus its second.
+/// The version of the interface: 1,000 times its first number, plus its second.
 #[unsafe(no_mangle)]
 pub extern "C" fn urlpattern_version() -> u32
     ensures { result ≡ 1000 }

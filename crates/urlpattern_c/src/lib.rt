@@ -1,8 +1,8 @@
 //! URL patterns for other languages: the C functions of a static library. `bindings/c/urlpattern.h`
 //! declares them.
 //!
-//! Each wraps a call of `urlpattern_ffi`, and repeats its clauses. Raw pointers stay inside of
-//! `BoxParts` and `Slot`.
+//! Each function but `urlpattern_free` wraps a call of `urlpattern_ffi`, and repeats its clauses.
+//! Raw pointers stay inside of `BoxParts` and `Slot`.
 #![tactic(auto)]
 
 mod box_parts;

@@ -1,4 +1,4 @@
-//! The handle that C keeps.
+//! The handle with patterns that C keeps.
 ghost use Rattle.std.specs.Prelude.{◌≡◌, is_some};
 
 use crate::box_parts::BoxParts;
@@ -7,11 +7,12 @@ use std::alloc::Global;
 use std::mem;
 use urlpattern_ffi::PatternBox;
 
-/// A handle to patterns in order. C makes one by writing zeros; it is then empty and owns no
+/// A handle to patterns in order. C makes a handle by writing zeros: it is empty, and owns no
 /// memory.
 #[repr(C)]
 #[derive(Drop)]
 pub struct Patterns {
+    /// Whether the slot has patterns.
     is_made: bool,
     pub(crate) slot: Slot,
     ghost agrees: { is_made ≡ is_some slot.held },
@@ -39,13 +40,13 @@ impl Patterns {
     {
         let Patterns { is_made, slot } = mem::replace(self, Patterns::empty());
         if is_made {
-            Some(slot.into_loose(alloc).into_box())
+            Some(slot.into_box_parts(alloc).into_box())
         } else {
             None
         }
     }
 
-    /// Puts patterns in.
+    /// Puts patterns into the handle, which `take` has emptied. `None`: the handle stays empty.
     pub(crate) fn put(&mut self, kept: Option<Box<PatternBox>>)
         ensures { patterns_in self.new ≡ boxed_patterns kept }
     {

@@ -1,4 +1,4 @@
-//! The pointer that C keeps.
+//! The pointer in a handle of C, to its patterns.
 ghost use Rattle.std.specs.Prelude.{◌≡◌, IsSome, Option, None, Some};
 ghost use Rattle.std.specs.Coded.{coded_option};
 ghost use Rattle.urlpattern_ffi.specs.contracts.pattern_box.PatternBox.{the_row as KeptRow};
@@ -34,14 +34,16 @@ impl Slot {
         }
     }
 
-    pub(crate) fn of(loose: BoxParts<PatternBox, Global>) -> Slot
-        ensures { result.held ≡ Some loose.value }
+    /// Returns the pointer of a box that was taken apart. The slot owns the patterns.
+    pub(crate) fn of(parts: BoxParts<PatternBox, Global>) -> Slot
+        ensures { result.held ≡ Some parts.value }
     {
-        let BoxParts { at, alloc: _ } = loose;
+        let BoxParts { at, alloc: _ } = parts;
         Slot { at: at as *mut u8 }
     }
 
-    pub(crate) fn into_loose(self, alloc: Global) -> BoxParts<PatternBox, Global>
+    /// Returns the parts of the box with the patterns, given the allocator that made the box.
+    pub(crate) fn into_box_parts(self, alloc: Global) -> BoxParts<PatternBox, Global>
         requires { IsSome self.held }
         ensures { self.held ≡ Some result.value }
     {

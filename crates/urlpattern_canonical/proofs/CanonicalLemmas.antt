@@ -14,7 +14,7 @@ use Rattle.url.specs.declared.error.ParseError.TheVariants.{Overflow, OutOfMemor
 use Rattle.url.specs.Parser.{Gives, GivesBy, IsOutOfRoom, Parsed, and_then, parse_url}
 use Rattle.url.specs.Parts.{Parts}
 use Rattle.urlpattern_canonical.specs.RejectedAs.{IsRejectedAs, reported_as}
-use Rattle.urlpattern_canonical.specs.Canonical.{IsRejectedByUrl, IsResult, IsReported, Reports, after, canonical, dummy_url, long_text, path_of, pathname_of, reported_error, scheme_for_port, rejected_as, without_added_prefix}
+use Rattle.urlpattern_canonical.specs.Canonical.{IsRejectedByUrl, IsResult, IsReported, Reports, get_after_set, canonical, dummy_url, long_text, path_of, pathname_of, reported_error, scheme_for_port, rejected_as, without_added_prefix}
 use Rattle.urlpattern_syntax.proofs.TextLemmas.{chars-empty}
 use Rattle.urlpattern_syntax.specs.declared.error.Error.{Error}
 use Rattle.urlpattern_syntax.specs.declared.error.Error.TheVariants as errors
@@ -151,19 +151,19 @@ refused_by_url asked bytes error reason is reported =
 -- ---- the steps of a canonical value
 
 pub after-ok : (url : Parsed Parts) (set : Parts → Parsed Parts) (get : Parts → List ℕ) (old new : Parts) → url ≡ Ok old → set old ≡ Ok new
-    → after url set get ≡ Ok (get new)
+    → get_after_set url set get ≡ Ok (get new)
 after-ok url set get old new is_old is_new =
     ap (λ parsed. and_then parsed (λ start. and_then (set start) (λ end. Ok (get end)))) is_old
     ∙ ap (λ parsed. and_then parsed (λ end. Ok (get end))) is_new
 
 pub after-err : (url : Parsed Parts) (set : Parts → Parsed Parts) (get : Parts → List ℕ) (old : Parts) (reason : ParseError) → url ≡ Ok old
-    → set old ≡ Err reason → after url set get ≡ Err reason
+    → set old ≡ Err reason → get_after_set url set get ≡ Err reason
 after-err url set get old reason is_old refused =
     ap (λ parsed. and_then parsed (λ start. and_then (set start) (λ end. Ok (get end)))) is_old
     ∙ ap (λ parsed. and_then parsed (λ end. Ok (get end))) refused
 
 pub after-refused : (url : Parsed Parts) (set : Parts → Parsed Parts) (get : Parts → List ℕ) (reason : ParseError) → url ≡ Err reason
-    → after url set get ≡ Err reason
+    → get_after_set url set get ≡ Err reason
 after-refused url set get reason refused = ap (λ parsed. and_then parsed (λ start. and_then (set start) (λ end. Ok (get end)))) refused
 
 -- ---- canonical values

@@ -11,7 +11,7 @@ use Rattle.url.specs.Parser.{GivesBy, Parsed}
 use Rattle.url.specs.Parts.{Parts}
 use Rattle.urlpattern_canonical.proofs.CanonicalLemmas.{after-err, after-ok, canonical-empty, canonical-err, canonical-ok, is_empty-false, is_empty-true, reports-through, reported-err, reported-ok, rejected_as-err, rejected_as-ok, unwrap_or-text, unwrapped-copied}
 use Rattle.urlpattern_canonical.specs.RejectedAs.{IsRejectedAs}
-use Rattle.urlpattern_canonical.specs.Canonical.{IsResult, IsReported, Reports, after, canonical, canonical_port, port_bytes, port_of, scheme_for_port, rejected_as}
+use Rattle.urlpattern_canonical.specs.Canonical.{IsResult, IsReported, Reports, get_after_set, canonical, canonical_port, port_bytes, port_of, scheme_for_port, rejected_as}
 use Rattle.urlpattern_syntax.specs.declared.error.Error.{Error}
 use Rattle.urlpattern_syntax.specs.Errors.{MemoryOr}
 use Rattle.urlpattern_syntax.specs.Text.{option_text, text_of}
@@ -53,24 +53,24 @@ module _ {T : Type 0} (url : Parsed Parts) (set : List ℕ → Parts → Parsed 
     {old : Parts} (new : Parts) (answer : Parsed T) (reported : Result T Error) where
   pub set-answered : {found : T} (string : String Global) → IsUtf8 value → tested ≡ (length value == 0) → tested ≡ false → url ≡ Ok old
       → GivesBy (λ _. new) answer (set value old) → IsReported answer (length value) reported → reported ≡ Ok found → string_bytes string ≡ get new
-      → canonical (λ bytes. after url (set bytes) get) (chars value) ≡ Ok (text_of string)
+      → canonical (λ bytes. get_after_set url (set bytes) get) (chars value) ≡ Ok (text_of string)
   set-answered {found} string u is_tested some is_old gives is_reported was is_new =
-      answered (λ bytes. after url (set bytes) get) value (get new) string u is_tested some
+      answered (λ bytes. get_after_set url (set bytes) get) value (get new) string u is_tested some
       (after-ok url (set value) get old new is_old
       (reported-ok (λ _. new) answer (set value old) (length value) reported found gives is_reported was)) is_new
 
   pub set-refused : (result : Result (String Global) Error) (error : Error) → IsUtf8 value → tested ≡ (length value == 0) → tested ≡ false
       → url ≡ Ok old → GivesBy (λ _. new) answer (set value old) → IsReported answer (length value) reported → reported ≡ Err error
-      → IsErrAnd result (λ e. e ≡ error) → IsResult (canonical (λ bytes. after url (set bytes) get) (chars value)) (length value) result
+      → IsErrAnd result (λ e. e ≡ error) → IsResult (canonical (λ bytes. get_after_set url (set bytes) get) (chars value)) (length value) result
   set-refused result error u is_tested some is_old gives is_reported failed was =
-      let ask : List ℕ → Parsed (List ℕ) = λ bytes. after url (set bytes) get in
+      let ask : List ℕ → Parsed (List ℕ) = λ bytes. get_after_set url (set bytes) get in
       handed_on (canonical ask (chars value)) (length value) result error was
       (reported-err (λ _. new) answer (set value old) (canonical ask (chars value)) (length value) reported error gives is_reported failed
       (λ reason no. canonical-err ask value reason u (is_empty-false value tested is_tested some) (after-err url (set value) get old reason is_old no)))
 
 -- The canonical value with `reason` for each error of setting it.
 abbrev pub ask_as : ParseError → Parsed Parts → (List ℕ → Parts → Parsed Parts) → (Parts → List ℕ) → List ℕ → Parsed (List ℕ)
-ask_as reason url set get text = after url (λ start. rejected_as reason (set text start)) get
+ask_as reason url set get text = get_after_set url (λ start. rejected_as reason (set text start)) get
 
 module _ {T : Type 0} (reason : ParseError) (url : Parsed Parts) (set : List ℕ → Parts → Parsed Parts) (get : Parts → List ℕ) (value : List ℕ)
     {tested : Bool} (bytes : ℕ) {old : Parts} (new : Parts) (answer : Parsed T) (reported : Result T Error) where

@@ -6,41 +6,43 @@ use Rattle.url.specs.Parts.{Parts}
 use Rattle.urlpattern_canonical.specs.Canonical.{IsRejectedByUrl}
 use Rattle.urlpattern_canonical.specs.declared.base_url.BaseUrl.{BaseUrl}
 
--- The URL of an optional text.
+-- The result of `url` for the text of a base URL. Without a text there is no base URL, and no
+-- error.
 abbrev pub parsed_base : Option (List ℕ) → Parsed (Option Parts)
 parsed_base None = Ok None
 parsed_base (Some text) = and_then (parse_url None text) (λ url. Ok (Some url))
 
--- The length of an optional text, in bytes.
+-- The length of an optional text, in bytes; 0 without a text.
 abbrev pub text_bytes : Option (List ℕ) → ℕ
 text_bytes text = length (unwrap_or text [])
 
--- A parsed base URL: the result of `url` for its text, and the length of the text in bytes.
+-- A parsed base URL, if there is one: the result of `url` for its text, and the length of the text
+-- in bytes.
 pub record BaseView : Type 0 where
   pub url : Parsed (Option Parts)
   pub bytes : ℕ
 
--- The base URL of an optional text.
+-- The parsed base URL of a text; for None, the absence of a base URL.
 abbrev pub base_view : (text : Option (List ℕ)) → BaseView
 base_view text = record { url = parsed_base text; bytes = text_bytes text }
 
--- The base URL of a `BaseUrl`.
+-- The view of a `BaseUrl`.
 abbrev pub kept_base : BaseUrl → BaseView
 kept_base base = record { url = Ok base.url; bytes = base.bytes }
 
--- The result of `url` for a text under a base URL.
+-- The result of `url` for `text`, relative to the base URL if there is one.
 abbrev pub read_under : BaseView → (text : List ℕ) → Parsed Parts
 read_under base text = and_then base.url (λ url. parse_url url text)
 
--- The result of `url` for a text under the base URL of a text.
+-- The result of `url` for `text`, relative to the URL of the text `base` if there is one.
 abbrev pub parsed_text : (base : Option (List ℕ)) → (text : List ℕ) → Parsed Parts
 parsed_text base text = read_under (base_view base) text
 
--- The text under the base URL is this URL.
+-- `url` parses `text`, relative to the base URL, to this URL.
 abbrev pub IsUrlUnder : (text : List ℕ) → BaseView → (url : Parts) → Type 0
 IsUrlUnder text base url = read_under base text ≡ Ok url
 
--- The text under the base URL of a text is this URL.
+-- `url` parses `text`, relative to the URL of the text `base`, to this URL.
 abbrev pub IsUrlOf : (text : List ℕ) → (base : Option (List ℕ)) → (url : Parts) → Type 0
 IsUrlOf text base url = IsUrlUnder text (base_view base) url
 
@@ -48,20 +50,22 @@ IsUrlOf text base url = IsUrlUnder text (base_view base) url
 abbrev pub longer_bytes : (text : List ℕ) → BaseView → ℕ
 longer_bytes text base = max (length text) base.bytes
 
--- `url` rejects the text or the base URL, or the longer text may be too long.
+-- `url` rejects the text or the base URL, or the longer of their two texts has `long_text` bytes or
+-- more, which may be too long for `url`.
 abbrev pub IsRejectedUnder : (text : List ℕ) → BaseView → Type 0
 IsRejectedUnder text base = IsRejectedByUrl (read_under base text) (longer_bytes text base)
 
--- `url` rejects the text or the text of the base URL, or the longer may be too long.
+-- `url` rejects `text` or `base`, the text of the base URL, or the longer of the two has
+-- `long_text` bytes or more, which may be too long for `url`.
 abbrev pub IsRejectedText : (text : List ℕ) → (base : Option (List ℕ)) → Type 0
 IsRejectedText text base = IsRejectedUnder text (base_view base)
 
--- The URL found is that of the text under the base URL. `None`: a text is rejected or may be too
--- long.
+-- `url` parses `text`, relative to the base URL, to the URL `found`. `None`: `url` rejects either,
+-- or the longer of their texts may be too long, as `IsRejectedUnder` says.
 abbrev pub FindsUrlUnder : (text : List ℕ) → BaseView → Option Url → Type 0
 FindsUrlUnder text base found = MatchOption found (IsRejectedUnder text base) (IsUrlUnder text base)
 
--- The URL found is that of the text under the base URL of a text. `None`: a text is rejected or may
--- be too long.
+-- `url` parses `text`, relative to the URL of the text `base`, to the URL `found`. `None`: `url`
+-- rejects either, or the longer of the two may be too long, as `IsRejectedText` says.
 abbrev pub FindsUrl : (text : List ℕ) → (base : Option (List ℕ)) → Option Url → Type 0
 FindsUrl text base found = FindsUrlUnder text (base_view base) found

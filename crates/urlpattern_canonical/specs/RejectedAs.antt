@@ -5,14 +5,15 @@ use Rattle.urlpattern_canonical.specs.Canonical.{reported_error}
 use Rattle.urlpattern_syntax.specs.declared.error.Error.{Error}
 use Rattle.urlpattern_syntax.specs.Errors.{ErrorView, error_view}
 
--- The error for an error of `url`: `reason`, unless memory ran out or a text was too long.
+-- The error that is reported for the error `other` of `url` on texts of at most `bytes` bytes:
+-- `reason`, unless `other` is out of memory or an overflow.
 abbrev pub reported_as : (reason other : ParseError) → (bytes : ℕ) → ErrorView
 reported_as reason ParseError.OutOfMemory bytes = reported_error ParseError.OutOfMemory bytes
 reported_as reason ParseError.Overflow bytes = reported_error ParseError.Overflow bytes
 reported_as reason other bytes = ErrorView.Url reason
 
--- The result is that of `url`, with `reason` for each error other than an overflow and out of
--- memory.
+-- `answer` is what `url` returned. `result` is the same value, or an error: `reason` for each error
+-- of `url` other than an overflow and out of memory.
 abbrev pub IsRejectedAs : {T : Type 0} → (reason : ParseError)
     → (answer : Result T ParseError) → (bytes : ℕ) → Result T Error → Type 0
 IsRejectedAs reason answer bytes result =

@@ -11,16 +11,16 @@ use std::alloc::Global;
 use url::{ParseResult, Url};
 use urlpattern_syntax::Error;
 
-/// A parsed base URL, or none.
+/// A parsed base URL, relative to which texts are read as URLs, or the absence of a base URL.
 #[derive(Drop)]
 pub struct BaseUrl {
     url: Option<Url>,
-    /// The length of the base URL's text, in bytes.
+    /// The length of the text that was parsed, in bytes; 0 without a base URL.
     bytes: usize,
 }
 
 impl BaseUrl {
-    /// Parses the text of a base URL, if there is one.
+    /// Parses the text of a base URL. Without a text there is no base URL.
     ///
     /// Fails with `Error::Url` if `url` rejects the text.
     pub fn parse(alloc: Global, text: Option<&str>) -> Result<Self, Error>
@@ -36,7 +36,8 @@ impl BaseUrl {
         Ok(Self { url, bytes })
     }
 
-    /// Returns the URL of a text under the base URL, or `None` if `url` rejects the text.
+    /// Parses a text as a URL, relative to the base URL if there is one. `None`: `url` rejects the
+    /// text.
     pub fn find(&self, alloc: Global, text: &str) -> Result<Option<Url>, Error>
         ensures found { IfOk result (FindsUrlUnder text.now (kept_base self.now)) }
         ensures memory { OnlyOutOfMemory result }
@@ -48,7 +49,8 @@ impl BaseUrl {
         }
     }
 
-    /// Returns the URL of a text under the base URL. Neither text is longer than `bytes` bytes.
+    /// Parses a text as a URL, relative to the base URL if there is one. `bytes` is the length of
+    /// the longest text that `url` reads: below 16 MB, its `Overflow` is reported as `OutOfMemory`.
     ///
     /// Fails with `Error::Url` if `url` rejects the text.
     fn read(&self, alloc: Global, text: &str, bytes: usize) -> Result<Url, Error>
@@ -59,7 +61,7 @@ impl BaseUrl {
         reported(self.joined_url(alloc, text), bytes)
     }
 
-    /// Returns the result of `url` for a text under the base URL.
+    /// Calls `url` to parse a text, relative to the base URL if there is one.
     fn joined_url(&self, alloc: Global, text: &str) -> ParseResult<Url>
         ensures { Gives result (read_under (kept_base self.now) text.now) }
     {
@@ -70,8 +72,8 @@ impl BaseUrl {
     }
 }
 
-/// Returns the URL of a text, under a base URL if there is one, or `None` if `url` rejects either
-/// text.
+/// Parses `text` as a URL, relative to the URL of the text `base` if there is one. `None`: `url`
+/// rejects either text.
 pub fn find_url(alloc: Global, text: &str, base: Option<&str>) -> Result<Option<Url>, Error>
     ensures found { IfOk result (FindsUrl text.now (option_copied base.entry)) }
     ensures memory { OnlyOutOfMemory result }
@@ -83,7 +85,7 @@ pub fn find_url(alloc: Global, text: &str, base: Option<&str>) -> Result<Option<
     }
 }
 
-/// Parses the text of a URL, if there is one.
+/// Parses the text of a base URL, if there is a text.
 ///
 /// Fails with `Error::Url` if `url` rejects the text.
 pub fn parse_base(alloc: Global, text: Option<&str>) -> Result<Option<Url>, Error>

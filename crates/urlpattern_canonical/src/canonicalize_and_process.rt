@@ -24,7 +24,8 @@ use url::Url;
 use urlpattern_syntax::Error;
 pub use urlpattern_syntax::escape::escape_pattern_string;
 
-/// Makes values canonical.
+/// Makes the values of components canonical by `url`: a protocol begins a URL that is parsed, any
+/// other value is set on a URL and read back. An empty value stays empty.
 ///
 /// The URL on which most values are set may be parsed once and is then copied for each of them.
 ///
@@ -48,7 +49,7 @@ pub enum ProcessType {
     Url,
 }
 
-/// Returns the canonical protocol: the scheme of a URL.
+/// Returns the canonical form of a protocol: the scheme of a URL that begins with the value.
 ///
 /// Fails with `Error::Url` if `url` rejects the value.
 ///
@@ -59,7 +60,7 @@ pub fn canonicalize_protocol(alloc: Global, value: &str) -> Result<String, Error
     Canonicalizer::new(alloc).protocol(value)
 }
 
-/// Returns the canonical user name.
+/// Returns the canonical form of a user name.
 ///
 /// Fails with `Error::Url` if `url` rejects the value.
 ///
@@ -70,7 +71,7 @@ pub fn canonicalize_username(alloc: Global, value: &str) -> Result<String, Error
     Canonicalizer::new(alloc).username(value)
 }
 
-/// Returns the canonical password.
+/// Returns the canonical form of a password.
 ///
 /// Fails with `Error::Url` if `url` rejects the value.
 ///
@@ -81,7 +82,7 @@ pub fn canonicalize_password(alloc: Global, value: &str) -> Result<String, Error
     Canonicalizer::new(alloc).password(value)
 }
 
-/// Returns the canonical hostname.
+/// Returns the canonical form of a hostname.
 ///
 /// Fails with `Error::Url` if `url` rejects the value.
 ///
@@ -92,7 +93,8 @@ pub fn canonicalize_hostname(alloc: Global, value: &str) -> Result<String, Error
     Canonicalizer::new(alloc).hostname(value)
 }
 
-/// Returns the canonical port under a protocol, empty for the default port of the protocol.
+/// Returns the canonical form of a port, empty if it is the default port of `protocol`. `None`:
+/// there is no protocol, and no port is the default.
 ///
 /// Fails with `Error::Url` if `url` rejects the value.
 ///
@@ -108,7 +110,7 @@ pub fn canonicalize_port(
     Canonicalizer::new(alloc).port(value, protocol)
 }
 
-/// Returns the canonical path of segments.
+/// Returns the canonical form of a path that is a list of segments.
 ///
 /// Fails with `Error::Url` if `url` rejects the value.
 ///
@@ -119,7 +121,7 @@ pub fn canonicalize_pathname(alloc: Global, value: &str) -> Result<String, Error
     Canonicalizer::new(alloc).pathname(value)
 }
 
-/// Returns the canonical opaque path.
+/// Returns the canonical form of an opaque path, such as that of a `data:` URL.
 ///
 /// Fails with `Error::Url` if `url` rejects the value.
 ///
@@ -130,7 +132,7 @@ pub fn canonicalize_an_opaque_pathname(alloc: Global, value: &str) -> Result<Str
     Canonicalizer::new(alloc).opaque_pathname(value)
 }
 
-/// Returns the canonical query.
+/// Returns the canonical form of a query.
 ///
 /// Fails with `Error::Url` if `url` rejects the value.
 ///
@@ -141,7 +143,7 @@ pub fn canonicalize_search(alloc: Global, value: &str) -> Result<String, Error>
     Canonicalizer::new(alloc).search(value)
 }
 
-/// Returns the canonical fragment.
+/// Returns the canonical form of a fragment.
 ///
 /// Fails with `Error::Url` if `url` rejects the value.
 ///
@@ -152,7 +154,8 @@ pub fn canonicalize_hash(alloc: Global, value: &str) -> Result<String, Error>
     Canonicalizer::new(alloc).hash(value)
 }
 
-/// Returns the protocol of an init, without a final colon.
+/// Returns the protocol of an init: the value without a final colon, made canonical if it is for a
+/// URL.
 ///
 /// Fails with `Error::Url` if `url` rejects a value for a URL.
 ///
@@ -168,7 +171,7 @@ pub fn process_protocol_init(
     Canonicalizer::new(alloc).process_protocol(value, kind)
 }
 
-/// Returns the user name of an init.
+/// Returns the user name of an init: unchanged for a pattern, canonical for a URL.
 ///
 /// Fails with `Error::Url` if `url` rejects a value for a URL.
 ///
@@ -184,7 +187,7 @@ pub fn process_username_init(
     Canonicalizer::new(alloc).process_username(value, kind)
 }
 
-/// Returns the password of an init.
+/// Returns the password of an init: unchanged for a pattern, canonical for a URL.
 ///
 /// Fails with `Error::Url` if `url` rejects a value for a URL.
 ///
@@ -200,7 +203,7 @@ pub fn process_password_init(
     Canonicalizer::new(alloc).process_password(value, kind)
 }
 
-/// Returns the hostname of an init.
+/// Returns the hostname of an init: unchanged for a pattern, canonical for a URL.
 ///
 /// Fails with `Error::Url` if `url` rejects a value for a URL.
 ///
@@ -216,7 +219,8 @@ pub fn process_hostname_init(
     Canonicalizer::new(alloc).process_hostname(value, kind)
 }
 
-/// Returns the port of an init, under a protocol.
+/// Returns the port of an init: unchanged for a pattern; for a URL canonical, and empty if it is
+/// the default port of `protocol`.
 ///
 /// Fails with `Error::Url` if `url` rejects a value for a URL.
 ///
@@ -232,7 +236,8 @@ pub fn process_port_init(
     Canonicalizer::new(alloc).process_port(value, protocol, kind)
 }
 
-/// Returns the pathname of an init, under a protocol.
+/// Returns the pathname of an init: unchanged for a pattern; for a URL canonical, as a list of
+/// segments or as an opaque path, by `protocol` and an initial slash.
 ///
 /// Fails with `Error::Url` if `url` rejects a value for a URL.
 ///
@@ -248,7 +253,8 @@ pub fn process_pathname_init(
     Canonicalizer::new(alloc).process_pathname(value, protocol, kind)
 }
 
-/// Returns the search of an init, without an initial question mark.
+/// Returns the search of an init: the value without an initial question mark, made canonical if it
+/// is for a URL.
 ///
 /// Fails with `Error::Url` if `url` rejects a value for a URL.
 ///
@@ -260,7 +266,8 @@ pub fn process_search_init(alloc: Global, value: &str, kind: &ProcessType) -> Re
     Canonicalizer::new(alloc).process_search(value, kind)
 }
 
-/// Returns the hash of an init, without an initial number sign.
+/// Returns the hash of an init: the value without an initial number sign, made canonical if it is
+/// for a URL.
 ///
 /// Fails with `Error::Url` if `url` rejects a value for a URL.
 ///
@@ -272,9 +279,10 @@ pub fn process_hash_init(alloc: Global, value: &str, kind: &ProcessType) -> Resu
     Canonicalizer::new(alloc).process_hash(value, kind)
 }
 
-/// Returns a text of a base URL as a value of an init: escaped for a pattern, as it is for a URL.
+/// Returns a text that an init takes over from its base URL
+/// (<https://urlpattern.spec.whatwg.org/#process-a-base-url-string>).
 ///
-/// <https://urlpattern.spec.whatwg.org/#process-a-base-url-string>
+/// For a pattern the text is escaped; for a URL it is unchanged.
 pub fn process_base_url(alloc: Global, input: &str, kind: &ProcessType) -> Result<String, Error>
     ensures ok { IfOk result (λ text. text_of text ≡ processed_base kind.now (chars input.now)) }
     ensures memory { OnlyOutOfMemory result }

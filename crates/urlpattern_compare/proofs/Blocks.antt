@@ -4,7 +4,7 @@ use Rattle.std.proofs.lemmas.List.Elements.{Contains-append_cases, Contains-appe
 use Rattle.std.specs.List.{Contains}
 use Rattle.urlpattern_compare.specs.Automata.{Leads, LeadsFrom}
 use Rattle.urlpattern_compare.specs.Cells.{has_one}
-use Rattle.urlpattern_compare.specs.Making.{Made, heads, with_cell, with_cells}
+use Rattle.urlpattern_compare.specs.Making.{Made, new_starts, with_cell, with_cells}
 use Rattle.urlpattern_compare.specs.declared.parts_automaton.Edge.{Edge}
 use Rattle.urlpattern_compare.specs.declared.parts_automaton.Test.{Test}
 use Rattle.urlpattern_compare.specs.declared.cells.Cell.{Cell}
@@ -121,15 +121,15 @@ cells_read all made (cell ∷ cells) is within text =
       λ reads. rest.1 (cells_map cells (CellThen cell (LeadsFrom all made.starts)) (LeadsFrom all next.starts) (λ t. (first t).1) text reads),
     )
 
--- ---- heads
+-- ---- new start states
 
-pub starts_heads : (made : Made) (cells : List Cell) → (with_cells made cells).starts ≡ heads made.starts made.count cells
+pub starts_heads : (made : Made) (cells : List Cell) → (with_cells made cells).starts ≡ new_starts made.starts made.count cells
 starts_heads made [] = refl
 starts_heads made (One test ∷ cells) = starts_heads (with_cell made (One test)) cells
 starts_heads made (Many test ∷ cells) = starts_heads (with_cell made (Many test)) cells
 
 -- If a cell reads exactly one character, the earlier starts are no starts any more.
-pub heads_alone : (starts others : List ℕ) (count : ℕ) (cells : List Cell) → has_one cells ≡ true → heads starts count cells ≡ heads others count cells
+pub heads_alone : (starts others : List ℕ) (count : ℕ) (cells : List Cell) → has_one cells ≡ true → new_starts starts count cells ≡ new_starts others count cells
 heads_alone starts others count [] one = absurd cc
 heads_alone starts others count (One test ∷ cells) one = refl
 heads_alone starts others count (Many test ∷ cells) one = heads_alone (starts ++ count ∷ []) (others ++ count ∷ []) (count + 1) cells one

@@ -3,7 +3,7 @@ use Rattle.std.proofs.Common.{◌≡◌, ℕ, zero, suc, ◌+◌, ◌≤◌, Boo
 use Rattle.std.specs.Prelude.{◌&&◌, if◌then◌else◌}
 use Rattle.urlpattern_compare.specs.Automata.{LeadsFrom}
 use Rattle.urlpattern_compare.specs.Cells.{has_one}
-use Rattle.urlpattern_compare.specs.Making.{Made, heads, repeats, with_again, with_cells, with_copies, with_missing}
+use Rattle.urlpattern_compare.specs.Making.{Made, new_starts, repeats, with_cells, with_copies, with_missing, with_repeat_starts}
 use Rattle.urlpattern_compare.specs.declared.parts_automaton.Edge.{Edge}
 use Rattle.urlpattern_compare.specs.declared.cells.Cell.{Cell}
 use Rattle.urlpattern_compare.proofs.Blocks.{IsMade, cells_made, cells_read, cells_within, from_append, from_none, heads_alone, starts_heads}
@@ -44,14 +44,14 @@ abbrev pub Absorbs : List Cell → Texts → Type 0
 Absorbs cells Rest = has_one cells ≡ false → (n : ℕ) (text : List ℕ) → TimesThen cells n Rest text → CellsThen cells Rest text
 
 -- An automaton in which the copy may repeat is well made.
-again_made : (made : Made) (again : Bool) (cells : List Cell) → IsMade made → IsMade (with_again made again cells)
+again_made : (made : Made) (again : Bool) (cells : List Cell) → IsMade made → IsMade (with_repeat_starts made again cells)
 again_made made again cells is = record { below = is.below; some = is.some }
 
 unlooped : (all : List Edge) (made : Made) (again : Bool) (cells : List Cell) → (again && has_one cells) ≡ false → (text : List ℕ) →
-    LeadsFrom all (with_again made again cells).starts text ↔ LeadsFrom all made.starts text
+    LeadsFrom all (with_repeat_starts made again cells).starts text ↔ LeadsFrom all made.starts text
 unlooped all made again cells e text =
     let both = from_append all made.starts [] text in
-    let same : (with_again made again cells).starts ≡ made.starts ++ [] = ap (λ b. made.starts ++ (if b then heads [] made.count cells else [])) e in (
+    let same : (with_repeat_starts made again cells).starts ≡ made.starts ++ [] = ap (λ b. made.starts ++ (if b then new_starts [] made.count cells else [])) e in (
       λ leads. elim (both.0 (subst (λ l. LeadsFrom all l text) same leads)) [
         | inl before ↦ before
         | inr none ↦ absurd (from_none all text none)
@@ -59,30 +59,30 @@ unlooped all made again cells e text =
       λ leads. subst (λ l. LeadsFrom all l text) (sym same) (both.1 (inl leads)),
     )
 
-copy_once : (all : List Edge) (made : Made) (again : Bool) (cells : List Cell) → IsMade made → IsPartOf all (with_cells (with_again made again cells) cells) → (again && has_one cells) ≡ false →
-    (text : List ℕ) → LeadsFrom all (with_cells (with_again made again cells) cells).starts text ↔ CellsThen cells (LeadsFrom all made.starts) text
+copy_once : (all : List Edge) (made : Made) (again : Bool) (cells : List Cell) → IsMade made → IsPartOf all (with_cells (with_repeat_starts made again cells) cells) → (again && has_one cells) ≡ false →
+    (text : List ℕ) → LeadsFrom all (with_cells (with_repeat_starts made again cells) cells).starts text ↔ CellsThen cells (LeadsFrom all made.starts) text
 copy_once all made again cells is part e text =
-    let outer = with_again made again cells in
+    let outer = with_repeat_starts made again cells in
     let reads = cells_read all outer cells (again_made made again cells is) part text in (
       λ leads. cells_map cells (LeadsFrom all outer.starts) (LeadsFrom all made.starts) (λ t. (unlooped all made again cells e t).0) text (reads.0 leads),
       λ takes. reads.1 (cells_map cells (LeadsFrom all made.starts) (LeadsFrom all outer.starts) (λ t. (unlooped all made again cells e t).1) text takes),
     )
 
 looped : (all : List Edge) (made : Made) (cells : List Cell) → has_one cells ≡ true → (text : List ℕ) →
-    LeadsFrom all (with_again made true cells).starts text ↔ (LeadsFrom all made.starts text ⊎ LeadsFrom all (with_cells (with_again made true cells) cells).starts text)
+    LeadsFrom all (with_repeat_starts made true cells).starts text ↔ (LeadsFrom all made.starts text ⊎ LeadsFrom all (with_cells (with_repeat_starts made true cells) cells).starts text)
 looped all made cells one text =
-    let outer = with_again made true cells in
+    let outer = with_repeat_starts made true cells in
     let inner = with_cells outer cells in
     let same : outer.starts ≡ made.starts ++ inner.starts =
-    ap (λ b. made.starts ++ (if b then heads [] made.count cells else [])) one
+    ap (λ b. made.starts ++ (if b then new_starts [] made.count cells else [])) one
     ∙ ap (λ l. made.starts ++ l) (heads_alone [] outer.starts made.count cells one ∙ sym (starts_heads outer cells)) in
     let both = from_append all made.starts inner.starts text in
     (λ leads. both.0 (subst (λ l. LeadsFrom all l text) same leads), λ either. subst (λ l. LeadsFrom all l text) (sym same) (both.1 either))
 
-copy_often : (all : List Edge) (made : Made) (cells : List Cell) → IsMade made → IsPartOf all (with_cells (with_again made true cells) cells) → has_one cells ≡ true →
-    (text : List ℕ) → LeadsFrom all (with_cells (with_again made true cells) cells).starts text ↔ ((n : ℕ) × TimesThen cells (suc n) (LeadsFrom all made.starts) text)
+copy_often : (all : List Edge) (made : Made) (cells : List Cell) → IsMade made → IsPartOf all (with_cells (with_repeat_starts made true cells) cells) → has_one cells ≡ true →
+    (text : List ℕ) → LeadsFrom all (with_cells (with_repeat_starts made true cells) cells).starts text ↔ ((n : ℕ) × TimesThen cells (suc n) (LeadsFrom all made.starts) text)
 copy_often all made cells is part one text =
-    let outer = with_again made true cells in
+    let outer = with_repeat_starts made true cells in
     let inner = with_cells outer cells in
     let X = LeadsFrom all made.starts in
     let Y = LeadsFrom all outer.starts in
@@ -101,9 +101,9 @@ copy_often all made cells is part one text =
 abbrev pub CopiesThen : PartModifier → List Cell → Texts → List ℕ → Type 0
 CopiesThen modifier cells Rest text = (n : ℕ) × Allows modifier n × TimesThen cells n Rest text
 
-at_least_one : (all : List Edge) (made : Made) (cells : List Cell) → IsMade made → IsPartOf all (with_cells (with_again made true cells) cells) → Absorbs cells (LeadsFrom all made.starts) →
+at_least_one : (all : List Edge) (made : Made) (cells : List Cell) → IsMade made → IsPartOf all (with_cells (with_repeat_starts made true cells) cells) → Absorbs cells (LeadsFrom all made.starts) →
     (b : Bool) → has_one cells ≡ b → (text : List ℕ) →
-    LeadsFrom all (with_cells (with_again made true cells) cells).starts text ↔ ((n : ℕ) × TimesThen cells (suc n) (LeadsFrom all made.starts) text)
+    LeadsFrom all (with_cells (with_repeat_starts made true cells) cells).starts text ↔ ((n : ℕ) × TimesThen cells (suc n) (LeadsFrom all made.starts) text)
 at_least_one all made cells is part absorbs true e text = copy_often all made cells is part e text
 at_least_one all made cells is part absorbs false e text =
     let once = copy_once all made true cells is part e text in
@@ -138,45 +138,45 @@ some_of cells Rest zero text le is = absurd (omega arith)
 some_of cells Rest (suc n) text le is = (n, is)
 
 pub copies_part : (all : List Edge) (made : Made) (modifier : PartModifier) (cells : List Cell) → IsPartOf all (with_copies made modifier cells) →
-    IsPartOf all (with_cells (with_again made (repeats modifier) cells) cells)
+    IsPartOf all (with_cells (with_repeat_starts made (repeats modifier) cells) cells)
 copies_part all made modifier cells part = record { kept = part.kept; only = part.only; below = part.below; some = part.some }
 
 pub copies_made : (made : Made) (modifier : PartModifier) (cells : List Cell) → IsMade made → IsMade (with_copies made modifier cells)
 copies_made made modifier cells is =
-    let inner = cells_made (with_again made (repeats modifier) cells) cells (again_made made (repeats modifier) cells is) in
+    let inner = cells_made (with_repeat_starts made (repeats modifier) cells) cells (again_made made (repeats modifier) cells is) in
     record { below = inner.below; some = inner.some }
 
 -- What was made before the copies is a part of all edges.
 pub copies_before : (all : List Edge) (made : Made) (modifier : PartModifier) (cells : List Cell) → IsMade made → IsPartOf all (with_copies made modifier cells) → IsPartOf all made
 copies_before all made modifier cells is part =
-    let outer = cells_within all (with_again made (repeats modifier) cells) cells (again_made made (repeats modifier) cells is) (copies_part all made modifier cells part) in
+    let outer = cells_within all (with_repeat_starts made (repeats modifier) cells) cells (again_made made (repeats modifier) cells is) (copies_part all made modifier cells part) in
     record { kept = outer.kept; only = outer.only; below = outer.below; some = outer.some }
 
 pub copies_read : (all : List Edge) (made : Made) (modifier : PartModifier) (cells : List Cell) → IsMade made → IsPartOf all (with_copies made modifier cells) → Absorbs cells (LeadsFrom all made.starts) →
     (text : List ℕ) → LeadsFrom all (with_copies made modifier cells).starts text ↔ CopiesThen modifier cells (LeadsFrom all made.starts) text
 copies_read all made PartModifier.None cells is part absorbs text =
-    let inner = with_cells (with_again made false cells) cells in
+    let inner = with_cells (with_repeat_starts made false cells) cells in
     let out = not_missing all made inner text in
     let once = copy_once all made false cells is (copies_part all made PartModifier.None cells part) refl text in (
       λ leads. (1, refl, once.0 (out.0 leads)),
       λ (n, e, takes). out.1 (once.1 (subst (λ m. TimesThen cells m (LeadsFrom all made.starts) text) e takes)),
     )
 copies_read all made PartModifier.Optional cells is part absorbs text =
-    let inner = with_cells (with_again made false cells) cells in
+    let inner = with_cells (with_repeat_starts made false cells) cells in
     let once = copy_once all made false cells is (copies_part all made PartModifier.Optional cells part) refl text in
     let out = missing_or all made inner (has_one cells) text (λ e none. once.1 (absorbs e 0 text none)) in (
       λ leads. elim (out.0 leads) [ inl some ↦ (1, omega arith, once.0 some) | inr none ↦ (0, omega arith, none) ],
       λ (n, le, takes). elim (at_most_one cells (LeadsFrom all made.starts) n text le takes) [ inl some ↦ out.1 (inl (once.1 some)) | inr none ↦ out.1 (inr none) ],
     )
 copies_read all made PartModifier.OneOrMore cells is part absorbs text =
-    let inner = with_cells (with_again made true cells) cells in
+    let inner = with_cells (with_repeat_starts made true cells) cells in
     let out = not_missing all made inner text in
     let often = at_least_one all made cells is (copies_part all made PartModifier.OneOrMore cells part) absorbs (has_one cells) refl text in (
       λ leads. let found = often.0 (out.0 leads) in (suc found.0, omega arith, found.1),
       λ (n, le, takes). out.1 (often.1 (some_of cells (LeadsFrom all made.starts) n text le takes)),
     )
 copies_read all made PartModifier.ZeroOrMore cells is part absorbs text =
-    let inner = with_cells (with_again made true cells) cells in
+    let inner = with_cells (with_repeat_starts made true cells) cells in
     let often = at_least_one all made cells is (copies_part all made PartModifier.ZeroOrMore cells part) absorbs (has_one cells) refl text in
     let out = missing_or all made inner (has_one cells) text (λ e none. often.1 (0, absorbs e 0 text none)) in (
       λ leads. elim (out.0 leads) [ inl some ↦ (let found = often.0 some in (suc found.0, tt, found.1)) | inr none ↦ (0, tt, none) ],

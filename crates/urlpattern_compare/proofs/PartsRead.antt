@@ -5,7 +5,7 @@ use Rattle.std.specs.List.{Contains}
 use Rattle.std.specs.Prelude.{◌&&◌, if◌then◌else◌}
 use Rattle.urlpattern_compare.specs.Automata.{AcceptsText, IsWithin, Leads, LeadsFrom}
 use Rattle.urlpattern_compare.specs.Cells.{cells_of, has_one}
-use Rattle.urlpattern_compare.specs.Making.{HasManyStates, Made, heads, made, made_view, may_miss, repeats, with_again, with_cell, with_cells, with_copies}
+use Rattle.urlpattern_compare.specs.Making.{HasManyStates, Made, made, made_view, may_miss, new_starts, repeats, with_cell, with_cells, with_copies, with_repeat_starts}
 use Rattle.urlpattern_compare.specs.declared.parts_automaton.PartsAutomaton.{PartsAutomaton}
 use Rattle.urlpattern_compare.specs.declared.parts_automaton.Edge.{Edge}
 use Rattle.urlpattern_compare.specs.declared.cells.Cell.{Cell}
@@ -106,7 +106,7 @@ cells_below limit made (cell ∷ cells) below le =
     cells_below limit (with_cell made cell) cells (cell_below limit made cell below (omega arith)) (omega arith)
 
 heads_below : (limit : ℕ) (starts : List ℕ) (count : ℕ) (cells : List Cell) → ((state : ℕ) → Contains starts state → state < limit) → count + length cells ≤ limit →
-    (state : ℕ) → Contains (heads starts count cells) state → state < limit
+    (state : ℕ) → Contains (new_starts starts count cells) state → state < limit
 heads_below limit starts count [] all le state has = all state has
 heads_below limit starts count (One test ∷ cells) all le state has =
     heads_below limit (count ∷ []) (count + 1) cells (with_one limit count [] (omega arith) (λ s (k, none, e). absurd (omega arith))) (omega arith) state has
@@ -119,7 +119,7 @@ if_below limit false states all state (k, none, e) = absurd (omega arith)
 
 copies_below : (made : Made) (modifier : PartModifier) (cells : List Cell) → IsBelow made.count made → IsBelow (with_copies made modifier cells).count (with_copies made modifier cells)
 copies_below made modifier cells below =
-    let outer = with_again made (repeats modifier) cells in
+    let outer = with_repeat_starts made (repeats modifier) cells in
     let count = cells_count outer cells in
     let limit = (with_cells outer cells).count in
     let more = (λ (state : ℕ) (lt : state < made.count). let h : state < limit = omega arith in h) in
@@ -128,7 +128,7 @@ copies_below made modifier cells below =
       edges = λ edge has. more edge.to (below.edges edge has);
       starts = λ state has. elim (Contains-append_cases made.starts _ state has) [
         | inl before ↦ more state (below.starts state before)
-        | inr new ↦ if_below limit (repeats modifier && has_one cells) (heads [] made.count cells) (heads_below limit [] made.count cells none (omega arith)) state new
+        | inr new ↦ if_below limit (repeats modifier && has_one cells) (new_starts [] made.count cells) (heads_below limit [] made.count cells none (omega arith)) state new
       ];
     } in
     let inner = cells_below limit outer cells first (omega arith) in
@@ -161,7 +161,7 @@ parts_within options parts automaton same =
 part_count : (options : OptionsView) (part : PartView) (parts : List PartView) → (made options (part ∷ parts)).count ≡ (made options parts).count + length (reverse (cells_of options part.kind part))
 part_count options part parts =
     let cells = reverse (cells_of options part.kind part) in
-    cells_count (with_again (made options parts) (repeats part.modifier) cells) cells
+    cells_count (with_repeat_starts (made options parts) (repeats part.modifier) cells) cells
 
 parts_count : (options : OptionsView) (front back : List PartView) → (made options back).count ≤ (made options (front ++ back)).count
 parts_count options [] back = omega arith

@@ -11,7 +11,7 @@ use Rattle.urlpattern_compare.specs.Answers.{is_custom_part}
 use Rattle.urlpattern_meaning.specs.PartMeaning.{PartsMean}
 use Rattle.urlpattern_compare.proofs.AnswerLemmas.{custom, generated}
 use Rattle.urlpattern_compare.proofs.NamelessParts.{all_nameless, generated_renamed, renamed, unnamed_views}
-use Rattle.urlpattern_compare.specs.Comparing.{AreSame, IsKnown, IsSettled, MeansAllOf, unnamed, unnamed_view}
+use Rattle.urlpattern_compare.specs.Comparing.{AreSame, IsCaseKeptOrGenerated, IsKnown, MeansAllOf, unnamed, unnamed_view}
 use Rattle.urlpattern_syntax.specs.declared.parts.ComponentParts.{ComponentParts}
 use Rattle.urlpattern_syntax.proofs.StringTexts.{text_bytes}
 use Rattle.urlpattern_syntax.specs.declared.parser.Part.{Part}
@@ -62,16 +62,16 @@ known_or_not component = by component.options.ignore_case refl (list_any is_cust
     by false e true f = inr (λ known. custom component.parts.items f known.generated)
     by false e false f = inl (record { generated = generated component.parts.items f; case_kept = e })
 
--- Where case is ignored, the component is settled if no part is custom.
-pub settled_by : (component : ComponentParts) (some : Bool) → component.options.ignore_case ≡ true → some ≡ list_any is_custom_part component.parts.items → IsTrue (not some) ↔ IsSettled component
+-- Where case is ignored, `IsCaseKeptOrGenerated` says that no part is custom.
+pub settled_by : (component : ComponentParts) (some : Bool) → component.options.ignore_case ≡ true → some ≡ list_any is_custom_part component.parts.items → IsTrue (not some) ↔ IsCaseKeptOrGenerated component
 settled_by component true ignored e = (
   λ never. absurd (true≢false (sym never)),
-  λ settled. elim settled [
+  λ kept_or_generated. elim kept_or_generated [
     | inl kept ↦ absurd (true≢false (sym ignored ∙ kept))
     | inr generated ↦ absurd (custom component.parts.items (sym e) generated)
   ],
 )
-settled_by component false ignored e = (λ is. inr (generated component.parts.items (sym e)), λ settled. refl)
+settled_by component false ignored e = (λ is. inr (generated component.parts.items (sym e)), λ kept_or_generated. refl)
 
 -- Equal parts mean the same texts, where these are known.
 pub same_within : (component asked : ComponentParts) → AreSame component asked → IsKnown component → MeansAllOf component asked

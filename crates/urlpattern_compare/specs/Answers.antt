@@ -1,4 +1,5 @@
--- The results of comparing the texts that two lists of parts mean.
+-- The results of comparing which texts two lists of parts match. Parts *mean* a text if they can
+-- match it, one after the other.
 use Rattle.std.specs.Prelude.{◌≡◌, ◌↔◌, ℕ, Bool, true, false, not, ◌⊎◌, IfOk, IfSome, List, IsTrue, Option, Result}
 use Rattle.std.specs.Str.{all_scalars}
 use Rattle.urlpattern_compare.specs.Automata.{AcceptsText, IsWhether}
@@ -23,21 +24,23 @@ use Rattle.urlpattern_syntax.specs.declared.parser.Part.{Part}
 use Rattle.urlpattern_syntax.specs.declared.parser.PartType.{PartType}
 use Rattle.urlpattern_syntax.specs.Text.{lacks, line_feed}
 
--- A search of the automata of two lists of parts reaches too many pairs.
+-- A search of the automata of two lists of parts reaches more pairs than `MOST_PAIRS`.
 abbrev pub IsSearchLong : OptionsView → List PartView → OptionsView → List PartView → Type 0
 IsSearchLong options parts other_options others =
     (one other : PartsAutomaton) × (made_view one ≡ made options parts)
     × (made_view other ≡ made other_options others)
     × HasManyPairs one other
 
--- The work is too much: one of the lists needs too many states, or a search is too long.
+-- The work of comparing two lists of parts is too much: one of them needs too many states, or a
+-- search reaches too many pairs.
 abbrev pub IsTooMuch : OptionsView → List PartView → OptionsView → List PartView → Type 0
 IsTooMuch options parts other_options others =
     (HasManyStates options parts ⊎ HasManyStates other_options others)
     ⊎ (IsSearchLong options parts other_options others
     ⊎ IsSearchLong other_options others options parts)
 
--- Why a comparison has no result.
+-- `reason` is true of two lists of parts whose comparison has no result: a part is custom, case is
+-- ignored, or the work is too much.
 abbrev pub IsReason : OptionsView → List PartView → OptionsView → List PartView → Reason → Type 0
 IsReason options parts other_options others reasons.CustomExpression =
     ¬ (AreGenerated parts × AreGenerated others)
@@ -46,8 +49,9 @@ IsReason options parts other_options others reasons.IgnoredCase =
 IsReason options parts other_options others reasons.TooMany =
     IsTooMuch options parts other_options others
 
--- The result of a comparison is right. Covered: the parts mean each text without line feed that the
--- asked parts mean. NotCovered: only the asked parts mean this text. Unknown: the reason holds.
+-- What each result of `covers` says. Covered: the parts match each text without line feed that the
+-- asked parts match. NotCovered: only the asked parts match the text, which has no line feed.
+-- Unknown: the reason is true of the two lists (`IsReason`).
 abbrev pub IsCovering : OptionsView → List PartView
     → (asked_options : OptionsView) → (asked : List PartView) → Covering → Type 0
 IsCovering options parts asked_options asked coverings.Covered =
@@ -60,8 +64,9 @@ IsCovering options parts asked_options asked (coverings.NotCovered text) =
 IsCovering options parts asked_options asked (coverings.Unknown reason) =
     IsReason asked_options asked options parts reason
 
--- The result of a comparison is right. Apart: no text without line feed is meant by both lists of
--- parts. Common: both mean this text. Unknown: the reason holds.
+-- What each result of `overlaps` says. Apart: no text without line feed exists that both lists of
+-- parts match. Common: both match the text, which has no line feed. Unknown: the reason is true of
+-- the two lists (`IsReason`).
 abbrev pub IsOverlap : OptionsView → List PartView → OptionsView → List PartView → Overlap → Type 0
 IsOverlap options parts other_options others overlaps.Apart =
     (text : List ℕ) → IsTrue (all_scalars text) → IsTrue (lacks line_feed text)
@@ -88,18 +93,21 @@ IsOverlapOf options parts other_options others =
 
 -- ---- steps
 
--- The automaton that was made, unless memory ran out or it would have too many states.
+-- If an automaton was made, `Is` holds of it. Nothing is said if memory ran out, or if the
+-- automaton would have too many states.
 abbrev pub IfMade : {E : Type 0} → Result (Option PartsAutomaton) E → (PartsAutomaton → Type 0)
     → Type 0
 IfMade result Is = IfOk result (λ found. IfSome found Is)
 
--- The automaton accepts the texts that the parts mean.
+-- The automaton accepts exactly the texts that the parts match.
 abbrev pub AcceptsMeaning : OptionsView → List PartView → PartsAutomaton → Type 0
 AcceptsMeaning options parts automaton =
     (text : List ℕ) → AcceptsText automaton text ↔ MeansText options parts text
 
--- The result of looking for a text without line feed that the parts mean, and that the others mean
--- or not, by `is_meant`.
+-- What each result of `find_meant` says. The text sought has no line feed, the parts match it, and
+-- the others match it if `is_meant` is true, and do not if it is false. Text: the text is as
+-- sought. Nothing: no text of characters is. Unknown: the reason is true of the two lists
+-- (`IsReason`).
 abbrev pub IsSought : OptionsView → List PartView → OptionsView → List PartView
     → (is_meant : Bool) → Answer → Type 0
 IsSought options parts other_options others is_meant (answers.Text text) =
@@ -120,17 +128,18 @@ IsSoughtOf options parts other_options others =
     IsSought (options_view options) (parts_view parts) (options_view other_options)
     (parts_view others)
 
--- The result by what a search found.
+-- What a search found, as an `Answer`. A search that exceeded its bound is `Unknown`, for the
+-- reason `TooMany`.
 abbrev pub answer_of : Found → Answer
 answer_of (founds.Text text) = answers.Text text
 answer_of founds.Nothing = answers.Nothing
 answer_of founds.TooMany = answers.Unknown reasons.TooMany
 
--- A part of this kind is a custom regular expression.
+-- Whether a part of this kind is a custom regular expression.
 abbrev pub is_custom_kind : PartType → Bool
 is_custom_kind PartType.Regexp = true
 is_custom_kind kind = false
 
--- The part is a custom regular expression.
+-- Whether the part is a custom regular expression.
 abbrev pub is_custom_part : Part → Bool
 is_custom_part part = is_custom_kind part.kind

@@ -28,16 +28,17 @@ Leads edges state (c ∷ text) =
 abbrev pub LeadsFrom : List Edge → (states : List ℕ) → (text : List ℕ) → Type 0
 LeadsFrom edges states text = (state : ℕ) × Contains states state × Leads edges state text
 
--- The automaton accepts the text.
+-- The automaton accepts the text: the edges lead from a start state to state 0 by the text.
 abbrev pub AcceptsText : PartsAutomaton → (text : List ℕ) → Type 0
 AcceptsText automaton text = LeadsFrom automaton.edges.items automaton.starts.items text
 
--- The states that the automaton names are less than its number of states.
+-- The states that edges lead to and the start states are less than the automaton's number of
+-- states.
 pub record IsWithin (automaton : PartsAutomaton) : Type 0 where
   pub edges : All (λ edge. edge.to < automaton.states) automaton.edges.items
   pub starts : All (λ state. state < automaton.states) automaton.starts.items
 
--- The fact holds if the flag is true, and fails if it is false.
+-- `fact` holds if the flag is true, and does not hold if the flag is false.
 abbrev pub IsWhether : Bool → Type 0 → Type 0
 IsWhether true fact = fact
 IsWhether false fact = ¬ fact

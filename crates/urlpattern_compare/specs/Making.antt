@@ -6,7 +6,7 @@ use Rattle.urlpattern_compare.specs.declared.parts_automaton.Edge.{Edge}
 use Rattle.urlpattern_compare.specs.declared.parts_automaton.Test.{Test}
 use Rattle.urlpattern_compare.specs.declared.cells.Cell.{Cell}
 use Rattle.urlpattern_compare.specs.declared.cells.Cell.TheVariants.{One, Many}
-use Rattle.urlpattern_compare.specs.declared.making.TheConstants.{MOST_STATES}
+use Rattle.urlpattern_compare.specs.declared.parts_automaton.TheConstants.{MOST_STATES}
 use Rattle.urlpattern_syntax.specs.{Options.OptionsView, Parts.PartView}
 use Rattle.urlpattern_syntax.specs.declared.parser.PartModifier.{PartModifier}
 
@@ -16,6 +16,7 @@ pub record Made : Type 0 where
   pub starts : List ℕ
   pub count : ℕ
 
+-- The view of an automaton.
 abbrev pub made_view : PartsAutomaton → Made
 made_view automaton = record {
   edges = automaton.edges.items;
@@ -23,11 +24,13 @@ made_view automaton = record {
   count = automaton.states;
 }
 
--- Edges from a state to others.
+-- Edges from `from` to each of `others`, by characters that pass the test.
 abbrev pub edges_to : (from : ℕ) → Test → (others : List ℕ) → List Edge
 edges_to from test others = map (λ to. record { from = from; test = test; to = to }) others
 
--- A cell is prepended.
+-- The automaton with a cell prepended. One: a new state, which leads to the starts by a character,
+-- becomes the only start. Many: a new state, which leads to the starts and to itself, becomes a
+-- further start.
 abbrev pub with_cell : Made → Cell → Made
 with_cell made (One test) = record {
   edges = made.edges ++ edges_to made.count test made.starts;
@@ -40,56 +43,61 @@ with_cell made (Many test) = record {
   count = made.count + 1;
 }
 
--- Cells, in reverse order, are prepended.
+-- The automaton with cells prepended, which are in reverse order.
 abbrev pub with_cells : Made → List Cell → Made
 with_cells made [] = made
 with_cells made (cell ∷ cells) = with_cells (with_cell made cell) cells
 
--- The start states of cells, in reverse order, if this number of states was made before.
-abbrev pub heads : (starts : List ℕ) → (count : ℕ) → List Cell → List ℕ
-heads starts count [] = starts
-heads starts count (One test ∷ cells) = heads (count ∷ []) (count + 1) cells
-heads starts count (Many test ∷ cells) = heads (starts ++ count ∷ []) (count + 1) cells
+-- The start states that cells, in reverse order, have once they are prepended to an automaton with
+-- `count` states and the start states `starts`.
+abbrev pub new_starts : (starts : List ℕ) → (count : ℕ) → List Cell → List ℕ
+new_starts starts count [] = starts
+new_starts starts count (One test ∷ cells) = new_starts (count ∷ []) (count + 1) cells
+new_starts starts count (Many test ∷ cells) = new_starts (starts ++ count ∷ []) (count + 1) cells
 
--- Whether a part may repeat.
+-- Whether a part with this modifier may repeat.
 abbrev pub repeats : PartModifier → Bool
 repeats PartModifier.ZeroOrMore = true
 repeats PartModifier.OneOrMore = true
 repeats modifier = false
 
--- Whether a part may be left out.
+-- Whether a part with this modifier may be left out.
 abbrev pub may_miss : PartModifier → Bool
 may_miss PartModifier.Optional = true
 may_miss PartModifier.ZeroOrMore = true
 may_miss modifier = false
 
--- A copy that may repeat is followed by what was made, or by the copy again.
-abbrev pub with_again : Made → Bool → List Cell → Made
-with_again made again cells = record made {
+-- The automaton `made`, to which the cells of a part are prepended next. If `again` is set, since
+-- the part may repeat, and a cell reads exactly one character, the start states that the cells will
+-- have are added, so that the cells may be read again.
+abbrev pub with_repeat_starts : Made → Bool → List Cell → Made
+with_repeat_starts made again cells = record made {
   starts =
-      made.starts ++ (if again && has_one cells then heads [] made.count cells else []);
+      made.starts ++ (if again && has_one cells then new_starts [] made.count cells else []);
 }
 
--- If the copy may be left out, the start states of what was made are kept.
+-- The automaton `inner`, which is `made` with the cells of a part prepended. If the flag is set,
+-- since the part may be left out, the start states of `made` are added.
 abbrev pub with_missing : (made inner : Made) → Bool → Made
 with_missing made inner missing = record inner {
   starts =
       inner.starts ++ (if missing then made.starts else []);
 }
 
--- Copies of the cells are prepended, as many as the modifier permits. A copy that may be empty need
--- not be left out.
+-- The automaton with cells prepended, in reverse order, which are read as many times as the
+-- modifier permits. Cells of which none reads exactly one character may read nothing anyway.
 abbrev pub with_copies : Made → PartModifier → List Cell → Made
 with_copies made modifier cells =
-    with_missing made (with_cells (with_again made (repeats modifier) cells) cells)
+    with_missing made (with_cells (with_repeat_starts made (repeats modifier) cells) cells)
     (may_miss modifier && has_one cells)
 
--- The automaton of parts.
+-- The automaton of parts, made from the last part to the first.
 abbrev pub made : OptionsView → List PartView → Made
 made options [] = record { edges = []; starts = 0 ∷ []; count = 1 }
 made options (part ∷ parts) =
     with_copies (made options parts) part.modifier (reverse (cells_of options part.kind part))
 
--- The automaton of the parts has too many states: one for each cell, and one more.
+-- The automaton of the parts has more than `MOST_STATES` states. An automaton has a state for each
+-- cell, and one more.
 abbrev pub HasManyStates : OptionsView → List PartView → Type 0
 HasManyStates options parts = MOST_STATES < (made options parts).count

@@ -1,4 +1,4 @@
--- The order of parts: the more specific is the greater.
+-- The order of lists of parts: the more specific list is the greater.
 use Rattle.std.specs.Prelude.{ℕ, List, [], ◌∷◌, map, string_bytes}
 use Rattle.std.specs.Cmp.Lexicographic.{slice_cmp}
 use Rattle.std.specs.Ordering.{nat_cmp, on, ordering_then, then_cmp}
@@ -15,6 +15,7 @@ pub record RankView : Type 0 where
   pub value : List ℕ
   pub suffix : List ℕ
 
+-- The view of a rank.
 abbrev pub rank_view : Rank → RankView
 rank_view rank = record {
   kind = rank.kind;
@@ -24,15 +25,15 @@ rank_view rank = record {
   suffix = rank.suffix.now;
 }
 
--- Kinds, from the greatest to the least: fixed text, custom expression, segment wildcard, full
--- wildcard.
+-- The rank of a kind. From the greatest to the least: fixed text, custom expression, segment
+-- wildcard, full wildcard.
 abbrev pub kind_rank : PartType → ℕ
 kind_rank PartType.FixedText = 3
 kind_rank PartType.Regexp = 2
 kind_rank PartType.SegmentWildcard = 1
 kind_rank PartType.FullWildcard = 0
 
--- Modifiers, from the greatest to the least: none, `+`, `?`, `*`.
+-- The rank of a modifier. From the greatest to the least: no modifier, `+`, `?`, `*`.
 abbrev pub modifier_rank : PartModifier → ℕ
 modifier_rank PartModifier.None = 3
 modifier_rank PartModifier.OneOrMore = 2
@@ -59,7 +60,7 @@ no_rank = record {
   suffix = [];
 }
 
--- Ranks are compared field by field, and the first difference decides.
+-- Compares two ranks field by field; the first difference decides.
 abbrev pub rank_cmp : RankView → RankView → Ordering
 rank_cmp =
     then_cmp (on (λ (rank : RankView). rank.kind) nat_cmp)
@@ -78,23 +79,24 @@ abbrev pub other_ranks : List RankView → List RankView
 other_ranks [] = []
 other_ranks (rank ∷ ranks) = ranks
 
--- No ranks, compared with ranks: each is compared with that of a missing part.
+-- Compares no ranks with a list of ranks: the rank of a missing part with each of them.
 abbrev pub none_cmp : List RankView → Ordering
 none_cmp [] = Equal
 none_cmp (rank ∷ ranks) = ordering_then (rank_cmp no_rank rank) (none_cmp ranks)
 
--- Ranks, compared with no ranks.
+-- Compares a list of ranks with no ranks: each of them with the rank of a missing part.
 abbrev pub cmp_none : List RankView → Ordering
 cmp_none [] = Equal
 cmp_none (rank ∷ ranks) = ordering_then (rank_cmp rank no_rank) (cmp_none ranks)
 
--- Ranks are compared pairwise, and the first difference decides.
+-- Compares two lists of ranks pairwise; the first difference decides, and the shorter list is
+-- extended by ranks of missing parts.
 abbrev pub ranks_cmp : List RankView → List RankView → Ordering
 ranks_cmp [] others = none_cmp others
 ranks_cmp (rank ∷ ranks) [] = cmp_none (rank ∷ ranks)
 ranks_cmp (rank ∷ ranks) (other ∷ others) =
     ordering_then (rank_cmp rank other) (ranks_cmp ranks others)
 
--- Parts are compared by their ranks.
+-- Compares two lists of parts by their ranks.
 abbrev pub parts_cmp : List Part → List Part → Ordering
 parts_cmp parts others = ranks_cmp (map rank_of parts) (map rank_of others)

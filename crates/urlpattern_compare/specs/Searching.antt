@@ -1,4 +1,4 @@
--- The steps of a search over two automata.
+-- The steps of a search for a text that one automaton accepts, and another accepts or rejects.
 use Rattle.std.specs.Prelude.{◌≡◌, ◌≢◌, ℕ, ◌<◌, Bool, true, false, not, ◌&&◌, ◌↔◌, All, Contains, List, [], ◌∷◌, ◌++◌, ◌⊎◌, length, IsTrue, if◌then◌else◌, slice_set, replicate}
 use Rattle.std.specs.{Char.IsScalar, List.slice_index_or, Str.all_scalars}
 use Rattle.urlpattern_compare.specs.Automata.{AcceptsText, IsWhether, Leads, LeadsFrom, named, passes}
@@ -12,7 +12,7 @@ use Rattle.urlpattern_syntax.specs.Text.{is_among, lacks, line_feed}
 
 -- ---- sets of states
 
--- The state is in the set, which has a flag for each state.
+-- Whether the state is in the set, which has a flag for each state.
 abbrev pub is_in : List Bool → ℕ → Bool
 is_in flags state = slice_index_or flags state false
 
@@ -20,12 +20,13 @@ is_in flags state = slice_index_or flags state false
 abbrev pub LeadsIn : List Edge → (flags : List Bool) → (text : List ℕ) → Type 0
 LeadsIn edges flags text = (state : ℕ) × IsTrue (is_in flags state) × Leads edges state text
 
--- The states are added to a set.
+-- The set `flags` with the states added.
 abbrev pub with_states : (flags : List Bool) → (states : List ℕ) → List Bool
 with_states flags [] = flags
 with_states flags (state ∷ states) = with_states (slice_set flags state true) states
 
--- The states that the edges lead to from a set, by the character, are added to another set.
+-- The set `flags` with the states added to which the edges lead from the states of `from` by the
+-- character `c`.
 abbrev pub with_moves : (flags : List Bool) → (from : List Bool) → (c : ℕ) → List Edge → List Bool
 with_moves flags from c [] = flags
 with_moves flags from c (edge ∷ edges) =
@@ -33,24 +34,25 @@ with_moves flags from c (edge ∷ edges) =
     (if is_in from edge.from && passes edge.test c then slice_set flags edge.to true else flags)
     from c edges
 
--- The set of states after the character.
+-- The set of the states to which the edges lead from the states of `from` by the character `c`.
 abbrev pub moved : List Edge → (from : List Bool) → (c : ℕ) → List Bool
 moved edges from c = with_moves (replicate (length from) false) from c edges
 
 -- ---- classes of characters
 
--- The characters that the tests name are added to others.
+-- The characters `marks`, with those added that the tests of the edges name, each once.
 abbrev pub with_named : (marks : List ℕ) → List Edge → List ℕ
 with_named marks [] = marks
 with_named marks (edge ∷ edges) =
     with_named (if is_among marks (named edge.test) then marks else (marks ++ named edge.test ∷ []))
     edges
 
--- No test of the edges tells the two characters apart.
+-- The two characters pass the same tests of the edges.
 abbrev pub IsSameFor : List Edge → (c other : ℕ) → Type 0
 IsSameFor edges c other = All (λ edge. passes edge.test c ≡ passes edge.test other) edges
 
--- Each character is like one of the classes, and only a line feed is like a line feed.
+-- Each character passes the same tests of `edges` and `others` as one of `classes`, and a character
+-- other than a line feed as one other than a line feed.
 abbrev pub AreClasses : (edges others : List Edge) → (classes : List ℕ) → Type 0
 AreClasses edges others classes = (c : ℕ) → IsScalar c →
     (same : ℕ) × Contains classes same
@@ -60,12 +62,12 @@ AreClasses edges others classes = (c : ℕ) → IsScalar c →
 
 -- ---- pairs
 
--- The set of start states.
+-- The set of the start states of the automaton.
 abbrev pub starts_of : PartsAutomaton → List Bool
 starts_of automaton = with_states (replicate automaton.states false) automaton.starts.items
 
--- The pairs of a state and a set of states that a search of two automata reaches: before the first
--- character, or by a further character from a pair that is reached.
+-- The pairs that a search of two automata reaches, of a state of the first and a set of states of
+-- the second: before the first character, or by a further character from a pair that is reached.
 pub data IsReachable (one other : PartsAutomaton) : (state : ℕ)
     → (states : List Bool) → Type 0 where
   come_first : {state : ℕ} → Contains one.starts.items state
@@ -86,54 +88,55 @@ pub record IsReached (one other : PartsAutomaton) (pair : Pair) : Type 0 where
   pub width : length pair.states.items ≡ other.states
   pub line : IsTrue (lacks line_feed pair.text.items)
 
--- A pair with this state and these states is among the pairs.
+-- A pair of `state` and the set `states` is among `pairs`.
 abbrev pub IsSeen : List Pair → (state : ℕ) → (states : List Bool) → Type 0
 IsSeen pairs state states =
     (pair : Pair) × Contains pairs pair × (pair.state ≡ state) × (pair.states.items ≡ states)
 
--- The edge leads from the pair by the character.
+-- The edge begins at the state of the pair, and the character passes its test.
 abbrev pub IsBy : Edge → Pair → (c : ℕ) → Type 0
 IsBy edge pair c = (edge.from ≡ pair.state) × IsTrue (passes edge.test c)
 
--- Each pair that the pair leads to by the character is seen.
+-- Each pair to which `pair` leads by the character `c` is among `pairs`.
 abbrev pub IsFollowedBy : (one other : PartsAutomaton) → (c : ℕ) → (pairs : List Pair) → Pair
     → Type 0
 IsFollowedBy one other c pairs pair =
     (edge : Edge) → Contains one.edges.items edge → IsBy edge pair c →
     IsSeen pairs edge.to (moved other.edges.items pair.states.items c)
 
--- Each pair that the pair leads to by one of these characters, other than a line feed, is seen.
+-- Each pair to which `pair` leads by one of `classes`, other than a line feed, is among `pairs`.
 abbrev pub IsFollowed : (one other : PartsAutomaton) → (classes : List ℕ)
     → (pairs : List Pair) → Pair → Type 0
 IsFollowed one other classes pairs pair =
     (c : ℕ) → Contains classes c → c ≢ line_feed → IsFollowedBy one other c pairs pair
 
--- The new list begins with the old one.
+-- `new` begins with all of `old`.
 abbrev pub IsExtended : (old new : List Pair) → Type 0
 IsExtended old new = (more : List Pair) × (new ≡ old ++ more)
 
--- Each pair of the new list is in the old list, or `Is` holds of it.
+-- `Is` holds of each pair of `new` that is not in `old`.
 abbrev pub IsGrownBy : (Pair → Type 0) → (old new : List Pair) → Type 0
 IsGrownBy Is old new = (pair : Pair) → Contains new pair → Contains old pair ⊎ Is pair
 
--- The pair has this state, these states and this text.
+-- The pair has the state `state`, the set `states` and the text `text`.
 abbrev pub IsStep : (state : ℕ) → (states : List Bool) → (text : List ℕ) → Pair → Type 0
 IsStep state states text pair =
     (pair.state ≡ state) × (pair.states.items ≡ states) × (pair.text.items ≡ text)
 
--- The pair is the one that the edge leads to by the character, with these states.
+-- `next` is the pair to which `edge` leads from `pair` by the character `c`, with `states` as its
+-- set.
 abbrev pub IsStepBy : Edge → Pair → (c : ℕ) → (states : List Bool) → Pair → Type 0
 IsStepBy edge pair c states next =
     IsBy edge pair c × IsStep edge.to states (pair.text.items ++ c ∷ []) next
 
 -- ---- the bound
 
--- No two of the pairs have the same state and the same states.
+-- No two of the pairs have equal states and equal sets of states.
 abbrev pub AreUnlike : List Pair → Type 0
 AreUnlike [] = Unit {0}
 AreUnlike (pair ∷ pairs) = (¬ IsSeen pairs pair.state pair.states.items) × AreUnlike pairs
 
--- The search reaches more pairs than are permitted.
+-- A search of the two automata reaches more pairs than `MOST_PAIRS`, no two of them equal.
 abbrev pub HasManyPairs : (one other : PartsAutomaton) → Type 0
 HasManyPairs one other =
     (pairs : List Pair) × All (λ pair. IsReachable one other pair.state pair.states.items) pairs
@@ -142,9 +145,9 @@ HasManyPairs one other =
 
 -- ---- results
 
--- The outcome of a search. A text that is found has no line feed, the first automaton accepts it,
--- and the second accepts it or not, by `is_accepted`. If nothing is found, no text of characters is
--- like that. The search is given up only if it reaches too many pairs.
+-- What each result of `find` says. Text: the text has no line feed, the first automaton accepts it,
+-- and the second accepts it if `is_accepted` is true, and rejects it if false. Nothing: no text of
+-- characters is of this kind. TooMany: the search reaches too many pairs.
 abbrev pub IsFoundBy : (one other : PartsAutomaton) → (is_accepted : Bool) → Found → Type 0
 IsFoundBy one other is_accepted (Text text) =
     AcceptsText one text.items

@@ -1,4 +1,5 @@
-//! Cells: the tests of characters that an automaton of parts consists of, in the order of a text.
+//! Cells: what parts are cut into for an automaton. A cell reads one character of a text that
+//! passes a test, or any number of them.
 
 ghost use Rattle.std.specs.Prelude.{◌≡◌, ◌++◌, IfOk, OnOk, reverse};
 ghost use Rattle.std.specs.Str.{chars};
@@ -9,7 +10,7 @@ use crate::parts_automaton::Test;
 use std::alloc::{AllocError, Global};
 use urlpattern_syntax::parser::{Options, Part, PartType};
 
-/// A test of characters, once or repeated.
+/// A cell, which reads one character or any number of characters that pass a test.
 #[derive(Clone, Copy, Debug)]
 pub(crate) enum Cell {
     /// A character that passes.
@@ -18,7 +19,7 @@ pub(crate) enum Cell {
     Many(Test),
 }
 
-/// Returns the cells of one copy of a part, in reverse order.
+/// Returns the cells that read one copy of `part`, without its modifier, in reverse order.
 ///
 /// A custom regular expression has only the cells of its prefix and suffix.
 pub(crate) fn cells_of(
@@ -43,7 +44,7 @@ pub(crate) fn cells_of(
     Ok(cells)
 }
 
-/// Adds the cells of a text.
+/// Appends the cells that read `text`: one for each character.
 fn add_text(alloc: Global, cells: &mut Vec<Cell>, text: &str) -> Result<(), AllocError>
     ensures { OnOk result (cells.new.items ≡ cells.old.items ++ text_cells (chars text.now)) }
 {
@@ -53,7 +54,7 @@ fn add_text(alloc: Global, cells: &mut Vec<Cell>, text: &str) -> Result<(), Allo
     Ok(())
 }
 
-/// Adds the cells of a wildcard.
+/// Appends the cells that read a wildcard of the kind `kind`. Nothing is appended for other kinds.
 fn add_wildcard(cells: &mut Vec<Cell>, options: &Options, kind: &PartType) -> Result<(), AllocError>
     ensures { OnOk result
         (cells.new.items ≡ cells.old.items ++ wildcard_cells (options_view options.now) kind.now) }
@@ -73,7 +74,7 @@ fn add_wildcard(cells: &mut Vec<Cell>, options: &Options, kind: &PartType) -> Re
     }
 }
 
-/// Whether a cell reads exactly one character.
+/// Whether at least one of `cells` reads exactly one character.
 pub(crate) fn has_one(cells: &[Cell]) -> bool
     ensures { result ≡ has_one cells.now }
 {

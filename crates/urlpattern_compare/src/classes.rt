@@ -1,4 +1,5 @@
-//! Classes of characters that the tests of automata do not tell apart.
+//! Classes of characters: two characters are of one class if they pass the same tests of two
+//! automata.
 
 ghost use Rattle.std.specs.Prelude.{◌≡◌, ◌<◌, ◌≤◌, ℕ, false, true, IfOk, IfNone, IfSome, OnOk, ◌∷◌, []};
 ghost use Rattle.std.specs.Char.{IsScalar};
@@ -8,8 +9,8 @@ ghost use Rattle.urlpattern_syntax.specs.Text.{is_among, line_feed};
 use crate::parts_automaton::Edge;
 use std::alloc::{AllocError, Global};
 
-/// Returns a character of each class that the tests of the edges tell apart: the characters that
-/// they name, a line feed, and another character.
+/// Returns at least one character of each class: a line feed, the characters that the tests of the
+/// edges name, and a further character, if one is left.
 pub(crate) fn classes(
     alloc: Global,
     edges: &[Edge],
@@ -29,7 +30,7 @@ pub(crate) fn classes(
     }
 }
 
-/// Returns a line feed alone.
+/// Returns a list with a line feed alone.
 fn line_feed(alloc: Global) -> Result<Vec<char>, AllocError>
     ensures { IfOk result (λ marks. marks.items ≡ line_feed ∷ []) }
 {
@@ -38,7 +39,7 @@ fn line_feed(alloc: Global) -> Result<Vec<char>, AllocError>
     Ok(marks)
 }
 
-/// Adds the characters that the tests name.
+/// Adds to `marks` the characters that the tests of `edges` name, each once.
 fn add_named(marks: &mut Vec<char>, edges: &[Edge]) -> Result<(), AllocError>
     ensures { OnOk result (marks.new.items ≡ with_named marks.old.items edges.now) }
 {
@@ -51,15 +52,15 @@ fn add_named(marks: &mut Vec<char>, edges: &[Edge]) -> Result<(), AllocError>
     Ok(())
 }
 
-/// Whether the character is one of these.
+/// Whether `c` is among `marks`.
 fn is_among(marks: &[char], c: char) -> bool
     ensures { result ≡ is_among marks.now c }
 {
     marks.iter().any(|mark| *mark == c)
 }
 
-/// Returns a character that is none of these, a lowercase letter if one is left. `None`: every
-/// character is one of them.
+/// Returns a character that is not among `marks`, a lowercase ASCII letter if one is left. `None`:
+/// every character is among `marks`.
 fn other_than(marks: &[char]) -> Option<char>
     ensures some { IfSome result (λ c. is_among marks.now c ≡ false) }
     ensures none { IfNone result ((c : ℕ) → IsScalar c → is_among marks.now c ≡ true) }
@@ -70,8 +71,8 @@ fn other_than(marks: &[char]) -> Option<char>
     other_within(marks, 0, u32::from(char::MAX) + 1)
 }
 
-/// Returns the first character that is none of these, from the code `first` up to but not including
-/// `end`.
+/// Returns the first character that is not among `marks`, from the code `first` up to but not
+/// including `end`. `None`: every character of the range is among `marks`.
 fn other_within(marks: &[char], first: u32, end: u32) -> Option<char>
     ensures some { IfSome result (λ c. is_among marks.now c ≡ false) }
     ensures none { IfNone result

@@ -1,7 +1,7 @@
-//! Components compared by their parts.
+//! Single components compared by their parts.
 
 ghost use Rattle.std.specs.Prelude.{◌≡◌, ◌↔◌, [], ◌∷◌, IfNone, IfOk, IfSome, IsTrue, false};
-ghost use Rattle.urlpattern_compare.specs.Comparing.{AreSame, IsComponentCovering, IsComponentOverlap, IsExample, IsKnown, IsReasonFor, IsSettled, IsUnknownBy, MatchesEveryLine, anything_part, unnamed, unnamed_view};
+ghost use Rattle.urlpattern_compare.specs.Comparing.{AreSame, IsCaseKeptOrGenerated, IsComponentCovering, IsComponentOverlap, IsExample, IsKnown, IsReasonFor, IsUnknownBy, MatchesEveryLine, anything_part, unnamed, unnamed_view};
 ghost use Rattle.urlpattern_syntax.specs.Options.{default_options, options_view};
 ghost use Rattle.urlpattern_syntax.specs.Parts.{parts_view};
 ghost use Rattle.urlpattern_syntax.specs.Text.{text_of};
@@ -11,7 +11,7 @@ use std::alloc::{AllocError, Global};
 use urlpattern_syntax::ComponentParts;
 use urlpattern_syntax::parser::{Options, Part, PartModifier, PartType};
 
-/// Returns a full wildcard alone, which matches each text without line feed.
+/// Returns a component that is a full wildcard alone, which matches each text without line feed.
 fn anything(alloc: Global) -> Result<ComponentParts, AllocError>
     ensures options { IfOk result (λ component. options_view component.options ≡ default_options) }
     ensures parts { IfOk result (λ component.
@@ -32,7 +32,8 @@ fn anything(alloc: Global) -> Result<ComponentParts, AllocError>
     })
 }
 
-/// Returns why it is not known which texts the parts match. `None`: it is known.
+/// Returns why the parts of `component` do not tell which texts it matches: case is ignored, or a
+/// part is a custom regular expression. `None`: the parts tell.
 fn unknown(component: &ComponentParts) -> Option<Reason>
     ensures known { IfNone result (IsKnown component.now) }
     ensures reason { IfSome result (IsUnknownBy component.now) }
@@ -46,8 +47,8 @@ fn unknown(component: &ComponentParts) -> Option<Reason>
     None
 }
 
-/// Returns why the parts cannot be compared with others. `None`: it is known which texts both
-/// match.
+/// Returns why the parts of two components do not tell which texts each matches. `None`: the parts
+/// tell.
 fn unknown_with(component: &ComponentParts, other: &ComponentParts) -> Option<Reason>
     ensures known { IfNone result (IsKnown component.now × IsKnown other.now) }
     ensures reason { IfSome result (IsReasonFor component.now other.now) }
@@ -58,7 +59,8 @@ fn unknown_with(component: &ComponentParts, other: &ComponentParts) -> Option<Re
     }
 }
 
-/// Whether the parts are known to match each text without line feed.
+/// Whether `component` is known to match each text without line feed. `false`: a text does not
+/// match, or nothing is known.
 fn matches_every_line(alloc: Global, component: &ComponentParts) -> Result<bool, AllocError>
     ensures { IfOk result (λ takes. IsTrue takes → MatchesEveryLine component.now) }
 {
@@ -68,7 +70,8 @@ fn matches_every_line(alloc: Global, component: &ComponentParts) -> Result<bool,
     }
 }
 
-/// Whether the parts match each text without line feed. It is known which texts they match.
+/// Whether `component`, of which no part is custom and case is kept, is known to match each text
+/// without line feed. `false`: a text does not match, or the comparison is given up (`TooMany`).
 fn covers_anything(alloc: Global, component: &ComponentParts) -> Result<bool, AllocError>
     requires { IsKnown component.now }
     ensures { IfOk result (λ takes. IsTrue takes → MatchesEveryLine component.now) }
@@ -87,24 +90,26 @@ fn covers_anything(alloc: Global, component: &ComponentParts) -> Result<bool, Al
     }
 }
 
-/// Whether the parts are equal but for names, under equal options, so that they match alike.
+/// Whether two components are equal but for the names of groups, and match alike: case is kept, or
+/// no part is a custom regular expression.
 fn is_same(component: &ComponentParts, other: &ComponentParts) -> bool
     ensures { IsTrue result ↔ AreSame component.now other.now }
 {
-    is_settled(component)
+    is_case_kept_or_generated(component)
         && are_same_options(&component.options, &other.options)
         && are_same_parts(&component.parts, &other.parts)
 }
 
-/// Whether case is kept, or no part is a custom regular expression.
-fn is_settled(component: &ComponentParts) -> bool
-    ensures { IsTrue result ↔ IsSettled component.now }
+/// Whether case is kept in `component`, or no part is a custom regular expression.
+fn is_case_kept_or_generated(component: &ComponentParts) -> bool
+    ensures { IsTrue result ↔ IsCaseKeptOrGenerated component.now }
 {
     !component.options.ignore_case || !has_custom(&component.parts)
 }
 
-/// Returns whether the parts match each text without line feed that those of `asked` match, or are
-/// the same parts.
+/// Returns whether `component` matches each text without line feed that `asked` matches. `Covered`
+/// is also the result for two components that `is_same` finds equal, even with custom regular
+/// expressions.
 pub(crate) fn component_covers(
     alloc: Global,
     component: &ComponentParts,
@@ -132,7 +137,7 @@ pub(crate) fn component_covers(
     }
 }
 
-/// Returns whether both components match a text without line feed.
+/// Returns whether a text without line feed exists that both components match, and which.
 pub(crate) fn component_overlaps(
     alloc: Global,
     component: &ComponentParts,
@@ -152,7 +157,8 @@ pub(crate) fn component_overlaps(
     }
 }
 
-/// Returns a text without line feed that the parts match, if there is one.
+/// Returns as `Common` a text without line feed that `component` matches. `Apart`: no such text
+/// exists.
 pub(crate) fn component_example(
     alloc: Global,
     component: &ComponentParts,
@@ -165,8 +171,8 @@ pub(crate) fn component_example(
     }
 }
 
-/// Returns a text without line feed that the parts match, if there is one. It is known which texts
-/// they match.
+/// Returns as `Common` a text without line feed that `component`, of which no part is custom and
+/// case is kept, matches. `Apart`: no such text exists.
 fn common_with_anything(alloc: Global, component: &ComponentParts) -> Result<Overlap, AllocError>
     requires { IsKnown component.now }
     ensures { IfOk result (IsExample component.now) }

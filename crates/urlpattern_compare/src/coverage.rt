@@ -4,30 +4,30 @@ ghost use Rattle.std.specs.Prelude.{◌≡◌, IfOk, false, true};
 ghost use Rattle.std.specs.List.{list_any};
 ghost use Rattle.urlpattern_compare.specs.Answers.{IsCoveringOf, IsOverlapOf, IsSoughtOf, answer_of, is_custom_part};
 
-use crate::making::make;
+use crate::parts_automaton::make;
 use crate::search::Found;
 use std::alloc::{AllocError, Global};
 use urlpattern_syntax::parser::{Options, Part, PartType};
 
-/// Whether parts match each text that other parts match.
+/// Whether parts match each text without line feed that other parts, the asked ones, match.
 #[derive(Debug, Drop)]
 pub enum Covering {
-    /// Each text matches.
+    /// The parts match each of these texts.
     Covered,
-    /// The characters of a text that does not match.
+    /// The characters of a text without line feed that the asked parts match, and the parts do not.
     NotCovered(Vec<char>),
-    /// Not known.
+    /// Not known, for this reason.
     Unknown(Reason),
 }
 
-/// Whether two lists of parts match a common text.
+/// Whether a text without line feed exists that two lists of parts match.
 #[derive(Debug, Drop)]
 pub enum Overlap {
-    /// No text matches both.
+    /// No text without line feed exists that the parts of both lists match.
     Apart,
-    /// The characters of a text that matches both.
+    /// The characters of a text without line feed that the parts of both lists match.
     Common(Vec<char>),
-    /// Not known.
+    /// Not known, for this reason.
     Unknown(Reason),
 }
 
@@ -38,25 +38,25 @@ pub enum Reason {
     CustomExpression,
     /// Case is ignored.
     IgnoredCase,
-    /// The parts need more than [`MOST_STATES`](crate::MOST_STATES) states, or a search reaches
-    /// more than [`MOST_PAIRS`](crate::MOST_PAIRS) pairs.
+    /// A list of parts needs more than [`MOST_STATES`](crate::MOST_STATES) states, or a search
+    /// reaches more than [`MOST_PAIRS`](crate::MOST_PAIRS) pairs.
     TooMany,
 }
 
-/// The result of looking for a text.
+/// The result of looking for a text that two lists of parts match, or only the first.
 #[derive(Debug, Drop)]
 pub(crate) enum Answer {
     /// The characters of the text.
     Text(Vec<char>),
-    /// No text exists.
+    /// No such text exists.
     Nothing,
-    /// Not known.
+    /// Not known, for this reason.
     Unknown(Reason),
 }
 
-/// Returns whether the parts match each text without line feed that the asked parts match.
+/// Returns whether `parts` match each text without line feed that the parts `asked` match.
 ///
-/// `NotCovered` has one of the shortest texts that do not match.
+/// `NotCovered` has one of the shortest texts that `asked` match and `parts` do not.
 pub fn covers(
     alloc: Global,
     options: &Options,
@@ -74,9 +74,9 @@ pub fn covers(
     }
 }
 
-/// Returns whether both lists of parts match a text without line feed.
+/// Returns whether a text without line feed exists that `parts` match, and `others` match too.
 ///
-/// `Common` has one of the shortest such texts.
+/// `Common` has one of the shortest texts that both lists match.
 pub fn overlaps(
     alloc: Global,
     options: &Options,
@@ -94,8 +94,8 @@ pub fn overlaps(
     }
 }
 
-/// Finds a text that the parts match, and that the others match if `is_meant`, and do not match
-/// otherwise.
+/// Finds a text without line feed that `parts` match, and that `others` match if `is_meant` is
+/// true, and do not match if it is false.
 fn find_meant(
     alloc: Global,
     options: &Options,
@@ -128,7 +128,8 @@ fn find_meant(
     Ok(answer_of(found))
 }
 
-/// Returns the result by what a search found.
+/// Returns what a search found, as an `Answer`. A search that exceeded its bound is `Unknown`, for
+/// the reason `TooMany`.
 fn answer_of(found: Found) -> Answer
     ensures { result ≡ answer_of found }
 {
@@ -139,7 +140,7 @@ fn answer_of(found: Found) -> Answer
     }
 }
 
-/// Whether a part is a custom regular expression.
+/// Whether at least one of `parts` is a custom regular expression.
 pub(crate) fn has_custom(parts: &[Part]) -> bool
     ensures { result ≡ list_any is_custom_part parts.now }
 {

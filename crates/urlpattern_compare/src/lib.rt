@@ -2,7 +2,7 @@
 //! overlap.
 //!
 //! A [`PatternParts`] has the parts of a pattern's eight components. [`PatternParts::covers`] and
-//! [`PatternParts::overlaps`] compare what two patterns mean, [`first_covering`] and
+//! [`PatternParts::overlaps`] compare which texts two patterns match, [`first_covering`] and
 //! [`unreachable`] search a list, and [`compare_parts`] orders parts by how specific they are.
 //!
 //! [`covers`] and [`overlaps`] compare the parts of one component. Each list of parts is turned
@@ -14,7 +14,6 @@ mod cells;
 mod classes;
 mod component_coverage;
 mod coverage;
-mod making;
 mod order;
 pub mod order_laws;
 mod parts_automaton;
@@ -24,9 +23,8 @@ mod shadowed;
 mod states;
 
 pub use coverage::{Covering, Overlap, Reason, covers, overlaps};
-pub use making::MOST_STATES;
 pub use order::compare_parts;
-pub use parts_automaton::{Edge, PartsAutomaton, Test};
+pub use parts_automaton::{Edge, MOST_STATES, PartsAutomaton, Test};
 pub use pattern_parts::{Parting, PatternCovering, PatternOverlap, PatternParts};
 pub use search::{Found, MOST_PAIRS};
 pub use shadowed::{Shadowed, first_covering, unreachable};

@@ -6,7 +6,7 @@ ghost use Rattle.urlpattern_compare.specs.Order.{first_rank, kind_rank, modifier
 use std::cmp::Ordering;
 use urlpattern_syntax::parser::{Part, PartModifier, PartType};
 
-/// The fields of a part that are compared.
+/// The fields by which two parts are compared, one after the other, until they differ.
 #[derive(Clone, Copy, Debug)]
 struct Rank<'a> {
     kind: u8,
@@ -55,7 +55,7 @@ fn first_rank(parts: &[Part]) -> Rank<'_>
     }
 }
 
-/// Returns the parts after the first.
+/// Returns the parts after the first, or no parts if there are none.
 fn other_parts(parts: &[Part]) -> &[Part]
     ensures { map rank_of result.now ≡ other_ranks (map rank_of parts.now) }
 {
@@ -78,7 +78,7 @@ fn rank_of(part: &Part) -> Rank<'_>
     }
 }
 
-/// Returns the rank of a kind.
+/// Returns the rank of a kind: the more specific, the greater.
 fn kind_rank(kind: &PartType) -> u8
     ensures { result ≡ kind_rank kind.now }
 {
@@ -90,7 +90,7 @@ fn kind_rank(kind: &PartType) -> u8
     }
 }
 
-/// Returns the rank of a modifier.
+/// Returns the rank of a modifier: the more specific, the greater.
 fn modifier_rank(modifier: PartModifier) -> u8
     ensures { result ≡ modifier_rank modifier }
 {
@@ -103,7 +103,7 @@ fn modifier_rank(modifier: PartModifier) -> u8
 }
 
 impl Rank<'_> {
-    /// Compares two ranks, field by field.
+    /// Compares two ranks, field by field. The first difference decides.
     fn compare(self, other: Self) -> Ordering
         ensures { result ≡ rank_cmp (rank_view self.entry) (rank_view other.entry) }
     {

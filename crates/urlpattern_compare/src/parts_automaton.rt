@@ -1,14 +1,33 @@
-//! Automata that read texts character by character.
+//! Automata that read texts character by character: made of parts, from the last part to the first,
+//! and compared.
 
-ghost use Rattle.std.specs.Prelude.{◌≡◌};
-ghost use Rattle.urlpattern_compare.specs.Automata.{named, passes};
+ghost use Rattle.std.specs.Prelude.{◌≡◌, ◌≤◌, ◌<◌, ◌+◌, ◌++◌, [], IfNone, IfOk, OnOk, length};
+ghost use Rattle.urlpattern_compare.specs.{Answers.AcceptsMeaning, Answers.IfMade};
+ghost use Rattle.urlpattern_compare.specs.Automata.{IsWithin, named, passes};
+ghost use Rattle.urlpattern_compare.specs.Making.{HasManyStates, edges_to, made, made_view, may_miss, new_starts, repeats, with_cell, with_cells, with_copies, with_repeat_starts};
+ghost use Rattle.urlpattern_compare.specs.Searching.{IsFoundBy};
+ghost use Rattle.urlpattern_meaning.specs.PartMeaning.{AreGenerated};
+ghost use Rattle.urlpattern_syntax.specs.{Options.options_view, Parts.parts_view};
+
+use crate::cells::{Cell, cells_of, has_one};
+use crate::classes::classes;
+use crate::search::{Found, MOST_PAIRS, copy_of, first_pairs, follow};
+use crate::states::is_in;
+use std::alloc::{AllocError, Global};
+use urlpattern_syntax::parser::{Options, Part, PartModifier};
+
+/// The number of states beyond which no further part is added to an automaton. An automaton has a
+/// state for each character and each full wildcard, two for each segment wildcard, and one more.
+/// The part that exceeds the number is still added if it alone has no more states, so an automaton
+/// may have up to twice as many.
+pub const MOST_STATES: usize = 10_000;
 
 /// A test of one character.
 #[derive(Clone, Copy, Debug, PartialEq, Eq)]
 pub enum Test {
     /// Only this character passes.
     Only(char),
-    /// Every other character passes.
+    /// Every character but this passes.
     AnyBut(char),
 }
 
@@ -44,7 +63,7 @@ pub struct Edge {
     pub to: usize,
 }
 
-/// An automaton, which accepts the texts that lead from a start state to state 0.
+/// An automaton, which accepts a text if the text leads from a start state to state 0.
 #[derive(Debug, Drop)]
 pub struct PartsAutomaton {
     /// The edges.
@@ -53,4 +72,230 @@ pub struct PartsAutomaton {
     pub starts: Vec<usize>,
     /// The number of states.
     pub states: usize,
+}
+
+impl PartsAutomaton {
+    /// Makes the automaton of `parts`. `None`: the automaton would have more than [`MOST_STATES`]
+    /// states. Automata with up to twice as many states may be made.
+    ///
+    /// The automaton accepts the texts that the parts match, if no part is a custom regular
+    /// expression.
+    pub fn of_parts(
+        alloc: Global,
+        options: &Options,
+        parts: &[Part],
+    ) -> Result<Option<Self>, AllocError>
+        ensures within { IfMade result IsWithin }
+        ensures many { IfOk result (λ found.
+            IfNone found (HasManyStates (options_view options.now) (parts_view parts.now))) }
+        ensures accepts { AreGenerated (parts_view parts.now)
+            → IfMade result (AcceptsMeaning (options_view options.now) (parts_view parts.now)) }
+    {
+        make(alloc, options, parts)
+    }
+
+    /// Finds a text without line feed that this automaton accepts, and that `other` accepts if
+    /// `is_accepted`, and rejects otherwise.
+    ///
+    /// The text is one of the shortest. The search is given up when it reaches more than
+    /// [`MOST_PAIRS`] pairs of a state and a set of states.
+    pub fn find(
+        &self,
+        alloc: Global,
+        other: &PartsAutomaton,
+        is_accepted: bool,
+    ) -> Result<Found, AllocError>
+        requires one { IsWithin self.now }
+        requires two { IsWithin other.now }
+        ensures { IfOk result (IsFoundBy self.now other.now is_accepted) }
+    {
+        let classes = classes(alloc, &self.edges, &other.edges)?;
+        let mut pairs = first_pairs(alloc, self, other)?;
+        let mut next = 0;
+        while next < pairs.len() && pairs.len() <= MOST_PAIRS {
+            let pair = copy_of(alloc, &pairs[next])?;
+            if pair.state == 0 && is_in(&pair.states, 0) == is_accepted {
+                return Ok(Found::Text(pair.text));
+            }
+            follow(alloc, self, other, &classes, &pair, &mut pairs)?;
+            next += 1;
+        }
+        if next < pairs.len() {
+            return Ok(Found::TooMany);
+        }
+        Ok(Found::Nothing)
+    }
+
+    /// Prepends `cells`, which are in reverse order, so that they are read as many times as
+    /// `modifier` permits.
+    fn add_copies(
+        &mut self,
+        alloc: Global,
+        modifier: PartModifier,
+        cells: &[Cell],
+    ) -> Result<(), AllocError>
+        requires { self.old.states + length cells.now ≤ usize.MAX }
+        ensures { OnOk result
+            (made_view self.new ≡ with_copies (made_view self.old) modifier cells.now) }
+    {
+        let missing = if may_miss(modifier) && has_one(cells) {
+            Vec::from_slice(alloc, &self.starts)?
+        } else {
+            Vec::new(alloc)
+        };
+        self.add_repeat_starts(alloc, repeats(modifier), cells)?;
+        self.add_cells(cells)?;
+        self.starts.extend_from_slice(&missing)
+    }
+
+    /// If `again` is set, since the part of `cells` may repeat, adds the start states that `cells`,
+    /// which are prepended next, will have, so that the cells may be read again. Nothing is added
+    /// if no cell reads exactly one character.
+    fn add_repeat_starts(
+        &mut self,
+        alloc: Global,
+        again: bool,
+        cells: &[Cell],
+    ) -> Result<(), AllocError>
+        requires { self.old.states + length cells.now ≤ usize.MAX }
+        ensures { OnOk result
+            (made_view self.new ≡ with_repeat_starts (made_view self.old) again cells.now) }
+    {
+        if again && has_one(cells) {
+            let new_starts = new_starts(alloc, self.states, cells)?;
+            self.starts.extend_from_slice(&new_starts)?;
+        }
+        Ok(())
+    }
+
+    /// Prepends `cells`, which are in reverse order.
+    fn add_cells(&mut self, cells: &[Cell]) -> Result<(), AllocError>
+        requires { self.old.states + length cells.now ≤ usize.MAX }
+        ensures { OnOk result (made_view self.new ≡ with_cells (made_view self.old) cells.now) }
+    {
+        for cell in cells {
+            match *cell {
+                Cell::One(test) => self.add_one(test)?,
+                Cell::Many(test) => self.add_many(test)?,
+            }
+        }
+        Ok(())
+    }
+
+    /// Prepends a cell of one character that passes `test`: a new state becomes the only start.
+    fn add_one(&mut self, test: Test) -> Result<(), AllocError>
+        requires { self.old.states < usize.MAX }
+        ensures { OnOk result
+            (made_view self.new ≡ with_cell (made_view self.old) (Cell.One test)) }
+    {
+        self.add_edges(test)?;
+        self.starts.clear();
+        self.starts.push(self.states)?;
+        self.states += 1;
+        Ok(())
+    }
+
+    /// Prepends a cell of any number of characters that pass `test`: a new state, with an edge to
+    /// itself, becomes a further start.
+    fn add_many(&mut self, test: Test) -> Result<(), AllocError>
+        requires { self.old.states < usize.MAX }
+        ensures { OnOk result
+            (made_view self.new ≡ with_cell (made_view self.old) (Cell.Many test)) }
+    {
+        self.starts.push(self.states)?;
+        self.add_edges(test)?;
+        self.states += 1;
+        Ok(())
+    }
+
+    /// Adds an edge from the next state that will be made to each start, by characters that pass
+    /// `test`.
+    fn add_edges(&mut self, test: Test) -> Result<(), AllocError>
+        ensures edges { OnOk result (self.new.edges.items
+            ≡ self.old.edges.items ++ edges_to self.old.states test self.old.starts.items) }
+        ensures starts { OnOk result (self.new.starts.items ≡ self.old.starts.items) }
+        ensures states { OnOk result (self.new.states ≡ self.old.states) }
+    {
+        add_edges(&mut self.edges, self.states, test, &self.starts)
+    }
+}
+
+/// Makes the automaton of `parts`, from the last part to the first. `None`: the automaton would
+/// have more than [`MOST_STATES`] states.
+pub(crate) fn make(
+    alloc: Global,
+    options: &Options,
+    parts: &[Part],
+) -> Result<Option<PartsAutomaton>, AllocError>
+    ensures made { IfMade result (λ automaton.
+        made_view automaton ≡ made (options_view options.now) (parts_view parts.now)) }
+    ensures many { IfOk result (λ found.
+        IfNone found (HasManyStates (options_view options.now) (parts_view parts.now))) }
+{
+    let mut automaton = PartsAutomaton {
+        edges: Vec::new(alloc),
+        starts: vec![in alloc; 0]?,
+        states: 1,
+    };
+    let mut left = parts;
+    while let Some((part, before)) = left.split_last() {
+        let cells = cells_of(alloc, options, part)?;
+        if cells.len() > MOST_STATES || automaton.states > MOST_STATES {
+            return Ok(None);
+        }
+        automaton.add_copies(alloc, part.modifier, &cells)?;
+        left = before;
+    }
+    Ok(Some(automaton))
+}
+
+/// Adds an edge from `from` to each of `others`, by characters that pass `test`.
+fn add_edges(
+    edges: &mut Vec<Edge>,
+    from: usize,
+    test: Test,
+    others: &[usize],
+) -> Result<(), AllocError>
+    ensures { OnOk result (edges.new.items ≡ edges.old.items ++ edges_to from test others.now) }
+{
+    for to in others {
+        edges.push(Edge {
+            from,
+            test,
+            to: *to,
+        })?;
+    }
+    Ok(())
+}
+
+/// Returns the new start states that `cells`, which are in reverse order, have once they are
+/// prepended to an automaton of `states` states.
+fn new_starts(alloc: Global, states: usize, cells: &[Cell]) -> Result<Vec<usize>, AllocError>
+    requires { states + length cells.now ≤ usize.MAX }
+    ensures { IfOk result (λ starts. starts.items ≡ new_starts [] states cells.now) }
+{
+    let mut starts = Vec::new(alloc);
+    let mut count = states;
+    for cell in cells {
+        if let Cell::One(_) = cell {
+            starts.clear();
+        }
+        starts.push(count)?;
+        count += 1;
+    }
+    Ok(starts)
+}
+
+/// Whether a part with this modifier may repeat.
+fn repeats(modifier: PartModifier) -> bool
+    ensures { result ≡ repeats modifier }
+{
+    matches!(modifier, PartModifier::ZeroOrMore | PartModifier::OneOrMore)
+}
+
+/// Whether a part with this modifier may be left out.
+fn may_miss(modifier: PartModifier) -> bool
+    ensures { result ≡ may_miss modifier }
+{
+    matches!(modifier, PartModifier::Optional | PartModifier::ZeroOrMore)
 }

@@ -40,9 +40,10 @@ impl Drop for PatternParts {
     }
 }
 
-/// Eight texts that one pattern matches and the other does not.
+/// Eight texts, one for each component, that show that a pattern does not cover another, the asked
+/// one: the asked pattern matches them, and the pattern does not.
 ///
-/// The text that the asked pattern means and the other does not:
+/// The text that the asked pattern matches and the other does not:
 ///
 /// ```rust parting
 /// let component = parting.component;
@@ -50,13 +51,13 @@ impl Drop for PatternParts {
 /// ```
 #[derive(Debug, Drop)]
 pub struct Parting {
-    /// A component whose text the one pattern does not match.
+    /// A component whose text the pattern does not match.
     pub component: ComponentName,
     /// The texts, which the asked pattern matches.
     pub texts: Eight<String>,
 }
 
-/// Whether a pattern covers another.
+/// Whether a pattern covers another, the asked one.
 ///
 /// ```rust covering
 /// match covering {
@@ -71,11 +72,12 @@ pub struct Parting {
 /// ```
 #[derive(Debug, Drop)]
 pub enum PatternCovering {
-    /// The pattern matches whatever the asked one matches.
+    /// The pattern matches each combination of eight texts without line feeds that the asked one
+    /// matches.
     Covered,
     /// The asked pattern matches these texts, and the pattern does not.
     NotCovered(Parting),
-    /// Not known, because of this component.
+    /// Not known, because of this component, for this reason.
     Unknown(ComponentName, Reason),
 }
 
@@ -90,57 +92,60 @@ pub enum PatternCovering {
 /// ```
 #[derive(Debug, Drop)]
 pub enum PatternOverlap {
-    /// No eight texts match both patterns.
+    /// No eight texts without line feeds exist that both patterns match.
     Apart,
-    /// Eight texts that match both patterns.
+    /// Eight texts without line feeds that both patterns match.
     Common(Eight<String>),
-    /// Not known, because of this component.
+    /// Not known, because of this component, for this reason.
     Unknown(ComponentName, Reason),
 }
 
-/// The first component in which two patterns differ.
+/// The first component of a pattern that is known not to cover that of the asked pattern.
 #[derive(Debug, Drop)]
-pub(crate) enum First {
-    /// No component.
+pub(crate) enum FirstUncovered {
+    /// Every component is known to cover that of the asked pattern.
     Nowhere,
-    /// The component, and a text.
+    /// The component, and the characters of a text that only the asked pattern's component matches.
     At(ComponentName, Vec<char>),
-    /// No component as far as is known. Of this component nothing is known.
+    /// No component is known not to cover that of the asked pattern. Whether this component does is
+    /// not known, for this reason.
     Unknown(ComponentName, Reason),
 }
 
-/// Why a component has no text.
+/// Why no text is found that a component, of one pattern or of two, matches.
 #[derive(Debug, Drop)]
-pub(crate) enum Lack {
-    /// No text of this component exists.
+pub(crate) enum NoText {
+    /// No text without line feed exists that this component matches.
     Nothing(ComponentName),
-    /// Not known, because of this component.
+    /// Not known, because of this component, for this reason.
     Unknown(ComponentName, Reason),
     /// Memory ran out.
     OutOfMemory,
 }
 
-impl From<AllocError> for Lack {
-    ghost use Rattle.urlpattern_compare.specs.declared.pattern_parts.Lack.TheVariants as lacking;
+impl From<AllocError> for NoText {
+    ghost use Rattle.urlpattern_compare.specs.declared.pattern_parts.NoText.TheVariants as lacking;
 
     ghost from_gives = { λ _ lack. lack ≡ lacking.OutOfMemory };
 
-    fn from(_error: AllocError) -> Lack {
-        Lack::OutOfMemory
+    fn from(_error: AllocError) -> NoText {
+        NoText::OutOfMemory
     }
 }
 
-impl First {
+impl FirstUncovered {
     ghost use Rattle.urlpattern_compare.specs.Comparing.{first_or};
 
-    /// Returns what was found so far, or else what is known of the next component.
-    fn or(self, name: ComponentName, covering: Covering) -> First
+    /// Adds the component `name` to what was found so far; `covering` says whether that component
+    /// covers the asked pattern's. The first component that is known not to cover is kept; without
+    /// one, the last of which it is not known whether it covers.
+    fn or(self, name: ComponentName, covering: Covering) -> FirstUncovered
         ensures { result ≡ first_or self name covering }
     {
         match (self, covering) {
-            (First::At(earlier, text), _) => First::At(earlier, text),
-            (_, Covering::NotCovered(text)) => First::At(name, text),
-            (_, Covering::Unknown(reason)) => First::Unknown(name, reason),
+            (FirstUncovered::At(earlier, text), _) => FirstUncovered::At(earlier, text),
+            (_, Covering::NotCovered(text)) => FirstUncovered::At(name, text),
+            (_, Covering::Unknown(reason)) => FirstUncovered::Unknown(name, reason),
             (first, Covering::Covered) => first,
         }
     }
@@ -148,48 +153,56 @@ impl First {
 
 impl PatternParts {
     ghost use Rattle.urlpattern_compare.specs.Order.{parts_cmp};
-    ghost use Rattle.urlpattern_compare.specs.Comparing.{IsCommonText, IsFirst, IsMeantBy, IsOnlyIn, IsPatternCovering, IsPatternOverlap, IsTextWith, LacksExample, MeansEach};
+    ghost use Rattle.urlpattern_compare.specs.Comparing.{IsCommonText, IsFirstUncovered, IsMeantBy, IsOnlyIn, IsPatternCovering, IsPatternOverlap, IsTextWith, LacksExample, MeansEach};
 
-    /// Returns whether this pattern covers `asked`: whether its parts match every eight texts that
-    /// the parts of `asked` match. Texts with a line feed are left out.
+    /// Returns whether this pattern covers `asked`: whether this pattern's parts match each
+    /// combination of eight texts, one for each component, that the parts of `asked` match. Texts
+    /// with a line feed are left out.
     ///
-    /// Components are compared one by one. A component that matches each text, with case kept,
-    /// covers any other. A component covers equal parts under equal options, whatever the names,
-    /// also with custom regular expressions or with case ignored, but not with both. Nothing is
-    /// known of other components with custom regular expressions or with case ignored, nor where
-    /// the work exceeds its bound. The texts of `NotCovered` are among the shortest, though no
-    /// clause promises that.
+    /// Components are compared one by one. A component that matches each text, with case kept and
+    /// without custom regular expressions, covers any other. A component covers equal parts under
+    /// equal options, whatever the names, also with custom regular expressions or with case
+    /// ignored, but not with both. Nothing is known of other components with custom regular
+    /// expressions or with case ignored, nor where the work is too much (`Reason::TooMany`). Each
+    /// text of `NotCovered` is one of the shortest for its component, though no clause promises
+    /// that.
     pub fn covers(&self, alloc: Global, asked: &Self) -> Result<PatternCovering, AllocError>
         ensures { IfOk result (IsPatternCovering self.now asked.now) }
     {
-        match self.first_parting(alloc, asked)? {
-            First::Nowhere => Ok(PatternCovering::Covered),
-            First::At(component, text) => self.parted(alloc, asked, component, &text),
-            First::Unknown(component, reason) => Ok(PatternCovering::Unknown(component, reason)),
+        match self.first_uncovered(alloc, asked)? {
+            FirstUncovered::Nowhere => Ok(PatternCovering::Covered),
+            FirstUncovered::At(component, text) => {
+                self.extend_to_parting(alloc, asked, component, &text)
+            }
+            FirstUncovered::Unknown(component, reason) => {
+                Ok(PatternCovering::Unknown(component, reason))
+            }
         }
     }
 
-    /// Returns whether the parts of both patterns match some eight texts without line feeds, and
-    /// which.
+    /// Returns whether eight texts without line feeds, one for each component, exist that the parts
+    /// of this pattern and those of `other` match, and which.
     ///
     /// Nothing is known of components with custom regular expressions or with case ignored, nor
-    /// where the work exceeds its bound.
+    /// where the work is too much (`Reason::TooMany`).
     pub fn overlaps(&self, alloc: Global, other: &Self) -> Result<PatternOverlap, AllocError>
         ensures { IfOk result (IsPatternOverlap self.now other.now) }
     {
-        let text = |name: ComponentName| -> Result<String, Lack>
+        let text = |name: ComponentName| -> Result<String, NoText>
             ensures { IsCommonText self.entry.now other.entry.now name result }
         { self.common_text(alloc, other, name) };
         match Eight::try_from_fn(text) {
             Ok(texts) => Ok(PatternOverlap::Common(texts)),
-            Err(Lack::Nothing(_)) => Ok(PatternOverlap::Apart),
-            Err(Lack::Unknown(component, reason)) => Ok(PatternOverlap::Unknown(component, reason)),
-            Err(Lack::OutOfMemory) => Err(AllocError),
+            Err(NoText::Nothing(_)) => Ok(PatternOverlap::Apart),
+            Err(NoText::Unknown(component, reason)) => {
+                Ok(PatternOverlap::Unknown(component, reason))
+            }
+            Err(NoText::OutOfMemory) => Err(AllocError),
         }
     }
 
-    /// Compares one component of two patterns, as [`compare_parts`] does: the more specific is the
-    /// greater.
+    /// Compares the component `component` of two patterns, as [`compare_parts`] does: the more
+    /// specific is the greater.
     ///
     /// The more specific pattern need not be covered, nor the covered one more specific: `/a{/b}?`
     /// is greater than `/:x`, and matches the text `/a/b`, which `/:x` does not match.
@@ -203,11 +216,13 @@ impl PatternParts {
         compare_parts(&left.parts, &right.parts)
     }
 
-    /// Returns the first component in which the patterns differ.
-    fn first_parting(&self, alloc: Global, asked: &Self) -> Result<First, AllocError>
-        ensures { IfOk result (IsFirst self.now asked.now) }
+    /// Returns the first component of this pattern that is known not to cover that of `asked`, and
+    /// a text that shows it. Without such a component: the last of which it is not known whether it
+    /// covers, or `Nowhere`, if each covers.
+    fn first_uncovered(&self, alloc: Global, asked: &Self) -> Result<FirstUncovered, AllocError>
+        ensures { IfOk result (IsFirstUncovered self.now asked.now) }
     {
-        let mut first = First::Nowhere;
+        let mut first = FirstUncovered::Nowhere;
         for name in ComponentName::all() {
             let component = self.components.get(name);
             let covering = component_covers(alloc, component, asked.components.get(name))?;
@@ -216,8 +231,10 @@ impl PatternParts {
         Ok(first)
     }
 
-    /// Returns the result for patterns that differ in this component, by this text.
-    fn parted(
+    /// Returns whether this pattern covers `asked`, where `component` of `asked` matches `text`,
+    /// and that of this pattern does not. If some component of `asked` matches no text, `asked` is
+    /// covered.
+    fn extend_to_parting(
         &self,
         alloc: Global,
         asked: &Self,
@@ -231,61 +248,70 @@ impl PatternParts {
         let text = string_of(alloc, text)?;
         match asked.texts_with(alloc, component, &text) {
             Ok(texts) => Ok(PatternCovering::NotCovered(Parting { component, texts })),
-            Err(Lack::Nothing(_)) => Ok(PatternCovering::Covered),
-            Err(Lack::Unknown(name, reason)) => Ok(PatternCovering::Unknown(name, reason)),
-            Err(Lack::OutOfMemory) => Err(AllocError),
+            Err(NoText::Nothing(_)) => Ok(PatternCovering::Covered),
+            Err(NoText::Unknown(name, reason)) => Ok(PatternCovering::Unknown(name, reason)),
+            Err(NoText::OutOfMemory) => Err(AllocError),
         }
     }
 
-    /// Returns eight texts that the pattern matches, with this text for a component.
+    /// Returns eight texts that the pattern matches; that of `component` is `text`, which
+    /// `component` matches. The error says which component matches no text, or of which no text is
+    /// known.
     fn texts_with(
         &self,
         alloc: Global,
         component: ComponentName,
         text: &str,
-    ) -> Result<Eight<String>, Lack>
+    ) -> Result<Eight<String>, NoText>
         requires { IsMeantBy (at self.now.components component) (chars text.now) }
         ensures meant { IfOk result (MeansEach self.now) }
         ensures same { IfOk result (λ texts. text_of (at texts component) ≡ chars text.now) }
         ensures lack { IfErr result (LacksExample self.now) }
     {
-        let value = |name: ComponentName| -> Result<String, Lack>
+        let value = |name: ComponentName| -> Result<String, NoText>
             ensures { IsTextWith self.entry.now component (chars text.entry.now) name result }
         { self.text_with(alloc, name, component, text) };
         Eight::try_from_fn(value)
     }
 
-    /// Returns a text of a component that the pattern matches: the given text for the component in
-    /// which patterns differ.
+    /// Returns a text that the component `name` matches: `text` if `name` is `uncovered`, and an
+    /// example for any other component. The error says that no such text exists, or that none is
+    /// known.
     fn text_with(
         &self,
         alloc: Global,
         name: ComponentName,
-        parted: ComponentName,
+        uncovered: ComponentName,
         text: &str,
-    ) -> Result<String, Lack>
-        ensures { IsTextWith self.now parted (chars text.now) name result }
+    ) -> Result<String, NoText>
+        ensures { IsTextWith self.now uncovered (chars text.now) name result }
     {
-        if name == parted {
+        if name == uncovered {
             return Ok(String::from_str(alloc, text)?);
         }
         match component_example(alloc, self.components.get(name))? {
             Overlap::Common(text) => Ok(string_of(alloc, &text)?),
-            Overlap::Apart => Err(Lack::Nothing(name)),
-            Overlap::Unknown(reason) => Err(Lack::Unknown(name, reason)),
+            Overlap::Apart => Err(NoText::Nothing(name)),
+            Overlap::Unknown(reason) => Err(NoText::Unknown(name, reason)),
         }
     }
 
-    /// Returns a text of a component that both patterns match.
-    fn common_text(&self, alloc: Global, other: &Self, name: ComponentName) -> Result<String, Lack>
+    /// Returns a text that the component `name` of this pattern and that of `other` match. The
+    /// error says that no such text exists, or that none is known.
+    fn common_text(
+        &self,
+        alloc: Global,
+        other: &Self,
+        name: ComponentName,
+    ) -> Result<String, NoText>
         ensures { IsCommonText self.now other.now name result }
     {
         let component = self.components.get(name);
         let overlap = component_overlaps(alloc, component, other.components.get(name))?;
         match overlap {
             Overlap::Common(text) => Ok(string_of(alloc, &text)?),
-            Overlap::Apart => Err(Lack::Nothing(name)),
-            Overlap::Unknown(reason) => Err(Lack::Unknown(name, reason)),
+            Overlap::Apart => Err(NoText::Nothing(name)),
+            Overlap::Unknown(reason) => Err(NoText::Unknown(name, reason)),
         }
     }
 }

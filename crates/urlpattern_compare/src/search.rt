@@ -2,29 +2,29 @@
 
 ghost use Rattle.std.specs.Prelude.{◌≡◌, ◌≢◌, ◌↔◌, ℕ, All, Contains, IfOk, OnOk, IsTrue};
 ghost use Rattle.urlpattern_compare.specs.Automata.{IsWithin};
-ghost use Rattle.urlpattern_compare.specs.Searching.{AreUnlike, IsBy, IsFoundBy, IsExtended, IsFollowed, IsFollowedBy, IsGrownBy, IsReached, IsSeen, IsStep, IsStepBy, starts_of};
+ghost use Rattle.urlpattern_compare.specs.Searching.{AreUnlike, IsBy, IsExtended, IsFollowed, IsFollowedBy, IsGrownBy, IsReached, IsSeen, IsStep, IsStepBy, starts_of};
 ghost use Rattle.urlpattern_syntax.specs.Text.{line_feed};
 
-use crate::classes::classes;
 use crate::parts_automaton::{Edge, PartsAutomaton};
-use crate::states::{is_in, moved, set_of};
+use crate::states::{moved, set_of};
 use std::alloc::{AllocError, Global};
 
 /// What a search found.
 #[derive(Debug, Drop)]
 pub enum Found {
-    /// A text.
+    /// The characters of a text of the kind that was sought.
     Text(Vec<char>),
-    /// No text exists.
+    /// No text of the kind that was sought exists.
     Nothing,
-    /// The search exceeded its bound.
+    /// The search reached more than [`MOST_PAIRS`] pairs, and was given up.
     TooMany,
 }
 
-/// The number of pairs after which a search is given up.
+/// The number of pairs of a state and a set of states beyond which a search is given up.
 pub const MOST_PAIRS: usize = 10_000;
 
-/// A state of one automaton and a set of states of another, to which a text leads.
+/// Where two automata are after a text: a state to which the text leads one of them, and the set of
+/// all states to which it leads the other.
 #[derive(Debug, Drop)]
 pub(crate) struct Pair {
     pub(crate) state: usize,
@@ -32,42 +32,8 @@ pub(crate) struct Pair {
     pub(crate) text: Vec<char>,
 }
 
-impl PartsAutomaton {
-    /// Finds a text without line feed that this automaton accepts, and that `other` accepts if
-    /// `is_accepted`, and rejects otherwise.
-    ///
-    /// The text is one of the shortest. The search is given up when it reaches more than
-    /// [`MOST_PAIRS`] pairs of a state and a set of states.
-    pub fn find(
-        &self,
-        alloc: Global,
-        other: &PartsAutomaton,
-        is_accepted: bool,
-    ) -> Result<Found, AllocError>
-        requires one { IsWithin self.now }
-        requires two { IsWithin other.now }
-        ensures { IfOk result (IsFoundBy self.now other.now is_accepted) }
-    {
-        let classes = classes(alloc, &self.edges, &other.edges)?;
-        let mut pairs = first_pairs(alloc, self, other)?;
-        let mut next = 0;
-        while next < pairs.len() && pairs.len() <= MOST_PAIRS {
-            let pair = copy_of(alloc, &pairs[next])?;
-            if pair.state == 0 && is_in(&pair.states, 0) == is_accepted {
-                return Ok(Found::Text(pair.text));
-            }
-            follow(alloc, self, other, &classes, &pair, &mut pairs)?;
-            next += 1;
-        }
-        if next < pairs.len() {
-            return Ok(Found::TooMany);
-        }
-        Ok(Found::Nothing)
-    }
-}
-
-/// Returns the pairs before the first character.
-fn first_pairs(
+/// Returns the pairs of the empty text: each start of `one`, with the set of the starts of `other`.
+pub(crate) fn first_pairs(
     alloc: Global,
     one: &PartsAutomaton,
     other: &PartsAutomaton,
@@ -94,8 +60,8 @@ fn first_pairs(
     Ok(pairs)
 }
 
-/// Adds the pairs that a pair leads to by one of the characters.
-fn follow(
+/// Adds to `pairs` the new pairs that `pair` leads to by one of the characters `classes`.
+pub(crate) fn follow(
     alloc: Global,
     one: &PartsAutomaton,
     other: &PartsAutomaton,
@@ -118,7 +84,8 @@ fn follow(
     Ok(())
 }
 
-/// Adds the pairs that a pair leads to by the character, unless it is a line feed.
+/// Adds to `pairs` the new pairs that `pair` leads to by the character `c`. Adds nothing for a line
+/// feed.
 fn follow_by(
     alloc: Global,
     one: &PartsAutomaton,
@@ -146,7 +113,8 @@ fn follow_by(
     Ok(())
 }
 
-/// Adds the pair that an edge leads to by the character, if it does and the pair is new.
+/// Adds to `pairs` the pair that `edge` leads to from `pair` by the character `c`, with `states` as
+/// its set. Adds nothing if the edge does not lead from there by `c`, or the pair is not new.
 fn follow_edge(
     alloc: Global,
     edge: Edge,
@@ -178,7 +146,7 @@ fn follow_edge(
 }
 
 /// Copies a pair.
-fn copy_of(alloc: Global, pair: &Pair) -> Result<Pair, AllocError>
+pub(crate) fn copy_of(alloc: Global, pair: &Pair) -> Result<Pair, AllocError>
     ensures { IfOk result (IsStep pair.now.state pair.now.states.items pair.now.text.items) }
 {
     Ok(Pair {
@@ -188,7 +156,7 @@ fn copy_of(alloc: Global, pair: &Pair) -> Result<Pair, AllocError>
     })
 }
 
-/// Whether a pair with this state and these states is among the pairs.
+/// Whether a pair of `state` and the set `states` is among `pairs`.
 fn is_seen(pairs: &[Pair], state: usize, states: &[bool]) -> bool
     ensures { IsTrue result ↔ IsSeen pairs.now state states.now }
 {

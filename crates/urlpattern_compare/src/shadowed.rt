@@ -11,14 +11,15 @@ use std::alloc::{AllocError, Global};
 pub struct Shadowed {
     /// The index of the pattern.
     pub pattern: usize,
-    /// The index of the first pattern that is known to cover it.
+    /// The index of the first pattern that is known to cover the pattern.
     pub by: usize,
 }
 
-/// Returns the index of the first of these patterns that is known to cover `asked`.
+/// Returns the index of the first of `patterns` that is known to cover `asked`. `None`: no pattern
+/// is known to.
 ///
-/// Each earlier pattern does not match some eight texts that `asked` matches, or it is not known
-/// whether it covers `asked`.
+/// Each pattern before the index does not match some eight texts that `asked` matches, or whether
+/// it covers `asked` is not known.
 pub fn first_covering(
     alloc: Global,
     patterns: &[&PatternParts],
@@ -35,7 +36,8 @@ pub fn first_covering(
     Ok(None)
 }
 
-/// Whether the pattern is known to cover `asked`.
+/// Whether `pattern` is known to cover `asked`. `false`: the pattern does not, or that is not
+/// known.
 fn is_known_to_cover(
     alloc: Global,
     pattern: &PatternParts,
@@ -57,8 +59,8 @@ fn is_known_to_cover(
 /// Lists the patterns that an earlier pattern is known to cover, in order, each with the index of
 /// the first such pattern.
 ///
-/// In a list whose first match counts, the listed patterns are never found. A pattern that several
-/// others cover only together is not listed.
+/// In a list whose first match counts, the listed patterns are not found for texts without line
+/// feed. A pattern that several others cover only together is not listed.
 pub fn unreachable(alloc: Global, patterns: &[&PatternParts]) -> Result<Vec<Shadowed>, AllocError>
     ensures { IfOk result (λ found.
         AreUnreachable (map (λ pattern. pattern.now) patterns.now) found.items) }
@@ -71,7 +73,8 @@ pub fn unreachable(alloc: Global, patterns: &[&PatternParts]) -> Result<Vec<Shad
     Ok(found)
 }
 
-/// Adds the pattern if another one covers it.
+/// Appends to `found` the index `pattern`, with `by`, the index of a pattern that covers that
+/// pattern. If `by` is `None`, nothing is appended.
 fn push_found(
     found: &mut Vec<Shadowed>,
     pattern: usize,

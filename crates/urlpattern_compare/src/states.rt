@@ -6,14 +6,14 @@ ghost use Rattle.urlpattern_compare.specs.Searching.{is_in, moved, with_states};
 use crate::parts_automaton::Edge;
 use std::alloc::{AllocError, Global};
 
-/// Whether the state is in the set.
+/// Whether the set `flags` contains `state`.
 pub(crate) fn is_in(flags: &[bool], state: usize) -> bool
     ensures { result ≡ is_in flags.now state }
 {
     state < flags.len() && flags[state]
 }
 
-/// Adds a state.
+/// Adds `state` to the set `flags`. A state for which the set has no flag is ignored.
 fn set_state(flags: &mut [bool], state: usize)
     ensures { flags.new ≡ slice_set flags.old state true }
 {
@@ -22,14 +22,14 @@ fn set_state(flags: &mut [bool], state: usize)
     }
 }
 
-/// Returns the empty set, for this number of states.
+/// Returns the empty set, with a flag for each of `states` states.
 fn none(alloc: Global, states: usize) -> Result<Vec<bool>, AllocError>
     ensures { IfOk result (λ flags. flags.items ≡ replicate states false) }
 {
     vec![in alloc; false; states]
 }
 
-/// Returns the set of these states, for this number of states.
+/// Returns the set of the states `starts`, with a flag for each of `states` states.
 pub(crate) fn set_of(
     alloc: Global,
     starts: &[usize],
@@ -44,7 +44,8 @@ pub(crate) fn set_of(
     Ok(flags)
 }
 
-/// Returns the set of states that the edges lead to from a set, by the character.
+/// Returns the set of the states to which `edges` lead from the states of `from` by the character
+/// `c`.
 pub(crate) fn moved(
     alloc: Global,
     edges: &[Edge],

@@ -10,7 +10,7 @@ use Rattle.std.specs.declared.alloc.Global.{Global}
 use Rattle.std.proofs.lemmas.Str.{IsUtf8-string_bytes}
 use Rattle.urlpattern_meaning.proofs.Encodings.{Weakens, reads_weaker, refuses_weaker}
 use Rattle.urlpattern_compile.specs.Compiled.{AreCompiled, FirstRejected, HasEngine, IsComponentCompiled, IsPathKind, IsComponentRejected, IsRejectedFrom, ParseSettings, RejectsInit, RejectsValues, after_protocol, canonical_encoding, has_default_port, is_ipv6_pattern, is_mark, is_same, settings_of, pattern_values, without_default_port}
-use Rattle.urlpattern_compile.specs.KeptComponents.{AreCompiledKeeping, EachIsKept, IsKept, IsKeptOfInit}
+use Rattle.urlpattern_compile.specs.KeptComponents.{AreCompiledWithParts, EachIsCompiledWithParts, IsCompiledWithParts, IsInitCompiledWithParts}
 use Rattle.urlpattern_compile.specs.PatternViews.{PatternView}
 use Rattle.urlpattern_components.specs.declared.eight.ComponentName.{ComponentName as Names}
 use Rattle.urlpattern_components.specs.declared.eight.ComponentName.TheVariants.{Protocol}
@@ -88,11 +88,11 @@ there_and_empty (c ∷ text) tested e = ((λ is. absurd (false≢true (sym e ∙
 
 -- ---- components with their parts
 
-pub kept_compiled : {E : Type 0} (engine : Engine E) (settings : ParseSettings) (made : ComponentWithParts E) → IsKept engine settings made
+pub kept_compiled : {E : Type 0} (engine : Engine E) (settings : ParseSettings) (made : ComponentWithParts E) → IsCompiledWithParts engine settings made
     → IsComponentCompiled engine settings (component_view made.component)
 kept_compiled engine settings made kept = ((kept_parts made.kept, kept.reads, kept.is_made), kept.has_engine)
 
-pub one_compiled : {E : Type 0} (engine : Engine E) (settings : ParseSettings) (made : ComponentWithParts E) → IsKept engine settings made
+pub one_compiled : {E : Type 0} (engine : Engine E) (settings : ParseSettings) (made : ComponentWithParts E) → IsCompiledWithParts engine settings made
     → (compiled : ComponentView E) × IsComponentCompiled engine settings compiled
 one_compiled engine settings made kept = (component_view made.component, kept_compiled engine settings made kept)
 
@@ -101,7 +101,7 @@ abbrev pub made_view : {E : Type 0} → Eight (ComponentWithParts E) → Pattern
 made_view made name = component_view (at made name).component
 
 pub kept_are_compiled : {E : Type 0} (engine : Engine E) (asked : UrlPatternOptions) (values : Values) (made : Eight (ComponentWithParts E))
-    → AreCompiledKeeping engine asked values made → AreCompiled engine asked values (made_view made)
+    → AreCompiledWithParts engine asked values made → AreCompiled engine asked values (made_view made)
 kept_are_compiled engine asked values made kept = record {
   hierarchical = kept.hierarchical;
   path_kind = kept.path_kind;
@@ -149,7 +149,7 @@ pub kept_weaker : {E : Type 0} (engine : Engine E)
     → text ≡ settings.text → options ≡ settings.options
     → IfOk result (IsCompiledKeeping engine text options strong)
     → IfOk result (λ made. HasEngine (component_view made.component))
-    → IfOk result (IsKept engine settings)
+    → IfOk result (IsCompiledWithParts engine settings)
 kept_weaker engine strong settings h text options (Err error) e f compiled taken = tt
 kept_weaker engine strong settings h text options (Ok made) e f compiled taken = record {
   options_are = compiled.options_are ∙ f;
@@ -211,8 +211,8 @@ pub are_kept : {E : Type 0} (engine : Engine E) (asked : UrlPatternOptions) (val
     (protocol : ComponentView E) (result : Result (Eight (ComponentWithParts E)) Error)
     → IsPathKind engine.answer values protocol.matcher hierarchical
     → IfOk result (λ made. component_view made.protocol.component ≡ protocol)
-    → IfOk result (EachIsKept engine (settings_of asked values hierarchical))
-    → IfOk result (AreCompiledKeeping engine asked values)
+    → IfOk result (EachIsCompiledWithParts engine (settings_of asked values hierarchical))
+    → IfOk result (AreCompiledWithParts engine asked values)
 are_kept engine asked values hierarchical protocol (Err error) reports same compiled = tt
 are_kept {E} engine asked values hierarchical protocol (Ok made) reports same compiled = record {
   hierarchical = hierarchical;
@@ -235,8 +235,8 @@ refused_behind engine asked values hierarchical protocol (Err error) compiled re
 
 pub is_kept : {E : Type 0} (engine : Engine E) (init : UrlPatternInit) (asked : UrlPatternOptions) (values : Values)
     (result : Result (Eight (ComponentWithParts E)) Error) → pattern_values init ≡ Ok values
-    → IfOk result (AreCompiledKeeping engine asked values)
-    → IfOk result (IsKeptOfInit engine init asked)
+    → IfOk result (AreCompiledWithParts engine asked values)
+    → IfOk result (IsInitCompiledWithParts engine init asked)
 is_kept engine init asked values (Err error) are compiled = tt
 is_kept engine init asked values (Ok made) are compiled = (values, are, compiled)
 

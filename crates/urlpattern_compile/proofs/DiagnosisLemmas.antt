@@ -14,7 +14,7 @@ use Rattle.urlpattern_diagnosis.specs.declared.diagnosis.Subject.TheVariants as 
 use Rattle.urlpattern_diagnosis.specs.declared.fault.Fault.{Fault}
 use Rattle.urlpattern_inputs.specs.declared.options.UrlPatternOptions.{UrlPatternOptions}
 use Rattle.urlpattern_compile.specs.Compiled.{FirstRejected, IsComponentCompiled, IsComponentRejected, IsPathKind, IsPatternOfInit, ParseSettings, RejectsValues, after_protocol, settings_of}
-use Rattle.urlpattern_compile.specs.Diagnoses.{IsOf, IsPartOfRejected, IsRejectionOf, RejectsComponent, ShowsAll, ShowsColon, ShowsFault, ShowsInit, ShowsPattern, ShowsProtocol, ShowsRejection, ShowsText, error_of}
+use Rattle.urlpattern_compile.specs.Diagnoses.{HasGivenText, IsFaultOfRejectedPart, IsRejectionOf, RejectsComponent, ShowsAll, ShowsColon, ShowsFault, ShowsInit, ShowsPattern, ShowsProtocol, ShowsRejection, ShowsText, error_of}
 use Rattle.urlpattern_compile.specs.FromString.{IsInitOfText, IsPatternOfText, RejectsSplit}
 use Rattle.urlpattern_compile.specs.PatternViews.{PatternView}
 use Rattle.urlpattern_constructor.specs.Split.{HasProtocol}
@@ -74,7 +74,7 @@ shown_so engine asked values rejection (Ok diagnosis) is same subject shows =
 
 -- The diagnosis shows the fault of a pattern, or a rejected part.
 pub shows_fault : (component : ComponentName) (bytes pattern point prefix : List ℕ) (error : Error) (diagnosis : Diagnosis) (fault : Fault) → diagnosis.error ≡ error → string_bytes diagnosis.text ≡ bytes → point ≡ prefix →
-    IsFaultOf (Some component) pattern point error fault ⊎ IsPartOfRejected pattern error fault → IsFaultMoved bytes pattern fault diagnosis.fault → ShowsFault component pattern prefix diagnosis
+    IsFaultOf (Some component) pattern point error fault ⊎ IsFaultOfRejectedPart pattern error fault → IsFaultMoved bytes pattern fault diagnosis.fault → ShowsFault component pattern prefix diagnosis
 shows_fault component bytes pattern point prefix error diagnosis fault same text e (inl h) moved = (
   fault,
   inl (subst (λ (x : List ℕ). IsFaultOf (Some component) pattern x diagnosis.error fault) e (subst (λ (x : Error). IsFaultOf (Some component) pattern point x fault) (sym same) h)),
@@ -82,7 +82,7 @@ shows_fault component bytes pattern point prefix error diagnosis fault same text
 )
 shows_fault component bytes pattern point prefix error diagnosis fault same text e (inr h) moved = (
   fault,
-  inr (subst (λ (x : Error). IsPartOfRejected pattern x fault) (sym same) h),
+  inr (subst (λ (x : Error). IsFaultOfRejectedPart pattern x fault) (sym same) h),
   subst (λ (x : List ℕ). IsFaultMoved x pattern fault diagnosis.fault) (sym text) moved,
 )
 
@@ -134,7 +134,7 @@ module _ {E : Type 0} (engine : Engine E) (bytes : List ℕ) (base : Option (Lis
     by_subject (subjects.Component component) diagnosis e text shows = (text, inr (init, is, shows))
 
     -- The diagnosis shows the init.
-    pub init_shown : (result : Result (Option Diagnosis) OutOfMemory) → IfOk result (λ found. IfSome found (ShowsInit engine init asked)) → IfOk result (λ found. IfSome found (IsOf (Some bytes))) →
+    pub init_shown : (result : Result (Option Diagnosis) OutOfMemory) → IfOk result (λ found. IfSome found (ShowsInit engine init asked)) → IfOk result (λ found. IfSome found (HasGivenText (Some bytes))) →
         IfOk result (λ found. IfSome found (λ (diagnosis : Diagnosis). ShowsText engine bytes base asked diagnosis.subject diagnosis))
     init_shown (Err memory) shows text = tt
     init_shown (Ok None) shows text = tt

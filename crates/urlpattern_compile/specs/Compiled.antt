@@ -29,25 +29,29 @@ is_same None None = true
 is_same (Some text) (Some other) = bytes_eq text other
 is_same text other = false
 
--- Whether the protocol is special and the port is its default; for `file` that is no port.
+-- Whether the protocol is special and the port is its default; for `file`, whether the port is
+-- missing.
 abbrev pub has_default_port : (protocol port : Option (List ℕ)) → Bool
 has_default_port None port = false
 has_default_port (Some protocol) port = is_special protocol && is_same port (default_port protocol)
 
--- The values, with a default port emptied.
+-- The values, with an empty port if the port is the default of a special protocol, or is missing
+-- beside the protocol `file`.
 abbrev pub without_default_port : Values → Values
 without_default_port values =
     if has_default_port values.protocol values.port then record values { port = Some [] }
     else values
 
--- The processed values of an init as a pattern.
+-- The values that are compiled for an init: processed as a pattern, with an empty port if
+-- `without_default_port` empties it.
 abbrev pub pattern_values : UrlPatternInit → Parsed Values
 pattern_values init =
     and_then (init_values Pattern init) (λ values. Ok (without_default_port values))
 
 -- ---- how a component's pattern is parsed
 
--- A pattern text, the options under which it is parsed, and the canonical value of a fixed text.
+-- How a component's pattern is parsed: its text, the options, and `canonical`, which makes a fixed
+-- text canonical.
 pub record ParseSettings : Type 0 where
   pub text : List ℕ
   pub options : OptionsView
@@ -57,11 +61,12 @@ pub record ParseSettings : Type 0 where
 abbrev pub pattern_of : Values → ComponentName → List ℕ
 pattern_of values component = unwrap_or (at values component) (codes "*")
 
--- The options, in the requested syntax.
+-- `options` in the syntax of regular expressions that `asked` requests.
 abbrev pub in_syntax : UrlPatternOptions → OptionsView → OptionsView
 in_syntax asked options = record options { syntax = asked.regex_syntax }
 
--- The options, in the requested syntax, and ignoring case if requested.
+-- `options` in the syntax of regular expressions that `asked` requests, and ignoring case if
+-- `asked` does.
 abbrev pub with_case : UrlPatternOptions → OptionsView → OptionsView
 with_case asked options = record options {
   syntax = asked.regex_syntax;
@@ -80,12 +85,14 @@ is_ipv6_pattern text =
     && (begins_with (is_mark (codes "[")) (without_first (slice_index (codes "{") 0) text)
     || begins_with (is_mark (codes "[")) (without_first (slice_index (codes "\\") 0) text))
 
--- The canonical value of a fixed text in a hostname pattern.
+-- The canonical form of a fixed text in the hostname pattern `pattern`, which may be that of an
+-- IPv6 address; or the error of `url`.
 abbrev pub canonical_in_hostname : (pattern : List ℕ) → List ℕ → Parsed (List ℕ)
 canonical_in_hostname pattern text =
     if is_ipv6_pattern pattern then canonical_ipv6_hostname text else canonical_hostname text
 
--- The options of a component's pattern, and the canonical value of its fixed texts.
+-- The options under which a component's pattern is parsed, and the function that makes a fixed text
+-- in it canonical; `hierarchical` says whether the pathname is hierarchical.
 abbrev pub rules_of : UrlPatternOptions → Values → (hierarchical : Bool) → ComponentName
     → OptionsView × (List ℕ → Parsed (List ℕ))
 rules_of asked values hierarchical Protocol = (in_syntax asked default_options, canonical_protocol)
@@ -100,14 +107,16 @@ rules_of asked values hierarchical Pathname =
 rules_of asked values hierarchical Search = (with_case asked default_options, canonical_search)
 rules_of asked values hierarchical Hash = (with_case asked default_options, canonical_hash)
 
--- How a component's pattern is parsed, given the values to compile.
+-- How a component's pattern is parsed when `values` are compiled under the options `asked`;
+-- `hierarchical` says whether the pathname is hierarchical.
 abbrev pub settings_of : UrlPatternOptions → Values → (hierarchical : Bool) → ComponentName
     → ParseSettings
 settings_of asked values hierarchical component =
     let rules = rules_of asked values hierarchical component in
     record { text = pattern_of values component; options = rules.0; canonical = rules.1 }
 
--- The encoding of fixed texts by `canonical`.
+-- The encoding of fixed texts by `canonical`: a text results in its canonical form, in the error of
+-- `url`, or in out of memory.
 abbrev pub canonical_encoding : (List ℕ → Parsed (List ℕ)) → Encoding
 canonical_encoding canonical =
     encoding_of (λ bytes returned. IsResult (canonical (chars bytes)) (length bytes) returned)
@@ -120,7 +129,8 @@ pub record HasEngine {E : Type 0} (compiled : ComponentView E) : Type 0 where
   pub whole : IsOk compiled.regexp
   pub of_matcher : AcceptedText (λ value. ⊤) compiled.matcher.inner
 
--- The text is rejected with this error, or the engine rejects one of its regular expressions.
+-- `text` is rejected with `error` when it is parsed, or the engine rejects a regular expression of
+-- the component, and `error` is RegExp.
 abbrev pub IsRejectedFrom : {E : Type 0} → Engine E → (text : List ℕ) → OptionsView → Encoding
     → ErrorView → Type 0
 IsRejectedFrom {E} engine text options encoding error =
@@ -129,27 +139,30 @@ IsRejectedFrom {E} engine text options encoding error =
     × (¬ HasEngine compiled)
     × (error ≡ views.RegExp))
 
--- The pattern text is parsed to these parts.
+-- The pattern text of `settings` is parsed to `parts`.
 abbrev pub ReadsAs : ParseSettings → List PartView → Type 0
 ReadsAs settings parts =
     Reads settings.text settings.options (canonical_encoding settings.canonical) parts
 
--- The component is compiled in this manner, and the engine accepted what it needs.
+-- The engine compiles a component as `settings` say to `compiled`, and accepts each regular
+-- expression that it needs.
 abbrev pub IsComponentCompiled : {E : Type 0} → Engine E → ParseSettings → ComponentView E → Type 0
 IsComponentCompiled engine settings compiled =
     IsCompiledFrom engine settings.text settings.options (canonical_encoding settings.canonical)
     compiled
     × HasEngine compiled
 
--- The component, parsed in this manner, is rejected with this error.
+-- A component that is compiled as `settings` say is rejected with this error, for its text or by
+-- the engine.
 abbrev pub IsComponentRejected : {E : Type 0} → Engine E → ParseSettings → ErrorView → Type 0
 IsComponentRejected engine settings =
     IsRejectedFrom engine settings.text settings.options (canonical_encoding settings.canonical)
 
 -- ---- whole patterns
 
--- The pathname is hierarchical: the protocol is empty, its matcher accepts a special scheme, or the
--- pathname begins with a slash.
+-- The pathname of `values` is hierarchical: their protocol is empty, its matcher `protocol` accepts
+-- a special scheme, or the pathname begins with a slash. `answer` returns what an engine captures
+-- in a text.
 abbrev pub HasHierarchicalPath : {E : Type 0} → (answer : E → List ℕ → Option Captures) → Values
     → (protocol : MatcherView E) → Type 0
 HasHierarchicalPath answer values protocol =
@@ -157,28 +170,29 @@ HasHierarchicalPath answer values protocol =
     ⊎ AcceptsSpecialScheme answer protocol
     ⊎ IsTrue (begins_with (is_mark (codes "/")) (unwrap_or values.pathname []))
 
--- `hierarchical` is whether the pathname is hierarchical.
+-- `hierarchical` is true exactly if the pathname of `values` is hierarchical, where `protocol` is
+-- the protocol's matcher.
 abbrev pub IsPathKind : {E : Type 0} → (answer : E → List ℕ → Option Captures) → Values
     → (protocol : MatcherView E) → (hierarchical : Bool) → Type 0
 IsPathKind answer values protocol hierarchical =
     IsTrue hierarchical ↔ HasHierarchicalPath answer values protocol
 
--- Each component is compiled in its manner.
+-- Each component of `pattern` is compiled as the settings for its name say.
 abbrev pub EachIsCompiled : {E : Type 0} → Engine E
     → (settings : ComponentName → ParseSettings) → PatternView E → Type 0
 EachIsCompiled engine settings pattern =
     (component : ComponentName)
     → IsComponentCompiled engine (settings component) (pattern component)
 
--- The values are compiled to this pattern: the pathname is hierarchical or not, and each component
--- is compiled accordingly.
+-- `values` are compiled under the options `asked` to `pattern`. The values and the protocol's
+-- matcher decide whether the pathname is hierarchical.
 pub record AreCompiled {E : Type 0} (engine : Engine E) (asked : UrlPatternOptions)
     (values : Values) (pattern : PatternView E) : Type 0 where
   pub hierarchical : Bool
   pub path_kind : IsPathKind engine.answer values (pattern Protocol).matcher hierarchical
   pub are_compiled : EachIsCompiled engine (settings_of asked values hierarchical) pattern
 
--- The init is compiled to this pattern.
+-- The init is compiled under the options `asked` to `pattern`.
 abbrev pub IsPatternOfInit : {E : Type 0} → Engine E → UrlPatternInit → UrlPatternOptions
     → PatternView E → Type 0
 IsPatternOfInit engine init asked pattern =
@@ -190,7 +204,7 @@ IsPatternOfInit engine init asked pattern =
 abbrev pub after_protocol : List ComponentName
 after_protocol = Hostname ∷ Pathname ∷ Username ∷ Password ∷ Port ∷ Search ∷ Hash ∷ []
 
--- A component of the list is rejected with this error, and all before it are compiled.
+-- A component of the list is rejected with this error, and each component before it is accepted.
 abbrev pub FirstRejected : {E : Type 0} → Engine E
     → (settings : ComponentName → ParseSettings) → List ComponentName → ErrorView → Type 0
 FirstRejected engine settings [] error = ⊥
@@ -199,7 +213,8 @@ FirstRejected {E} engine settings (component ∷ components) error =
     ⊎ (((compiled : ComponentView E) × IsComponentCompiled engine (settings component) compiled)
     × FirstRejected engine settings components error)
 
--- The protocol is compiled, and a component after it is rejected with this error.
+-- The protocol of `values` is accepted, and the first component after it that is rejected has the
+-- error `error`.
 pub record RejectsAfterProtocol {E : Type 0} (engine : Engine E) (asked : UrlPatternOptions)
     (values : Values) (error : ErrorView) : Type 0 where
   pub protocol : ComponentView E
@@ -209,13 +224,14 @@ pub record RejectsAfterProtocol {E : Type 0} (engine : Engine E) (asked : UrlPat
   pub path_kind : IsPathKind engine.answer values protocol.matcher hierarchical
   pub refused : FirstRejected engine (settings_of asked values hierarchical) after_protocol error
 
--- The values are rejected with this error, that of the first rejected component.
+-- `values` are rejected under the options `asked` with `error`, the error of the first rejected
+-- component in the order of compilation.
 abbrev pub RejectsValues : {E : Type 0} → Engine E → UrlPatternOptions → Values → ErrorView → Type 0
 RejectsValues engine asked values error =
     IsComponentRejected engine (settings_of asked values false Protocol) error
     ⊎ RejectsAfterProtocol engine asked values error
 
--- The init is rejected with this error.
+-- The init is rejected with `error` when it is compiled under the options `asked`.
 abbrev pub RejectsInit : {E : Type 0} → Engine E → UrlPatternInit → UrlPatternOptions → ErrorView
     → Type 0
 RejectsInit engine init asked error =

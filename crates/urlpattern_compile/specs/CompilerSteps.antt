@@ -14,21 +14,23 @@ use Rattle.urlpattern_syntax.specs.Errors.{ErrorView}
 use Rattle.urlpattern_syntax.specs.Options.{options_view}
 use Rattle.urlpattern_syntax.specs.Reading.{Encoding}
 
--- The values that a compiler compiles.
+-- The values that a compiler compiles, as lists of characters.
 abbrev pub compiled_values : Compiler → Values
 compiled_values compiler = values_view compiler.values.now
 
--- How a compiler parses a component's pattern.
+-- How a compiler parses a component's pattern; `hierarchical` says whether the pathname is
+-- hierarchical.
 abbrev pub settings_by : Compiler → (hierarchical : Bool) → ComponentName → ParseSettings
 settings_by compiler = settings_of compiler.options.now (compiled_values compiler)
 
--- The component, with its parts, is compiled from a pattern text, if there is one.
+-- `engine` compiles `pattern`, or an asterisk for None, to `made`, a component with its parts.
 abbrev pub IsCompiledWith : {E : Type 0} → Engine E → Option (Bor (List ℕ)) → Options → Encoding
     → ComponentWithParts E → Type 0
 IsCompiledWith engine pattern options encoding made =
     IsCompiledKeeping engine (pattern_text pattern) (options_view options) encoding made
 
--- A pattern text, if there is one, is rejected with this error.
+-- `pattern`, or an asterisk for None, is rejected with `error`, for its text or by `engine` for a
+-- regular expression.
 abbrev pub IsRejectedWith : {E : Type 0} → Engine E → Option (Bor (List ℕ)) → Options → Encoding
     → ErrorView → Type 0
 IsRejectedWith engine pattern options encoding error =

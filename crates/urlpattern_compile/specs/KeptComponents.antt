@@ -12,9 +12,10 @@ use Rattle.urlpattern_init.specs.declared.init.UrlPatternInit.{UrlPatternInit}
 use Rattle.urlpattern_inputs.specs.declared.options.UrlPatternOptions.{UrlPatternOptions}
 use Rattle.urlpattern_syntax.specs.ComponentParts.{kept_options, kept_parts}
 
--- The pattern text is parsed to the parts in this manner, under its options; the component is made
--- of them, and the engine accepted what it needs.
-pub record IsKept {E : Type 0} (engine : Engine E) (settings : ParseSettings)
+-- The engine compiles `made` as `settings` say: its parts are those that the text reads as, the
+-- component is made of them, and the engine accepted the regular expressions that the component
+-- needs.
+pub record IsCompiledWithParts {E : Type 0} (engine : Engine E) (settings : ParseSettings)
     (made : ComponentWithParts E) : Type 0 where
   pub options_are : kept_options made.kept ≡ settings.options
   pub reads : ReadsAs settings (kept_parts made.kept)
@@ -22,24 +23,24 @@ pub record IsKept {E : Type 0} (engine : Engine E) (settings : ParseSettings)
       (component_view made.component)
   pub has_engine : HasEngine (component_view made.component)
 
--- Each of eight components is kept with its parts, in its manner.
-abbrev pub EachIsKept : {E : Type 0} → Engine E
+-- Each of eight components is compiled, with its parts, as the settings for its name say.
+abbrev pub EachIsCompiledWithParts : {E : Type 0} → Engine E
     → (settings : ComponentName → ParseSettings) → Eight (ComponentWithParts E) → Type 0
-EachIsKept engine settings made =
-    (name : ComponentName) → IsKept engine (settings name) (at made name)
+EachIsCompiledWithParts engine settings made =
+    (name : ComponentName) → IsCompiledWithParts engine (settings name) (at made name)
 
--- The values are compiled to these components: the pathname is hierarchical or not, and each
--- component is made of the parts of its text accordingly.
-pub record AreCompiledKeeping {E : Type 0} (engine : Engine E) (asked : UrlPatternOptions)
+-- `values` are compiled under the options `asked` to the components `made`, each with its parts.
+-- The values and the protocol's matcher decide whether the pathname is hierarchical.
+pub record AreCompiledWithParts {E : Type 0} (engine : Engine E) (asked : UrlPatternOptions)
     (values : Values) (made : Eight (ComponentWithParts E)) : Type 0 where
   pub hierarchical : Bool
   pub path_kind : IsPathKind engine.answer values (component_view made.protocol.component).matcher
       hierarchical
-  pub are_kept : EachIsKept engine (settings_of asked values hierarchical) made
+  pub are_kept : EachIsCompiledWithParts engine (settings_of asked values hierarchical) made
 
--- The init is compiled to these components.
-abbrev pub IsKeptOfInit : {E : Type 0} → Engine E → UrlPatternInit → UrlPatternOptions
+-- The init is compiled under the options `asked` to the components `made`, each with its parts.
+abbrev pub IsInitCompiledWithParts : {E : Type 0} → Engine E → UrlPatternInit → UrlPatternOptions
     → Eight (ComponentWithParts E) → Type 0
-IsKeptOfInit engine init asked made =
+IsInitCompiledWithParts engine init asked made =
     (values : Values) × (pattern_values init ≡ Ok values)
-    × AreCompiledKeeping engine asked values made
+    × AreCompiledWithParts engine asked values made

@@ -7,11 +7,11 @@ use Rattle.urlpattern_components.specs.Eight.{at, components}
 use Rattle.urlpattern_matcher.specs.declared.component.Component.{Component}
 use Rattle.urlpattern_matcher.specs.Components.{ComponentView, component_view}
 
--- A pattern: the view of each component.
+-- A whole pattern: the view of each component.
 abbrev pub PatternView : Type 0 → Type 0
 PatternView E = ComponentName → ComponentView E
 
--- The pattern of eight components.
+-- The whole pattern that has these eight components.
 abbrev pub eight_view : {E : Type 0} → Eight (Component E) → ComponentName → ComponentView E
 eight_view components name = component_view (at components name)
 

@@ -1,29 +1,29 @@
 //! Compiles a pattern from an init.
 
-ghost use Rattle.std.specs.Prelude.{◌≡◌, ◌↔◌, ⊤, [], codes, false, length, option_copied, option_map, unwrap_or, IfErr, IfOk, IfSome, IsAscii, IsTrue, MatchBool, Some};
+ghost use Rattle.std.specs.Prelude.{◌≡◌, ◌↔◌, ⊤, [], codes, false, length, option_map, unwrap_or, IfErr, IfOk, IfSome, IsTrue, MatchBool, Some};
 ghost use Rattle.std.specs.Str.{chars};
 ghost use Rattle.urlpattern_canonical.specs.Canonical.{IsResult};
-ghost use Rattle.urlpattern_matcher.specs.Components.{component_view, pattern_text};
+ghost use Rattle.urlpattern_matcher.specs.Components.{component_view};
 ghost use Rattle.urlpattern_matcher.specs.Matchers.{matcher_view};
 ghost use Rattle.urlpattern_meaning.specs.FirstResults.{AcceptedText};
 ghost use Rattle.urlpattern_init.specs.{Inheritance.values_view, SpecialProtocol.IsKnownProtocol};
-ghost use Rattle.urlpattern_compile.specs.Compiled.{FirstRejected, HasEngine, IsComponentRejected, IsPathKind, RejectsInit, RejectsValues, after_protocol, canonical_in_hostname, has_default_port, is_ipv6_pattern, is_mark, is_same, pattern_of, pattern_values, without_default_port};
+ghost use Rattle.urlpattern_compile.specs.Compiled.{FirstRejected, HasEngine, IsComponentRejected, IsPathKind, RejectsInit, RejectsValues, after_protocol, canonical_in_hostname, is_ipv6_pattern, is_mark};
 ghost use Rattle.urlpattern_compile.specs.CompilerSteps.{IsCompiledWith, IsRejectedWith, compiled_values, settings_by};
-ghost use Rattle.urlpattern_compile.specs.KeptComponents.{AreCompiledKeeping, EachIsKept, IsKept, IsKeptOfInit};
+ghost use Rattle.urlpattern_compile.specs.KeptComponents.{AreCompiledWithParts, EachIsCompiledWithParts, IsCompiledWithParts, IsInitCompiledWithParts};
 ghost use Rattle.urlpattern_components.specs.declared.eight.ComponentName.{ComponentName};
 ghost use Rattle.urlpattern_syntax.specs.Errors.{MemoryOr, OnlyOutOfMemory};
 ghost use Rattle.urlpattern_syntax.specs.Options.{options_view};
 ghost use Rattle.urlpattern_syntax.specs.Reading.{encoding_by};
 ghost use Rattle.urlpattern_syntax.specs.Text.{begins_with, text_of};
 
+use crate::processed_init::{pattern_of, pattern_values};
 use std::alloc::Global;
 use urlpattern_canonical::begins_with_bracket;
 use urlpattern_canonical::canonicalize_and_process::{
-    Canonicalizer, ProcessType, begins_with_slash, canonicalize_ipv6_hostname, is_special_scheme,
-    special_scheme_default_port, without_first,
+    Canonicalizer, begins_with_slash, canonicalize_ipv6_hostname, without_first,
 };
 use urlpattern_components::{ComponentName, Eight};
-use urlpattern_init::{UrlPatternInit, accepts_special_scheme, process};
+use urlpattern_init::{UrlPatternInit, accepts_special_scheme};
 use urlpattern_inputs::UrlPatternOptions;
 use urlpattern_matcher::component::{Component, ComponentWithParts};
 use urlpattern_matcher::matcher::{InnerMatcher, Matcher};
@@ -31,15 +31,17 @@ use urlpattern_matcher::regexp::RegExp;
 use urlpattern_parser::parser::Options;
 use urlpattern_syntax::{Error, RegexSyntax};
 
-/// Compiles the components of a pattern from an init: from its own texts, and from what they
-/// inherit from its base URL.
+/// Compiles the eight components of a pattern from an init: from the texts that it has, and from
+/// those that it inherits from its base URL.
 ///
-/// The error is that of the first rejected component, or `OutOfMemory`. The protocol is compiled
-/// first, then the hostname and the pathname, then the others in the order of a URL. A component is
-/// rejected for its syntax, by `url` for a fixed text, or by the engine for a regular expression.
+/// Fails with the error of the first rejected component, or with `OutOfMemory`. The protocol is
+/// compiled first, then the hostname and the pathname, then the others in the order of a URL. A
+/// component is rejected for its syntax, by `url` for a fixed text, or by the engine for a regular
+/// expression.
 ///
-/// `known` is the text of a protocol and its component, if a constructor string has compiled them
-/// already. The component is reused if the processed text and the options are the same.
+/// `known` is the text of a protocol and its component, if they were compiled already to split a
+/// constructor string. The component is reused if the init's processed protocol is that text, the
+/// syntax is `RegexSyntax::Rust`, and the engine accepted the component's regular expressions.
 ///
 /// <https://urlpattern.spec.whatwg.org/#url-pattern-create>
 pub fn compile_init<R: RegExp>(
@@ -49,7 +51,7 @@ pub fn compile_init<R: RegExp>(
     options: UrlPatternOptions,
 ) -> Result<Eight<ComponentWithParts<R>>, Error>
     requires { IfSome known (IsKnownProtocol R.RegExp) }
-    ensures compiled { IfOk result (IsKeptOfInit R.RegExp init options) }
+    ensures compiled { IfOk result (IsInitCompiledWithParts R.RegExp init options) }
     ensures refused { IfErr result (MemoryOr (RejectsInit R.RegExp init options)) }
 {
     let values = pattern_values(alloc, &init);
@@ -60,9 +62,9 @@ pub fn compile_init<R: RegExp>(
     components
 }
 
-/// Compiles the values to components.
+/// Compiles the processed values of an init to components; `known` is as in `compile_init`.
 ///
-/// The error is that of the first rejected component, or `OutOfMemory`.
+/// Fails with the error of the first rejected component, or with `OutOfMemory`.
 fn compile_values<R: RegExp>(
     alloc: Global,
     values: &UrlPatternInit,
@@ -71,7 +73,7 @@ fn compile_values<R: RegExp>(
 ) -> Result<Eight<ComponentWithParts<R>>, Error>
     requires { IfSome known (IsKnownProtocol R.RegExp) }
     ensures compiled { IfOk result
-        (AreCompiledKeeping R.RegExp options.now (values_view values.now)) }
+        (AreCompiledWithParts R.RegExp options.now (values_view values.now)) }
     ensures refused { IfErr result
         (MemoryOr (RejectsValues R.RegExp options.now (values_view values.now))) }
 {
@@ -85,52 +87,8 @@ fn compile_values<R: RegExp>(
     compiler.components(known)
 }
 
-/// Processes an init as a pattern, and empties a default port.
-pub fn pattern_values(alloc: Global, init: &UrlPatternInit) -> Result<UrlPatternInit, Error>
-    ensures ok { IfOk result (λ values. pattern_values init.now ≡ Ok (values_view values)) }
-    ensures memory { OnlyOutOfMemory result }
-{
-    let values = process(alloc, init, &ProcessType::Pattern)?;
-    Ok(without_default_port(alloc, values))
-}
-
-/// Returns the values, with a default port emptied.
-fn without_default_port(alloc: Global, mut values: UrlPatternInit) -> UrlPatternInit
-    ensures { values_view result ≡ without_default_port (values_view values) }
-{
-    if has_default_port(&values) {
-        values.port = Some(String::new(alloc));
-    }
-    values
-}
-
-/// Whether a port equals the default, or both are missing.
-fn is_port(port: &Option<String>, default: Option<&str>) -> bool
-    requires { IfSome (option_copied default) IsAscii }
-    ensures { result ≡ is_same (option_map text_of port.now) (option_copied default.entry) }
-{
-    match (port, default) {
-        (Some(port), Some(default)) => port.as_str() == default,
-        (None, None) => true,
-        _ => false,
-    }
-}
-
-/// Whether the protocol is special and the port is its default.
-fn has_default_port(values: &UrlPatternInit) -> bool
-    ensures { result
-        ≡ has_default_port (values_view values.now).protocol (values_view values.now).port }
-{
-    match &values.protocol {
-        Some(protocol) => {
-            is_special_scheme(protocol)
-                && is_port(&values.port, special_scheme_default_port(protocol))
-        }
-        None => false,
-    }
-}
-
-/// Whether the pattern of a hostname begins as an IPv6 address does.
+/// Whether the pattern of a hostname begins as an IPv6 address does: with `[`, perhaps after one
+/// `{` or one `\`. A `[` alone does not count.
 ///
 /// <https://urlpattern.spec.whatwg.org/#hostname-pattern-is-an-ipv6-address>
 fn is_ipv6_pattern(pattern: &str) -> bool
@@ -141,15 +99,11 @@ fn is_ipv6_pattern(pattern: &str) -> bool
             || begins_with_bracket(without_first(pattern, b'\\')))
 }
 
-/// The pattern text of a component, if it has one.
-pub fn pattern_of(values: &UrlPatternInit, component: ComponentName) -> Option<&str>
-    ensures { pattern_text result ≡ pattern_of (values_view values.now) component }
-{
-    values.get(component)
-}
-
-/// Compiles a pattern text to a component with its parts. If the engine rejects a regular
-/// expression, the whole component's or the matcher's, that is an error.
+/// Compiles a pattern text, or `*` for `None`, to a component with its parts. `encoding_callback`
+/// makes a fixed text canonical.
+///
+/// Fails with the error of a rejected text, with `RegExp` if the engine rejects the regular
+/// expression of the whole component or of its matcher, or with `OutOfMemory`.
 #[inline(always)]
 fn compile_component<R: RegExp, F: Fn(&str) -> Result<String, Error> + Drop>(
     alloc: Global,
@@ -186,7 +140,7 @@ fn lacks_engine<R: RegExp>(compiled: &Result<ComponentWithParts<R>, Error>) -> b
     }
 }
 
-/// Whether a matcher holds an error in place of the engine that it needs.
+/// Whether a matcher holds the error of an engine in place of the engine that it needs.
 #[inline(always)]
 fn holds_error<R: RegExp>(matcher: &Matcher<R>) -> bool
     ensures { MatchBool result (¬ AcceptedText (λ value. ⊤) (matcher_view matcher.now).inner)
@@ -198,31 +152,31 @@ fn holds_error<R: RegExp>(matcher: &Matcher<R>) -> bool
     }
 }
 
-/// The values to compile to a pattern, and the options.
+/// The processed values of an init, and the options under which they are compiled to a pattern.
 #[derive(Drop)]
 pub struct Compiler<'a> {
     /// The allocator.
     pub alloc: Global,
     /// The canonicalizer of fixed texts.
     pub canonicalizer: Canonicalizer,
-    /// The values.
+    /// The processed values of the init.
     pub values: &'a UrlPatternInit,
-    /// The options.
+    /// The options that the caller passed.
     pub options: &'a UrlPatternOptions,
 }
 
 impl Compiler<'_> {
     /// Compiles the components, the protocol first, since it decides whether the pathname is
-    /// hierarchical.
+    /// hierarchical; `known` is as in `compile_init`.
     ///
-    /// The error is that of the first rejected component, or `OutOfMemory`.
+    /// Fails with the error of the first rejected component, or with `OutOfMemory`.
     pub(crate) fn components<R: RegExp>(
         &self,
         known: Option<(&str, ComponentWithParts<R>)>,
     ) -> Result<Eight<ComponentWithParts<R>>, Error>
         requires { IfSome known (IsKnownProtocol R.RegExp) }
         ensures compiled { IfOk result
-            (AreCompiledKeeping R.RegExp self.now.options.now (compiled_values self.now)) }
+            (AreCompiledWithParts R.RegExp self.now.options.now (compiled_values self.now)) }
         ensures refused { IfErr result
             (MemoryOr (RejectsValues R.RegExp self.now.options.now (compiled_values self.now))) }
     {
@@ -231,16 +185,17 @@ impl Compiler<'_> {
         self.after_protocol(protocol, hierarchical)
     }
 
-    /// Compiles the protocol, or returns the known component if its text and options are the same.
+    /// Compiles the protocol, or returns the component of `known` if it was compiled from the
+    /// protocol's text under equal options, and the engine accepted its regular expressions.
     ///
-    /// The error is that of a rejected text or regular expression, or `OutOfMemory`.
+    /// Fails with the error of a rejected text or regular expression, or with `OutOfMemory`.
     fn protocol<R: RegExp>(
         &self,
         known: Option<(&str, ComponentWithParts<R>)>,
     ) -> Result<ComponentWithParts<R>, Error>
         requires { IfSome known (IsKnownProtocol R.RegExp) }
         ensures compiled { IfOk result
-            (IsKept R.RegExp (settings_by self.now false ComponentName.Protocol)) }
+            (IsCompiledWithParts R.RegExp (settings_by self.now false ComponentName.Protocol)) }
         ensures refused { IfErr result (MemoryOr
             (IsComponentRejected R.RegExp (settings_by self.now false ComponentName.Protocol))) }
     {
@@ -259,19 +214,21 @@ impl Compiler<'_> {
         self.component(ComponentName::Protocol, false)
     }
 
-    /// Compiles the components after the protocol.
+    /// Compiles the components after the protocol, and returns them with `protocol`. `hierarchical`
+    /// says whether the pathname is hierarchical.
     ///
-    /// The error is that of the first rejected component, or `OutOfMemory`.
+    /// Fails with the error of the first rejected component, or with `OutOfMemory`.
     fn after_protocol<R: RegExp>(
         &self,
         protocol: ComponentWithParts<R>,
         hierarchical: bool,
     ) -> Result<Eight<ComponentWithParts<R>>, Error>
-        requires { IsKept R.RegExp (settings_by self.now hierarchical ComponentName.Protocol)
-            protocol }
+        requires { IsCompiledWithParts R.RegExp
+            (settings_by self.now hierarchical ComponentName.Protocol) protocol }
         ensures protocol { IfOk result (λ made.
             component_view made.protocol.component ≡ component_view protocol.component) }
-        ensures compiled { IfOk result (EachIsKept R.RegExp (settings_by self.now hierarchical)) }
+        ensures compiled { IfOk result
+            (EachIsCompiledWithParts R.RegExp (settings_by self.now hierarchical)) }
         ensures refused { IfErr result
             (MemoryOr (FirstRejected R.RegExp (settings_by self.now hierarchical) after_protocol)) }
     {
@@ -287,16 +244,17 @@ impl Compiler<'_> {
         })
     }
 
-    /// Compiles a component of the pattern.
+    /// Compiles a component of the pattern. `hierarchical` says whether the pathname is
+    /// hierarchical.
     ///
-    /// The error is that of a rejected text or regular expression, or `OutOfMemory`.
+    /// Fails with the error of a rejected text or regular expression, or with `OutOfMemory`.
     pub(crate) fn component<R: RegExp>(
         &self,
         component: ComponentName,
         hierarchical: bool,
     ) -> Result<ComponentWithParts<R>, Error>
         ensures compiled { IfOk result
-            (IsKept R.RegExp (settings_by self.now hierarchical component)) }
+            (IsCompiledWithParts R.RegExp (settings_by self.now hierarchical component)) }
         ensures refused { IfErr result (MemoryOr
             (IsComponentRejected R.RegExp (settings_by self.now hierarchical component))) }
     {
@@ -310,7 +268,11 @@ impl Compiler<'_> {
         compile_component(self.alloc, pattern, canonicalize, options)
     }
 
-    /// The options under which a component's pattern is parsed.
+    /// Returns the options under which a component's pattern is parsed. A pathname has the
+    /// delimiter and prefix `/` only if `hierarchical`; only pathname, search and hash may ignore
+    /// case.
+    ///
+    /// Fails only with `OutOfMemory`.
     pub fn options_of(&self, component: ComponentName, hierarchical: bool) -> Result<Options, Error>
         ensures ok { IfOk result (λ options.
             options_view options ≡ (settings_by self.now hierarchical component).options) }
@@ -332,9 +294,10 @@ impl Compiler<'_> {
         })
     }
 
-    /// The canonical value of a fixed text in a component's pattern.
+    /// Returns the canonical form of a fixed text in a component's pattern. A text of the pathname
+    /// is part of a path with segments if `hierarchical`, and of an opaque path otherwise.
     ///
-    /// The error is that of `url`, or `OutOfMemory`.
+    /// Fails with the error of `url`, or with `OutOfMemory`.
     pub fn canonical(
         &self,
         component: ComponentName,
@@ -359,10 +322,10 @@ impl Compiler<'_> {
         }
     }
 
-    /// The canonical value of a fixed text in a hostname pattern, which may be that of an IPv6
-    /// address.
+    /// Returns the canonical form of a fixed text in the hostname's pattern, which may be that of
+    /// an IPv6 address.
     ///
-    /// The error is that of `url`, or `OutOfMemory`.
+    /// Fails with the error of `url`, or with `OutOfMemory`.
     fn canonical_in_hostname(&self, text: &str) -> Result<String, Error>
         ensures { IsResult (canonical_in_hostname (unwrap_or (compiled_values self.now).hostname [])
             (chars text.now)) (length text.now) result }
@@ -375,7 +338,10 @@ impl Compiler<'_> {
         }
     }
 
-    /// Whether the pathname of the pattern is hierarchical, given the compiled protocol.
+    /// Whether the pathname of the pattern is hierarchical: the protocol is empty, its component
+    /// `protocol` accepts a special scheme, or the pathname begins with a slash.
+    ///
+    /// Fails only with `OutOfMemory`.
     pub fn is_hierarchical<R: RegExp>(&self, protocol: &Component<R>) -> Result<bool, Error>
         ensures path_kind { IfOk result
             (IsPathKind R.answer (compiled_values self.now) (component_view protocol.now).matcher) }

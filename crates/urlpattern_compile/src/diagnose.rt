@@ -1,4 +1,5 @@
-//! Diagnoses of rejected patterns.
+//! Diagnoses constructor strings and inits: which component is rejected, and where its text is at
+//! fault.
 
 ghost use Rattle.std.specs.Prelude.{◌≡◌, option_copied, string_bytes, IfOk, IfSome};
 ghost use Rattle.std.specs.Str.{chars};
@@ -7,11 +8,12 @@ ghost use Rattle.urlpattern_init.specs.Inheritance.{values_view};
 ghost use Rattle.urlpattern_compile.specs.Compiled.{RejectsInit, RejectsValues};
 ghost use Rattle.urlpattern_compile.specs.CompilerSteps.{compiled_values, settings_by};
 ghost use Rattle.urlpattern_diagnosis.specs.Faults.{IsColonFault, IsFaultIn};
-ghost use Rattle.urlpattern_compile.specs.Diagnoses.{AcceptsInit, AcceptsPatternOfText, AcceptsValues, HasErrorOf, IfAccepted, IfRejected, IsOf, IsPartOfRejected, IsWithinText, ShowsGiven, ShowsInit, ShowsPattern, ShowsProtocol, ShowsValues};
+ghost use Rattle.urlpattern_compile.specs.Diagnoses.{AcceptsInit, AcceptsPatternOfText, AcceptsValues, HasErrorOf, HasGivenText, IfAccepted, IfRejected, IsFaultOfRejectedPart, IsWithinText, ShowsGiven, ShowsInit, ShowsPattern, ShowsProtocol, ShowsValues};
 ghost use Rattle.urlpattern_compile.specs.FromString.{RejectsPatternOfText};
 ghost use Rattle.urlpattern_syntax.specs.Errors.{error_view};
 
-use crate::compile::{Compiler, pattern_of, pattern_values};
+use crate::compile::Compiler;
+use crate::processed_init::{pattern_of, pattern_values};
 use crate::rejection::{Rejection, not_memory};
 use std::alloc::Global;
 use urlpattern_canonical::canonicalize_and_process::Canonicalizer;
@@ -28,10 +30,10 @@ use urlpattern_parser::tokenizer::{TokenizePolicy, tokenize};
 use urlpattern_syntax::Error;
 use urlpattern_syntax::error::{OutOfMemory, RegExpError};
 
-/// Diagnoses a constructor string or its base URL. `None`: both are accepted.
+/// Diagnoses the constructor string `pattern` or its base URL. `None`: the pattern is accepted.
 ///
 /// If the init of the string is rejected, its components are compiled again to find the one at
-/// fault.
+/// fault. The text of the diagnosis is the base URL if that is rejected, or else the string.
 pub fn diagnose_text<R: RegExp>(
     alloc: Global,
     pattern: &str,
@@ -68,8 +70,9 @@ pub fn diagnose_text<R: RegExp>(
 
 /// Diagnoses an init. `None`: the init is accepted.
 ///
-/// The text of the diagnosis is the value of the rejected component. If the init is rejected, its
-/// components are compiled again to find the one at fault.
+/// If the init is rejected, its components are compiled again to find the one at fault. The text of
+/// the diagnosis is the value of that component, or its pattern if the init lacks the component; it
+/// is empty if each component is accepted the second time.
 pub fn diagnose_init<R: RegExp>(
     alloc: Global,
     init: &UrlPatternInit,
@@ -83,7 +86,8 @@ pub fn diagnose_init<R: RegExp>(
     init_diagnosis::<R>(alloc, init, &options, None)
 }
 
-/// Diagnoses a constructor string that is rejected when it is split.
+/// Diagnoses a constructor string that is rejected with `error` when it is split: its protocol is
+/// rejected, or missing without a base URL.
 fn protocol_diagnosis(alloc: Global, error: Error, text: &str) -> Result<Diagnosis, OutOfMemory>
     ensures error { IfOk result (λ diagnosis. diagnosis.error ≡ error) }
     ensures text { IfOk result (λ diagnosis. string_bytes diagnosis.text ≡ text.now) }
@@ -109,8 +113,9 @@ fn protocol_diagnosis(alloc: Global, error: Error, text: &str) -> Result<Diagnos
     }
 }
 
-/// The fault of a colon after a text that is no protocol, unless the error is that of a token
-/// before it.
+/// Returns the colon after `protocol`, or the backslash that escapes it, as the fault in `text`, if
+/// `protocol` contains a character of a path, a search or a hash, and so cannot be a protocol.
+/// `None`: `protocol` contains none, or the error is at a place where no token begins.
 fn colon_fault(text: &str, protocol: &str, error: &Error) -> Option<Fault>
     ensures fault { IfSome result (IsColonFault text.now protocol.now) }
     ensures within { IfSome result (IsFaultIn text.now) }
@@ -121,13 +126,14 @@ fn colon_fault(text: &str, protocol: &str, error: &Error) -> Option<Fault>
     }
 }
 
-/// Whether a text that is rejected with this error has no protocol, no colon after it, or `;` in
-/// place of the colon.
+/// Whether a text that is rejected with `error` has no protocol, or lacks the colon after a special
+/// scheme or `http{s}?`, or has `;` in place of the colon after a special scheme.
 fn lacks_colon(text: &str, error: &Error) -> bool {
     matches!(error, Error::BaseUrlRequired) || Fault::of_url(text) != Fault::whole(text)
 }
 
-/// Diagnoses an init, in its constructor string if there is one, else in its own values.
+/// Diagnoses an init. `None`: the init is accepted. The fault is shown in `string`, the constructor
+/// string that the init was parsed from, or, for `None`, as `diagnose_init` says.
 fn init_diagnosis<R: RegExp>(
     alloc: Global,
     init: &UrlPatternInit,
@@ -137,7 +143,7 @@ fn init_diagnosis<R: RegExp>(
     ensures accepted { IfAccepted result (AcceptsInit R.RegExp init.now options.now) }
     ensures refused { IfRejected result (HasErrorOf (RejectsInit R.RegExp init.now options.now)) }
     ensures shows { IfRejected result (ShowsInit R.RegExp init.now options.now) }
-    ensures text { IfRejected result (IsOf (option_copied string.entry)) }
+    ensures text { IfRejected result (HasGivenText (option_copied string.entry)) }
     ensures within { IfRejected result IsWithinText }
 {
     let Ok(values) = pattern_values(alloc, init) else {
@@ -149,7 +155,8 @@ fn init_diagnosis<R: RegExp>(
     found
 }
 
-/// Diagnoses the processed values of an init.
+/// Diagnoses `values`, the processed values of an init. `None`: they are accepted. The fault is
+/// shown in the texts of `given`.
 fn values_diagnosis<R: RegExp>(
     alloc: Global,
     values: &UrlPatternInit,
@@ -161,7 +168,7 @@ fn values_diagnosis<R: RegExp>(
     ensures refused { IfRejected result
         (HasErrorOf (RejectsValues R.RegExp options.now (values_view values.now))) }
     ensures shows { IfRejected result (ShowsValues R.RegExp options.now (values_view values.now)) }
-    ensures text { IfRejected result (IsOf (option_copied given.entry.string)) }
+    ensures text { IfRejected result (HasGivenText (option_copied given.entry.string)) }
     ensures within { IfRejected result IsWithinText }
 {
     let Ok(canonicalizer) = Canonicalizer::shared(alloc) else {
@@ -185,7 +192,8 @@ fn values_diagnosis<R: RegExp>(
     }
 }
 
-/// A pattern as given: an init, and the constructor string that it was parsed from, if any.
+/// A pattern as the caller wrote it: an init, and the constructor string that it was parsed from,
+/// if any.
 #[derive(Clone, Copy)]
 struct PatternSource<'a> {
     string: Option<&'a str>,
@@ -193,12 +201,14 @@ struct PatternSource<'a> {
 }
 
 impl<'a> PatternSource<'a> {
-    /// The value of a component, if it is given.
+    /// Returns the text of a component before it is processed. `None`: the init lacks the
+    /// component.
     fn value(&self, component: ComponentName) -> Option<&'a str> {
         self.init.get(component)
     }
 
-    /// The byte index at which the value of a component begins.
+    /// Returns the byte index at which the value of a component begins in the constructor string; 0
+    /// if there is no string.
     fn start(&self, component: ComponentName) -> usize {
         let Some(string) = self.string else {
             return 0;
@@ -218,7 +228,8 @@ impl<'a> PatternSource<'a> {
 }
 
 impl Compiler<'_> {
-    /// Diagnoses values that are rejected with this error.
+    /// Diagnoses the first component that is rejected among values that are rejected with `error`,
+    /// or the whole pattern if each component is accepted this time.
     fn diagnosis<R: RegExp>(
         &self,
         error: Error,
@@ -230,7 +241,7 @@ impl Compiler<'_> {
             (HasErrorOf (RejectsValues R.RegExp self.now.options.now (compiled_values self.now))) }
         ensures shows { IfOk result
             (ShowsValues R.RegExp self.now.options.now (compiled_values self.now)) }
-        ensures text { IfOk result (IsOf (option_copied given.entry.string)) }
+        ensures text { IfOk result (HasGivenText (option_copied given.entry.string)) }
         ensures within { IfOk result IsWithinText }
     {
         match self.first_rejected::<R>()? {
@@ -242,7 +253,8 @@ impl Compiler<'_> {
         }
     }
 
-    /// Diagnoses a rejected component.
+    /// Diagnoses a rejected component: finds the fault in its pattern, and shows it in the
+    /// constructor string, or else in the component's value, or else in the pattern.
     fn component_diagnosis<R: RegExp>(
         &self,
         rejection: Rejection,
@@ -253,7 +265,7 @@ impl Compiler<'_> {
             diagnosis.subject ≡ subjects.Component rejection.component) }
         ensures shows { IfOk result (ShowsPattern rejection.component
             (settings_by self.now rejection.hierarchical rejection.component)) }
-        ensures text { IfOk result (IsOf (option_copied given.entry.string)) }
+        ensures text { IfOk result (HasGivenText (option_copied given.entry.string)) }
         ensures within { IfOk result IsWithinText }
     {
         let Rejection {
@@ -279,8 +291,10 @@ impl Compiler<'_> {
         Ok(Diagnosis::of_part(self.alloc, error, subject, text, pattern, fault, place)?)
     }
 
-    /// The fault of the part of a pattern that is rejected by itself: a custom expression by the
-    /// engine, or a run of characters by `url`.
+    /// Returns the fault of the first part of a pattern that is rejected also by itself: a custom
+    /// expression by the engine, or a run of characters by `url`. `hierarchical` says whether the
+    /// pathname is hierarchical. `None`: no part is, or `error` is neither that of an engine nor of
+    /// `url`.
     fn rejected_part<R: RegExp>(
         &self,
         component: ComponentName,
@@ -289,7 +303,7 @@ impl Compiler<'_> {
         error: &Error,
     ) -> Result<Option<Fault>, OutOfMemory>
         ensures part { IfOk result (λ found.
-            IfSome found (IsPartOfRejected pattern.now error.now)) }
+            IfSome found (IsFaultOfRejectedPart pattern.now error.now)) }
         ensures within { IfOk result (λ found. IfSome found (IsFaultIn pattern.now)) }
     {
         match error {
@@ -299,7 +313,8 @@ impl Compiler<'_> {
         }
     }
 
-    /// The fault of the first custom expression of a pattern that the engine rejects by itself.
+    /// Returns the fault of the first custom expression of a pattern that the engine rejects also
+    /// by itself. `None`: the engine accepts each.
     fn rejected_expression<R: RegExp>(&self, pattern: &str) -> Result<Option<Fault>, OutOfMemory>
         ensures { IfOk result (λ found. IfSome found (IsFaultIn pattern.now)) }
     {
@@ -319,7 +334,9 @@ impl Compiler<'_> {
         }
     }
 
-    /// The fault of the first run of characters of a pattern that `url` rejects by itself.
+    /// Returns the fault of the first run of characters of a component's pattern that `url` rejects
+    /// also by itself; in a hostname, of what is at fault in the run. `hierarchical` says whether
+    /// the pathname is hierarchical. `None`: `url` accepts each.
     fn rejected_run(
         &self,
         component: ComponentName,

@@ -13,9 +13,10 @@ use urlpattern_matcher::component::ComponentWithParts;
 use urlpattern_matcher::regexp::RegExp;
 use urlpattern_syntax::Error;
 
-/// Parses a constructor string to an init, after parsing its base URL.
+/// Parses `base_url`, if there is one, and then the constructor string `text` to an init with that
+/// base URL.
 ///
-/// The error is that of a rejected base URL or of a rejected string, or `OutOfMemory`.
+/// Fails with the error of the rejected base URL or of the rejected string, or with `OutOfMemory`.
 pub fn init_of_text<R: RegExp>(
     alloc: Global,
     text: &str,
@@ -30,10 +31,9 @@ pub fn init_of_text<R: RegExp>(
     UrlPatternInit::parse_constructor_string::<R>(alloc, text, base_url)
 }
 
-/// Parses a constructor string like `init_of_text`; if `keeps`, also returns the text of the
-/// protocol and its compiled component.
-///
-/// The error is that of `init_of_text`.
+/// Parses a constructor string as `init_of_text` does, and fails with its errors. If `keeps`, also
+/// returns the text of the protocol and its component, compiled under the default options, for
+/// `compile_init`. `None`: `keeps` is `false`, or the string has no protocol.
 pub fn init_of_text_keeping<'a, R: RegExp>(
     alloc: Global,
     text: &'a str,

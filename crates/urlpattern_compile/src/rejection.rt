@@ -3,7 +3,7 @@
 ghost use Rattle.std.specs.Prelude.{◌≡◌, ◌≢◌, false, IfNone, IfOk, IfSome};
 ghost use Rattle.urlpattern_compile.specs.CompilerSteps.{compiled_values, settings_by};
 ghost use Rattle.urlpattern_compile.specs.Diagnoses.{AcceptsComponent, IsFirstRejection, IsRejectionOf, RejectsComponent};
-ghost use Rattle.urlpattern_compile.specs.KeptComponents.{IsKept};
+ghost use Rattle.urlpattern_compile.specs.KeptComponents.{IsCompiledWithParts};
 ghost use Rattle.urlpattern_components.specs.declared.eight.ComponentName.TheVariants as names;
 ghost use Rattle.urlpattern_syntax.specs.Errors.{ErrorView as views, error_view};
 
@@ -25,19 +25,20 @@ const AFTER_PROTOCOL: [ComponentName; 7] = [
     ComponentName::Hash,
 ];
 
-/// A rejected component.
+/// A component that is rejected, and why.
 #[derive(Drop)]
 pub(super) struct Rejection {
     /// The component.
     pub(super) component: ComponentName,
     /// Whether the pathname is hierarchical; `false` if the protocol is rejected.
     pub(super) hierarchical: bool,
-    /// The error.
+    /// The error with which the component is rejected.
     pub(super) error: Error,
 }
 
 impl Compiler<'_> {
-    /// The first rejected component, in the order of compilation.
+    /// Returns the first component that is rejected, in the order of compilation. `None`: each is
+    /// accepted.
     pub(super) fn first_rejected<R: RegExp>(&self) -> Result<Option<Rejection>, OutOfMemory>
         ensures { IfOk result (λ found.
             IfSome found (IsRejectionOf R.RegExp self.now.options.now (compiled_values self.now))) }
@@ -55,12 +56,14 @@ impl Compiler<'_> {
         }
     }
 
-    /// The first rejected component after the protocol.
+    /// Returns the first component that is rejected after the protocol, which compiled to
+    /// `protocol`. `None`: each is accepted.
     fn first_rejected_after<R: RegExp>(
         &self,
         protocol: ComponentWithParts<R>,
     ) -> Result<Option<Rejection>, OutOfMemory>
-        requires { IsKept R.RegExp (settings_by self.now false names.Protocol) protocol }
+        requires { IsCompiledWithParts R.RegExp (settings_by self.now false names.Protocol)
+            protocol }
         ensures { IfOk result (λ found.
             IfSome found (IsRejectionOf R.RegExp self.now.options.now (compiled_values self.now))) }
     {
@@ -70,7 +73,8 @@ impl Compiler<'_> {
         }
     }
 
-    /// The first rejected component of a list.
+    /// Returns the first component of `names` that is rejected. `hierarchical` says whether the
+    /// pathname is hierarchical. `None`: each is accepted.
     fn first_rejected_of<R: RegExp>(
         &self,
         hierarchical: bool,
@@ -84,7 +88,7 @@ impl Compiler<'_> {
             (RejectsComponent R.RegExp (settings_by self.now hierarchical) hierarchical)) }
     {
         for name in names {
-            match self.refused::<R>(hierarchical, *name)? {
+            match self.rejection_of::<R>(hierarchical, *name)? {
                 Some(rejection) => return Ok(Some(rejection)),
                 None => {}
             }
@@ -92,8 +96,9 @@ impl Compiler<'_> {
         Ok(None)
     }
 
-    /// Compiles a component, and returns its refusal if it is rejected.
-    fn refused<R: RegExp>(
+    /// Compiles a component, and returns its rejection. `hierarchical` says whether the pathname is
+    /// hierarchical. `None`: the component is accepted.
+    fn rejection_of<R: RegExp>(
         &self,
         hierarchical: bool,
         component: ComponentName,
@@ -124,7 +129,7 @@ impl Compiler<'_> {
     }
 }
 
-/// Returns an error other than `OutOfMemory`.
+/// Returns the error, unless it is `OutOfMemory`, with which the call fails.
 pub(super) fn not_memory(error: Error) -> Result<Error, OutOfMemory>
     ensures { IfOk result (λ other. (other ≡ error) × (error_view error ≢ views.OutOfMemory)) }
 {

@@ -19,13 +19,13 @@ name_text Pathname = codes "pathname"
 name_text Search = codes "search"
 name_text Hash = codes "hash"
 
--- The component with this name, or None where no component has this name.
+-- `found` is the component with the name `text`, or None where no component has this name.
 abbrev pub NamesComponent : (text : List ℕ) → Option ComponentName → Type 0
 NamesComponent text found =
     MatchOption found ((component : ComponentName) → text ≢ name_text component) (λ component.
     text ≡ name_text component)
 
--- The value of a component.
+-- The value that an `Eight` has for a component.
 abbrev pub at : {A : Type 0} → Eight A → ComponentName → A
 at values Protocol = values.protocol
 at values Username = values.username
@@ -36,11 +36,11 @@ at values Pathname = values.pathname
 at values Search = values.search
 at values Hash = values.hash
 
--- The values of these components, each with its name.
+-- The values of the components `names`, in this order, each after the name of its component.
 abbrev pub named_values : {A : Type 0} → Eight A → List ComponentName → List (ComponentName × A)
 named_values values names = map (λ name. (name, at values name)) names
 
--- A value for each component.
+-- The `Eight` in which the value of each component is what `value` returns for its name.
 abbrev pub each : {A : Type 0} → (ComponentName → A) → Eight A
 each value = record {
   protocol = value Protocol;
@@ -53,15 +53,17 @@ each value = record {
   hash = value Hash;
 }
 
--- The texts of the components.
+-- A text for each component.
 abbrev pub Texts : Type 0
 Texts = Eight (List ℕ)
 
--- The texts of the components that are present.
+-- A text for each component, or None for a component that is not present.
 abbrev pub Values : Type 0
 Values = Eight (Option (List ℕ))
 
--- A component may have this error, and each component before it a value.
+-- Calls for the components, one after the other, may stop with `error`, where `Answers` relates
+-- each component to the possible results of its call: one component may have the error, and each
+-- component before that one a value.
 abbrev pub IsFirstError : {A E : Type 0} → (Answers : ComponentName → Result A E → Type 0) → E
     → Type 0
 IsFirstError {A} Answers error =

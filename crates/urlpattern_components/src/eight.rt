@@ -8,7 +8,8 @@ mod named;
 pub use named::NamedValues;
 use std::fmt;
 
-/// Borrows the field of a struct that is named as a component: `field_of!(values, name)`.
+/// Borrows the field of the struct `values` that is named as the component `name`:
+/// `field_of!(values, name)`.
 #[macro_export]
 macro_rules! field_of {
     ($values:expr, $name:expr) => {
@@ -25,8 +26,9 @@ macro_rules! field_of {
     };
 }
 
-/// Moves the fields that are named as the components out of a struct into another, with further
-/// fields after them: `with_fields!(Struct, values, further)`.
+/// Makes a struct of the eight fields of `values` that are named as the components, which are
+/// moved, and of variables that are named as the further fields of the struct:
+/// `with_fields!(Struct, values, further)`.
 #[macro_export]
 macro_rules! with_fields {
     ($to:ident, $values:expr $(, $further:ident)*) => {
@@ -181,7 +183,7 @@ impl<T> Eight<T> {
 }
 
 impl Eight<ComponentName> {
-    /// Returns the name of each component.
+    /// Returns the `Eight` in which the value of each component is its name.
     fn names() -> Self
         ensures { (name : ComponentName) → at result name ≡ name }
     {
@@ -199,7 +201,7 @@ impl Eight<ComponentName> {
 }
 
 impl<T: Drop> Eight<T> {
-    /// Maps each value, in the order of the standard.
+    /// Calls `value` with each value, in the order of the standard, and returns the results.
     pub fn map<U, F: Fn(T) -> U>(self, value: F) -> Eight<U>
         requires { F.IsAlwaysCallable value }
         ensures { (name : ComponentName) → F.post value (at self name) (at result name) }
@@ -216,7 +218,8 @@ impl<T: Drop> Eight<T> {
         }
     }
 
-    /// Maps each value, in the order of the standard, or returns the first error.
+    /// Calls `value` with each value, in the order of the standard, and returns the results or the
+    /// first error, after which `value` is not called again.
     pub fn try_map<U: Drop, E, F: Fn(T) -> Result<U, E>>(self, value: F) -> Result<Eight<U>, E>
         requires { F.IsAlwaysCallable value }
         ensures ok { IfOk result (λ values.
@@ -235,7 +238,8 @@ impl<T: Drop> Eight<T> {
         })
     }
 
-    /// Makes the value of each component, in the order of the standard, or returns the first error.
+    /// Calls `value` with each component, in the order of the standard, and returns the results as
+    /// the values of the components, or the first error, after which `value` is not called again.
     pub fn try_from_fn<E, F: Fn(ComponentName) -> Result<T, E>>(value: F) -> Result<Self, E>
         requires { F.IsAlwaysCallable value }
         ensures ok { IfOk result (λ values.
@@ -245,7 +249,8 @@ impl<T: Drop> Eight<T> {
         Eight::names().try_map(value)
     }
 
-    /// Makes the value of each component, in the order of the standard.
+    /// Calls `value` with each component, in the order of the standard, and returns the results as
+    /// the values of the components.
     pub fn from_fn<F: Fn(ComponentName) -> T>(value: F) -> Self
         requires { F.IsAlwaysCallable value }
         ensures { (name : ComponentName) → F.post value name (at result name) }

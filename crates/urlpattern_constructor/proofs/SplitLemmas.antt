@@ -10,7 +10,7 @@ use Rattle.std.specs.Prelude.{codes, IsSomeAnd, IsTrue, is_some, option_map, sli
 use Rattle.std.specs.Str.{bytes_eq}
 use Rattle.urlpattern_constructor.specs.Split.{EndsAt, IsSplit, LacksProtocol, passes_at, depth_before, depth_after, ends_at, is_at_sign, is_balanced, is_character, is_colon_sign, is_end, is_ending, is_hash_sign, is_open, is_search_prefix, is_seen, is_non_special_pattern_char, is_slash_sign, may_end}
 use Rattle.urlpattern_constructor.proofs.ClosedTokens.{IsClosed}
-use Rattle.urlpattern_constructor.specs.Splitting.{may_follow}
+use Rattle.urlpattern_constructor.specs.Splitting.{may_end_before}
 use Rattle.urlpattern_constructor.specs.declared.sections.Section.{Section}
 use Rattle.urlpattern_constructor.specs.declared.sections.Section.TheVariants.{Authority, Password, Port, Protocol, Username}
 use Rattle.urlpattern_constructor.proofs.TokenPlaces.{at_view}
@@ -152,7 +152,7 @@ slash_is_seen section tokens from depth end ends slash =
     ]
 
 -- The sign with which a port ends.
-pub port_sign : (tokens : List TokenView) (from depth place : ℕ) → EndsAt Port tokens from depth place → IsTrue (may_follow Port tokens place)
+pub port_sign : (tokens : List TokenView) (from depth place : ℕ) → EndsAt Port tokens from depth place → IsTrue (may_end_before Port tokens place)
 port_sign tokens from depth place ends =
     elim (stops_cases Port tokens from depth place ends) [
       | inl may ↦ or_regroup (is_slash_sign tokens place) (is_search_prefix tokens place) (is_hash_sign tokens place) (ends_at tokens place) (may_end_parts Port tokens from depth place may).1

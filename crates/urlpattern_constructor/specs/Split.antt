@@ -12,52 +12,56 @@ use Rattle.urlpattern_syntax.specs.Tokens.{AreLenientTokens, TokenView}
 
 -- ---- the token at a position
 
--- The token at the position, an index of the list, passes the test.
+-- Whether the list has a token at `position`, and this token passes the test.
 abbrev pub passes_at : (TokenView → Bool) → List TokenView → ℕ → Bool
 passes_at test tokens position = option_map_or test (slice_get tokens position) false
 
+-- Whether a token of this kind opens a group in braces.
 abbrev pub is_open : TokenType → Bool
 is_open TokenType.Open = true
 is_open kind = false
 
+-- Whether a token of this kind is the last, End.
 abbrev pub is_end : TokenType → Bool
 is_end TokenType.End = true
 is_end kind = false
 
--- The token at the position is End.
+-- Whether the token at `position` is End.
 abbrev pub ends_at : List TokenView → ℕ → Bool
 ends_at tokens position = passes_at (λ token. is_end token.kind) tokens position
 
 -- ---- signs
 
--- A token of this kind is a literal character.
+-- Whether a token of this kind is a character: literal, escaped, or one at which no other token
+-- begins.
 abbrev pub is_character : TokenType → Bool
 is_character TokenType.Char = true
 is_character TokenType.EscapedChar = true
 is_character TokenType.InvalidChar = true
 is_character kind = false
 
--- The token is this character.
+-- Whether the token is the character `mark`, given as a text: literal, escaped, or one at which no
+-- other token begins.
 abbrev pub is_non_special_pattern_char : (mark : List ℕ) → TokenView → Bool
 is_non_special_pattern_char mark token = is_character token.kind && bytes_eq token.value mark
 
--- A colon, after a protocol, a username or a hostname.
+-- Whether the token at `position` is a colon, which ends a protocol, a username or a hostname.
 abbrev pub is_colon_sign : List TokenView → ℕ → Bool
 is_colon_sign tokens position = passes_at (is_non_special_pattern_char (codes ":")) tokens position
 
--- An at sign, between a password or a username and the hostname.
+-- Whether the token at `position` is an at sign, which ends a username or a password.
 abbrev pub is_at_sign : List TokenView → ℕ → Bool
 is_at_sign tokens position = passes_at (is_non_special_pattern_char (codes "@")) tokens position
 
--- A slash, two of which begin an authority, and one a pathname.
+-- Whether the token at `position` is a slash. Two slashes begin an authority, and one a pathname.
 abbrev pub is_slash_sign : List TokenView → ℕ → Bool
 is_slash_sign tokens position = passes_at (is_non_special_pattern_char (codes "/")) tokens position
 
--- A number sign, which begins the hash.
+-- Whether the token at `position` is a number sign, which begins the hash.
 abbrev pub is_hash_sign : List TokenView → ℕ → Bool
 is_hash_sign tokens position = passes_at (is_non_special_pattern_char (codes "#")) tokens position
 
--- A question mark after a token of this kind is a modifier.
+-- Whether a question mark after a token of this kind is a modifier.
 abbrev pub takes_modifier : TokenType → Bool
 takes_modifier TokenType.Name = true
 takes_modifier TokenType.Regexp = true
@@ -65,12 +69,13 @@ takes_modifier TokenType.Close = true
 takes_modifier TokenType.Asterisk = true
 takes_modifier kind = false
 
--- A question mark at the position would modify the token before it.
+-- Whether a question mark at `position` would modify the token before it.
 abbrev pub follows_modified : List TokenView → ℕ → Bool
 follows_modified tokens zero = false
 follows_modified tokens (suc before) = passes_at (λ token. takes_modifier token.kind) tokens before
 
--- The sign that begins the search: a question mark as a character, or one that is not a modifier.
+-- Whether the token at `position` is a question mark that begins the search: a character, or not a
+-- modifier of the token before it.
 abbrev pub is_search_prefix : List TokenView → ℕ → Bool
 is_search_prefix tokens position =
     passes_at (is_non_special_pattern_char (codes "?")) tokens position
@@ -79,26 +84,29 @@ is_search_prefix tokens position =
 
 -- ---- which tokens are seen
 
--- The depth of groups after a token: an opening brace adds one, a closing brace removes one, if
--- any.
+-- The number of open groups after a token of this kind, where `depth` are open before it. A closing
+-- brace without a group is ignored.
 abbrev pub depth_after : TokenType → ℕ → ℕ
 depth_after TokenType.Open depth = depth + 1
 depth_after TokenType.Close depth = depth - 1
 depth_after kind depth = depth
 
--- The depth before a position, where it is `depth` before the token at `from`.
+-- The number of groups that are open before the token at `position`, where `depth` are open before
+-- the token at `from`.
 abbrev pub depth_before : List TokenView → (from depth position : ℕ) → ℕ
 depth_before tokens from depth position =
     fold (λ reached token. depth_after token.kind reached) depth (slice_range tokens from position)
 
--- End is seen, and a token outside of all groups that opens none.
+-- Whether the token at `position` is seen, and so may end a section: End, or a token outside of all
+-- groups that opens none. Before the token at `from`, `depth` groups are open.
 abbrev pub is_seen : List TokenView → (from depth position : ℕ) → Bool
 is_seen tokens from depth position =
     ends_at tokens position
     || (not (passes_at (λ token. is_open token.kind) tokens position)
     && depth_before tokens from depth position == 0)
 
--- The number of tokens from one position up to another that are seen and are this character.
+-- The number of tokens from `from` up to `position`, exclusive, that are seen and are the character
+-- `mark`. Before the token at `from`, `depth` groups are open.
 abbrev pub count_seen : (mark : List ℕ) → List TokenView → (from depth position : ℕ) → ℕ
 count_seen mark tokens from depth position =
     count_by (λ other.
@@ -106,7 +114,8 @@ count_seen mark tokens from depth position =
     && passes_at (is_non_special_pattern_char mark) tokens other)
     (range_with_len from (position - from))
 
--- As many square brackets were opened as closed.
+-- Whether the seen tokens from `from` up to `position`, exclusive, have as many opening as closing
+-- square brackets. Before the token at `from`, `depth` groups are open.
 abbrev pub is_balanced : List TokenView → (from depth position : ℕ) → Bool
 is_balanced tokens from depth position =
     count_seen (codes "[") tokens from depth position
@@ -114,8 +123,8 @@ is_balanced tokens from depth position =
 
 -- ---- where a section ends
 
--- The signs with which a section ends; `balanced` says that a colon there is outside of square
--- brackets.
+-- Whether the token at `position` is a sign that ends the section. A colon ends a hostname only
+-- where `balanced` says that it is outside of square brackets.
 abbrev pub is_ending : Section → (balanced : Bool) → List TokenView → ℕ → Bool
 is_ending Protocol balanced tokens position = is_colon_sign tokens position
 is_ending Authority balanced tokens position =
@@ -135,14 +144,15 @@ is_ending Pathname balanced tokens position =
 is_ending Search balanced tokens position = is_hash_sign tokens position
 is_ending Hash balanced tokens position = false
 
--- A section that begins at `from`, where the depth is `depth`, may end at the position.
+-- Whether the section may end before the token at `position`: a seen token that is one of its
+-- signs. The section begins at `from`, where `depth` groups are open.
 abbrev pub may_end : Section → List TokenView → (from depth position : ℕ) → Bool
 may_end section tokens from depth position =
     is_seen tokens from depth position
     && is_ending section (is_balanced tokens from depth position) tokens position
 
--- The section that begins at `from`, where the depth is `depth`, ends at the position: the least
--- one where it may end, or else End.
+-- The section that begins at `from`, where `depth` groups are open, ends before the token at
+-- `position`: the first token where it may end, or else End.
 pub record EndsAt (section : Section) (tokens : List TokenView) (from depth position : ℕ) : Type 0
   where
     pub after : from ≤ position
@@ -153,7 +163,7 @@ pub record EndsAt (section : Section) (tokens : List TokenView) (from depth posi
 
 -- ---- components
 
--- The text from the token at `from` up to the token at `until`.
+-- `between` is the part of `text` from the token at `from` up to the token at `until`, exclusive.
 pub record IsTextBetween (text : List ℕ) (tokens : List TokenView) (from until : ℕ)
     (between : List ℕ) : Type 0 where
   pub front : List ℕ
@@ -163,33 +173,36 @@ pub record IsTextBetween (text : List ℕ) (tokens : List TokenView) (from until
   pub ends : IsSomeAnd (slice_get tokens until) (λ token.
       token.index ≡ byte_len front + byte_len between)
 
--- The component is present, and is the text between the two tokens.
+-- The component is present: the part of `text` from the token at `from` up to the token at `until`,
+-- exclusive.
 abbrev pub IsComponentBetween : (text : List ℕ) → List TokenView
     → (from until : ℕ) → Option (List ℕ) → Type 0
 IsComponentBetween text tokens from until component =
     IsSomeAnd component (IsTextBetween text tokens from until)
 
--- The hash begins at `from` and extends to End.
+-- The hash begins at the token `from` and extends to End.
 abbrev pub HashFrom : (text : List ℕ) → List TokenView → (from : ℕ) → Values → Type 0
 HashFrom text tokens from components =
     (until : ℕ) × IsTrue (ends_at tokens until)
     × IsComponentBetween text tokens from until components.hash
 
--- A hash begins after its sign, and is missing at End.
+-- The hash, after a search that ends before the token `position`: a number sign begins it, and at
+-- End it is None.
 abbrev pub HashAt : (text : List ℕ) → List TokenView → (position : ℕ) → Values → Type 0
 HashAt text tokens position components =
     (IsTrue (is_hash_sign tokens position) × HashFrom text tokens (position + 1) components)
     ⊎ (IsTrue (ends_at tokens position) × (components.hash ≡ None))
 
--- The search begins at `from`, and ends at the sign of the hash or at End.
+-- The search begins at the token `from`, where `depth` groups are open, and ends at the number sign
+-- of the hash or at End. The hash follows by `HashAt`.
 abbrev pub SearchFrom : (text : List ℕ) → List TokenView → (from depth : ℕ) → Values → Type 0
 SearchFrom text tokens from depth components =
     (until : ℕ) × EndsAt Search tokens from depth until
     × IsComponentBetween text tokens from until components.search
     × HashAt text tokens until components
 
--- A search begins after its sign, is empty where the hash begins without one, and is missing at
--- End.
+-- The search and the hash, after a pathname that ends before the token `position`: a question mark
+-- begins the search, at a number sign it is empty, and at End both are None.
 abbrev pub SearchAt : (text : List ℕ) → List TokenView → (position : ℕ) → Values → Type 0
 SearchAt text tokens position components =
     (IsTrue (is_search_prefix tokens position) × SearchFrom text tokens (position + 1) 0 components)
@@ -198,20 +211,23 @@ SearchAt text tokens position components =
     × HashFrom text tokens (position + 1) components)
     ⊎ (IsTrue (ends_at tokens position) × (components.search ≡ None) × (components.hash ≡ None))
 
--- The pathname begins at `from`, and ends at the sign of the search or of the hash or at End.
+-- The pathname begins at the token `from`, where `depth` groups are open, and ends at the sign of
+-- the search or of the hash or at End. The search and the hash follow by `SearchAt`.
 abbrev pub PathnameFrom : (text : List ℕ) → List TokenView → (from depth : ℕ) → Values → Type 0
 PathnameFrom text tokens from depth components =
     (until : ℕ) × EndsAt Pathname tokens from depth until
     × IsComponentBetween text tokens from until components.pathname
     × SearchAt text tokens until components
 
--- The pathname where a search or a hash begins without one: a slash if the protocol is special,
--- else empty.
+-- The pathname where a search or a hash directly follows the authority: a slash if the protocol
+-- matches a special scheme, otherwise empty.
 abbrev pub implied_pathname : (special : Bool) → List ℕ
 implied_pathname true = codes "/"
 implied_pathname false = []
 
--- After a hostname or a port a pathname begins with its slash.
+-- The pathname, the search and the hash, after a hostname or a port that ends before the token
+-- `position`: a slash begins the pathname, before a search or a hash it is `implied_pathname`, and
+-- at End all three are None. `special` says whether the protocol matches a special scheme.
 abbrev pub PathnameAt : (text : List ℕ) → List TokenView → (special : Bool) → (position : ℕ)
     → Values → Type 0
 PathnameAt text tokens special position components =
@@ -224,7 +240,9 @@ PathnameAt text tokens special position components =
     × (components.search ≡ None)
     × (components.hash ≡ None))
 
--- The port follows a colon, and is empty without one.
+-- The port and the components after it, where the hostname ends before the token `position`: a
+-- colon begins the port, and without a colon it is empty. `special` says whether the protocol
+-- matches a special scheme.
 abbrev pub PortAt : (text : List ℕ) → List TokenView → (special : Bool) → (position : ℕ) → Values
     → Type 0
 PortAt text tokens special position components =
@@ -237,7 +255,9 @@ PortAt text tokens special position components =
     × (components.port ≡ Some [])
     × PathnameAt text tokens special position components)
 
--- The hostname begins at `from`.
+-- The hostname begins at the token `from`, where `depth` groups are open. The port and the
+-- components after it follow by `PortAt`. `special` says whether the protocol matches a special
+-- scheme.
 abbrev pub HostnameFrom : (text : List ℕ) → List TokenView → (special : Bool) → (from depth : ℕ)
     → Values → Type 0
 HostnameFrom text tokens special from depth components =
@@ -245,8 +265,8 @@ HostnameFrom text tokens special from depth components =
     × IsComponentBetween text tokens from until components.hostname
     × PortAt text tokens special until components
 
--- The username ends at a colon or at the sign of the hostname, and the password is between these
--- two.
+-- The username begins at the token `from`, and ends at a colon or at the token `until`, an at sign.
+-- The password is the text between the colon and `until`, or None without a colon.
 abbrev pub UserinfoFrom : (text : List ℕ) → List TokenView → (from until : ℕ) → Values → Type 0
 UserinfoFrom text tokens from until components =
     (position : ℕ) × EndsAt Username tokens from 0 position
@@ -256,9 +276,11 @@ UserinfoFrom text tokens from until components =
     ((position < until)
     × IsComponentBetween text tokens (position + 1) until components.password))
 
--- The authority begins at `from`: a username and a password if it ends at the sign for them, and
--- the hostname after that sign. Otherwise the hostname begins at `from`, at the depth that was
--- reached at the end of the authority.
+-- The authority begins at the token `from`. If it ends at an at sign, it is a username and a
+-- password, and the hostname begins after that sign. Otherwise the hostname begins at `from`, where
+-- as many groups count as open as are open at the end of the authority: the standard's parser goes
+-- back to `from` without closing them. `special` says whether the protocol matches a special
+-- scheme.
 abbrev pub AuthorityFrom : (text : List ℕ) → List TokenView → (special : Bool) → (from : ℕ) → Values
     → Type 0
 AuthorityFrom text tokens special from components =
@@ -272,14 +294,15 @@ AuthorityFrom text tokens special from components =
 
 -- ---- the whole string
 
--- No component before the pathname is present.
+-- All components before the pathname are None.
 abbrev pub NoAuthority : Values → Type 0
 NoAuthority components =
     (components.protocol ≡ None) × (components.username ≡ None) × (components.password ≡ None)
     × (components.hostname ≡ None) × (components.port ≡ None)
 
--- Without a protocol, the first token decides whether the hash, the search or else the pathname
--- begins.
+-- `components` is the split of a text without a protocol, as no colon ends one. By its first token
+-- the text begins with the hash, with the search or else with the pathname. In a search or a
+-- pathname as many groups count as open at first as are open at End.
 pub record IsRelativeSplit (text : List ℕ) (tokens : List TokenView) (components : Values) : Type 0
   where
     pub until : ℕ
@@ -296,13 +319,14 @@ pub record IsRelativeSplit (text : List ℕ) (tokens : List TokenView) (componen
         × PathnameFrom text tokens 0 (depth_before tokens 0 0 until) components)
     pub nothing_before : NoAuthority components
 
--- Two slashes follow the position.
+-- Whether the two tokens after the token at `position` are slashes.
 abbrev pub has_slashes : List TokenView → ℕ → Bool
 has_slashes tokens position =
     is_slash_sign tokens (position + 1) && is_slash_sign tokens (position + 2)
 
--- After the protocol comes an authority if slashes follow or the protocol is special, else a
--- pathname with an empty hostname.
+-- `components` is the split of a text whose protocol ends at the token `colon`. After the colon an
+-- authority begins, if two slashes follow or the protocol matches a special scheme, otherwise a
+-- pathname, and then hostname and port are empty.
 pub record IsAbsoluteSplit (text : List ℕ) (tokens : List TokenView) (special : Bool) (colon : ℕ)
     (components : Values) : Type 0 where
   pub is_colon_there : IsTrue (is_colon_sign tokens colon)
@@ -319,8 +343,8 @@ pub record IsAbsoluteSplit (text : List ℕ) (tokens : List TokenView) (special 
       × (components.port ≡ Some [])
       × PathnameFrom text tokens (colon + 1) 0 components)
 
--- The components of the text with these tokens. `IsSpecial` relates the text of a protocol to
--- whether it is special.
+-- The components are the split of a text with these tokens, with a protocol or without one.
+-- `IsSpecial` relates the text of a protocol to whether it matches a special scheme.
 abbrev pub IsSplit : (IsSpecial : List ℕ → Bool → Type 0) → (text : List ℕ) → List TokenView
     → Values → Type 0
 IsSplit IsSpecial text tokens components =
@@ -328,7 +352,7 @@ IsSplit IsSpecial text tokens components =
     ⊎ ((colon : ℕ) × (special : Bool) × IsAbsoluteSplit text tokens special colon components
     × IsSomeAnd components.protocol (λ protocol. IsSpecial protocol special))
 
--- No protocol is found in the text.
+-- The text has no protocol: among its lenient tokens no colon ends one.
 abbrev pub LacksProtocol : (text : List ℕ) → Type 0
 LacksProtocol text =
     (tokens : List TokenView) × (until : ℕ)
@@ -336,7 +360,8 @@ LacksProtocol text =
     × EndsAt Protocol tokens 0 0 until
     × IsTrue (ends_at tokens until)
 
--- The text has a protocol, of which `Is` holds.
+-- The text has a protocol, which a colon ends among its lenient tokens, and `Is` holds of the
+-- protocol.
 abbrev pub HasProtocol : (text : List ℕ) → (Is : List ℕ → Type 0) → Type 0
 HasProtocol text Is =
     (tokens : List TokenView) × (colon : ℕ) × (protocol : List ℕ) × AreLenientTokens text tokens

@@ -1,5 +1,5 @@
--- Splitting a constructor string: its tokens, the tokens that may follow each component, and the
--- number of looks at a token.
+-- Splitting a constructor string: its tokens, the tokens that may follow each section, and the
+-- turns, that is, how often a token is examined.
 use Rattle.std.specs.Prelude.{◌≡◌, ℕ, ◌+◌, ◌-◌, ◌*◌, ◌<◌, ◌≤◌, ◌||◌, Bool, true, false, List, length, None, Option, Result, String, option_map, IfOk, IsTrue}
 use Rattle.std.specs.declared.alloc.Global.{Global}
 use Rattle.urlpattern_constructor.specs.Split.{NoAuthority, ends_at, is_ending, is_seen, is_slash_sign}
@@ -12,72 +12,75 @@ use Rattle.urlpattern_syntax.specs.declared.error.Error.{Error}
 use Rattle.urlpattern_components.specs.Eight.{Values, at, each}
 use Rattle.urlpattern_syntax.specs.Text.{chars, option_text, text_of}
 
--- The text of a source.
+-- The constructor string of a source, as characters.
 abbrev pub text_of_source : Source → List ℕ
 text_of_source source = chars source.input.now
 
--- The tokens of a source.
+-- The tokens of a source, as clauses see them.
 abbrev pub tokens_of : Source → List TokenView
 tokens_of source = views source.tokens.now
 
--- The components that were found.
+-- The components of a split, as clauses see them.
 abbrev pub split_values : Split → Values
 split_values split = each (λ name. option_text (at split.values name))
 
--- The result is an owned copy of the component, or memory ran out.
+-- The result is an owned copy of the component, None for None, or memory ran out.
 pub record IsOwned (component : Option (List ℕ)) (result : Result (Option (String Global)) Error) :
     Type 0 where
   pub ok : IfOk result (λ owned. option_map text_of owned ≡ component)
   pub memory : OnlyOutOfMemory result
 
--- The tokens are the lenient tokens of the text.
+-- The tokens of the source are the lenient tokens of its text.
 abbrev pub IsSource : Source → Type 0
 IsSource source = AreLenientTokens (text_of_source source) (tokens_of source)
 
--- The section may end at the position: at one of its signs, outside of square brackets, or at End.
-abbrev pub may_follow : Section → List TokenView → ℕ → Bool
-may_follow section tokens position =
+-- Whether the section may end before the token at `position`: one of its signs, where a colon
+-- counts as outside of square brackets, or End.
+abbrev pub may_end_before : Section → List TokenView → ℕ → Bool
+may_end_before section tokens position =
     is_ending section true tokens position || ends_at tokens position
 
 -- ---- turns
 
--- The turns so far and a look at each token from the index on are at most twice the number of
--- tokens.
+-- The number of turns so far and one turn more for each token from `index` on are at most twice the
+-- number of tokens.
 abbrev pub HasTurns : Source → (index turns : ℕ) → Type 0
 HasTurns source index turns =
     turns + (length source.tokens.now - index) ≤ 2 * length source.tokens.now
 
--- Reading may continue at the position, and a look at each token from there on keeps within twice
--- the number of tokens.
+-- A section may be read from the position on, which is that of a token: the depth is at most the
+-- number of tokens, and the turns allow one more for each token from there on, within twice the
+-- number of tokens.
 pub record CanRead (source : Source) (position : Position) : Type 0 where
   pub within : position.index < length source.tokens.now
   pub shallow : position.depth ≤ length source.tokens.now
   pub turns : HasTurns source position.index position.turns
 
--- The token at the position was looked at, and a look at each token after it keeps within twice the
--- number of tokens.
+-- A section was read up to the position, which is that of a token that was examined: the turns
+-- allow one more for each token after it, within twice the number of tokens.
 pub record HasRead (source : Source) (position : Position) : Type 0 where
   pub within : position.index < length source.tokens.now
   pub turns : position.turns + (length source.tokens.now - position.index)
       ≤ 2 * length source.tokens.now + 1
 
--- Where a slash is seen from the index on, a look at each token from there on keeps within twice
--- the number of tokens.
+-- If a slash is seen from `index` on, where `depth` groups are open, then `turns` allow one more
+-- for each token from `index` on, within twice the number of tokens. A slash that ends a hostname
+-- or a port is examined again, as it also begins the pathname.
 abbrev pub HasTurnForSlash : Source → (index depth turns : ℕ) → Type 0
 HasTurnForSlash source index depth turns =
     (other : ℕ) → index ≤ other → IsTrue (is_seen (tokens_of source) index depth other)
     → IsTrue (is_slash_sign (tokens_of source) other)
     → HasTurns source index turns
 
--- The section in which square brackets are counted.
+-- Whether the section is the hostname, in which square brackets are counted.
 abbrev pub is_hostname : Section → Bool
 is_hostname Section.Hostname = true
 is_hostname section = false
 
--- No component up to the pathname is present.
+-- The pathname and all components before it are None.
 abbrev pub NoPathname : Values → Type 0
 NoPathname components = NoAuthority components × (components.pathname ≡ None)
 
--- No component up to the search is present.
+-- The search and all components before it are None.
 abbrev pub NoSearch : Values → Type 0
 NoSearch components = NoPathname components × (components.search ≡ None)

@@ -1,23 +1,29 @@
-//! The components of a constructor string.
+//! Splits a constructor string into its components.
+//!
+//! A function named `.._from` begins at the first token of a component, and one named `.._at` at
+//! the token before which the last component ended. Each returns the components from there on, and
+//! `None` for those before them.
 ghost use Rattle.std.specs.Prelude.{◌≡◌, Some, ◌+◌, ◌*◌, ◌<◌, ◌≤◌, length, IsTrue, None};
 ghost use Rattle.std.specs.Str.{chars};
 ghost use Rattle.urlpattern_constructor.specs.declared.sections.Section.TheVariants.{Hostname, Pathname, Port, Search};
 ghost use Rattle.urlpattern_constructor.specs.Split.{AuthorityFrom, EndsAt, HashAt, HashFrom, HostnameFrom, IsAbsoluteSplit, IsRelativeSplit, IsTextBetween, NoAuthority, PathnameAt, PathnameFrom, PortAt, SearchAt, SearchFrom, UserinfoFrom, depth_before, ends_at, implied_pathname, is_at_sign, is_colon_sign, is_slash_sign};
-ghost use Rattle.urlpattern_constructor.specs.Splitting.{CanRead, HasRead, HasTurnForSlash, HasTurns, IsSource, NoPathname, NoSearch, may_follow, split_values, text_of_source, tokens_of};
+ghost use Rattle.urlpattern_constructor.specs.Splitting.{CanRead, HasRead, HasTurnForSlash, HasTurns, IsSource, NoPathname, NoSearch, may_end_before, split_values, text_of_source, tokens_of};
 
 use crate::sections::{Position, Section};
 use crate::tokens::Source;
 use urlpattern_components::{ComponentName, Eight};
 
-/// The components that were found, and the number of looks at a token.
+/// The components of a constructor string, and the number of times that a token was examined.
 #[derive(Drop)]
 pub struct Split<'a> {
+    /// The text of each component, or `None` for a component that is not present.
     pub values: Eight<Option<&'a str>>,
+    /// The number of times that a token was examined.
     pub turns: usize,
 }
 
 impl<'a> Split<'a> {
-    /// Returns a split without components.
+    /// Returns a split in which every component is `None`.
     fn nothing(turns: usize) -> Split<'a>
         ensures nothing { NoSearch (split_values result) }
         ensures hash { (split_values result).hash ≡ None }
@@ -34,7 +40,8 @@ impl<'a> Split<'a> {
 }
 
 impl<'t, 'a> Source<'t, 'a> {
-    /// Splits a text with a protocol, which ends at the colon.
+    /// Splits a string that begins with `protocol` and then the token `colon`. `special` says
+    /// whether the protocol matches a special scheme.
     pub fn absolute(&self, colon: Position, protocol: &'a str, special: bool) -> Split<'a>
         requires source { IsSource self.now }
         requires protocol { IsTextBetween (text_of_source self.now) (tokens_of self.now) 0
@@ -64,7 +71,8 @@ impl<'t, 'a> Source<'t, 'a> {
         Split { values, turns }
     }
 
-    /// Splits a text without a protocol, which was read up to its end.
+    /// Splits a string without a protocol, in which the search for a colon ended at `end`, the last
+    /// token. Reading begins again at the first token, but with the depth of `end`.
     pub fn relative(&self, end: Position) -> Split<'a>
         requires source { IsSource self.now }
         requires ends { EndsAt Section.Protocol (tokens_of self.now) 0 0 end.index }
@@ -85,7 +93,10 @@ impl<'t, 'a> Source<'t, 'a> {
         self.pathname_from(Position { index: 0, ..end })
     }
 
-    /// Reads the authority, which begins at a position, and the components after it.
+    /// Reads the authority, which begins at `from`, and the components after it. An authority that
+    /// ends at `@` is a username and a password; any other is read again from `from` on, as a
+    /// hostname, with the depth at its end. `special` says whether the protocol matches a special
+    /// scheme.
     fn authority_from(&self, from: Position, special: bool) -> Split<'a>
         requires source { IsSource self.now }
         requires within { from.index < length self.now.tokens.now }
@@ -113,8 +124,9 @@ impl<'t, 'a> Source<'t, 'a> {
         Split { values, turns }
     }
 
-    /// Reads the username and the password, which begin at a position and end before the sign
-    /// `until`, and the components after that sign.
+    /// Reads the username, which begins at `from`, the password, if a colon ends the username
+    /// before the `@` at index `until`, and the components after that `@`. `special` says whether
+    /// the protocol matches a special scheme.
     fn userinfo_from(&self, from: Position, until: usize, special: bool) -> Split<'a>
         requires source { IsSource self.now }
         requires ends { EndsAt Section.Authority (tokens_of self.now) from.index 0 until }
@@ -144,7 +156,8 @@ impl<'t, 'a> Source<'t, 'a> {
         Split { values, turns }
     }
 
-    /// Reads the hostname, which begins at a position, and the components after it.
+    /// Reads the hostname, which begins at `from`, and the components after it. `special` says
+    /// whether the protocol matches a special scheme.
     fn hostname_from(&self, from: Position, special: bool) -> Split<'a>
         requires source { IsSource self.now }
         requires reads { CanRead self.now from }
@@ -159,11 +172,13 @@ impl<'t, 'a> Source<'t, 'a> {
         Split { values, turns }
     }
 
-    /// Reads the port, if a colon is at the position, and the components after it.
+    /// Reads the port, after a hostname that ended before the token `end`, and the components after
+    /// it. The port is empty if the token is not a colon. `special` says whether the protocol
+    /// matches a special scheme.
     fn port_at(&self, end: Position, special: bool) -> Split<'a>
         requires source { IsSource self.now }
         requires reads { HasRead self.now end }
-        requires sign { IsTrue (may_follow Hostname (tokens_of self.now) end.index) }
+        requires sign { IsTrue (may_end_before Hostname (tokens_of self.now) end.index) }
         requires slash { HasTurnForSlash self.now end.index 0 end.turns }
         ensures split { PortAt (text_of_source self.now) (tokens_of self.now) special end.index
             (split_values result) }
@@ -181,12 +196,14 @@ impl<'t, 'a> Source<'t, 'a> {
         Split { values, turns }
     }
 
-    /// Reads the components after the hostname and the port: the pathname, if it begins at the
-    /// position, the search and the hash.
+    /// Reads the pathname, the search and the hash, after a hostname or a port that ended before
+    /// the token `end`. A slash begins the pathname; before a search or a hash the pathname is a
+    /// slash if the protocol matches a special scheme (`special`), otherwise empty; at the end of
+    /// the string all three are `None`.
     fn pathname_at(&self, end: Position, special: bool) -> Split<'a>
         requires source { IsSource self.now }
         requires reads { HasRead self.now end }
-        requires sign { IsTrue (may_follow Port (tokens_of self.now) end.index) }
+        requires sign { IsTrue (may_end_before Port (tokens_of self.now) end.index) }
         requires slash { IsTrue (is_slash_sign (tokens_of self.now) end.index)
             → HasTurns self.now end.index end.turns }
         ensures split { PathnameAt (text_of_source self.now) (tokens_of self.now) special end.index
@@ -205,7 +222,7 @@ impl<'t, 'a> Source<'t, 'a> {
         Split::nothing(end.turns)
     }
 
-    /// Reads the pathname, which begins at a position, the search and the hash.
+    /// Reads the pathname, which begins at `from`, and the search and the hash after it.
     fn pathname_from(&self, from: Position) -> Split<'a>
         requires source { IsSource self.now }
         requires reads { CanRead self.now from }
@@ -220,11 +237,12 @@ impl<'t, 'a> Source<'t, 'a> {
         Split { values, turns }
     }
 
-    /// Reads the search and the hash, if they begin after the token at the position.
+    /// Reads the search and the hash, after a pathname that ended before the token `end`. The
+    /// search is empty where a hash follows directly; at the end of the string both are `None`.
     fn search_at(&self, end: Position) -> Split<'a>
         requires source { IsSource self.now }
         requires reads { HasRead self.now end }
-        requires sign { IsTrue (may_follow Pathname (tokens_of self.now) end.index) }
+        requires sign { IsTrue (may_end_before Pathname (tokens_of self.now) end.index) }
         ensures split { SearchAt (text_of_source self.now) (tokens_of self.now) end.index
             (split_values result) }
         ensures nothing { NoPathname (split_values result) }
@@ -241,7 +259,7 @@ impl<'t, 'a> Source<'t, 'a> {
         Split::nothing(end.turns)
     }
 
-    /// Reads the search, which begins at a position, and the hash.
+    /// Reads the search, which begins at `from`, and the hash after it.
     fn search_from(&self, from: Position) -> Split<'a>
         requires source { IsSource self.now }
         requires reads { CanRead self.now from }
@@ -256,11 +274,12 @@ impl<'t, 'a> Source<'t, 'a> {
         Split { values, turns }
     }
 
-    /// Reads the hash, if it begins after the token at the position.
+    /// Reads the hash, after a search that ended before the token `end`. The hash is `None` if the
+    /// token is not a number sign.
     fn hash_at(&self, end: Position) -> Split<'a>
         requires source { IsSource self.now }
         requires reads { HasRead self.now end }
-        requires sign { IsTrue (may_follow Search (tokens_of self.now) end.index) }
+        requires sign { IsTrue (may_end_before Search (tokens_of self.now) end.index) }
         ensures split { HashAt (text_of_source self.now) (tokens_of self.now) end.index
             (split_values result) }
         ensures nothing { NoSearch (split_values result) }
@@ -272,7 +291,7 @@ impl<'t, 'a> Source<'t, 'a> {
         Split::nothing(end.turns)
     }
 
-    /// Reads the hash, which begins at a position.
+    /// Reads the hash, which begins at `from` and extends to the end of the string.
     fn hash_from(&self, from: Position) -> Split<'a>
         requires source { IsSource self.now }
         requires reads { CanRead self.now from }
@@ -288,7 +307,8 @@ impl<'t, 'a> Source<'t, 'a> {
     }
 }
 
-/// Returns the pathname where a search or a hash begins without one.
+/// Returns the pathname where a search or a hash directly follows the authority: a slash if the
+/// protocol matches a special scheme, otherwise empty.
 fn implied_pathname(special: bool) -> &'static str
     ensures { chars result.now ≡ implied_pathname special }
 {

@@ -6,7 +6,9 @@ ghost use Rattle.urlpattern_constructor.specs.Splitting.{IsSource, is_hostname, 
 use crate::tokens::Source;
 use urlpattern_syntax::tokenizer::TokenType;
 
-/// A section of a constructor string, which ends at its own signs.
+/// A section of a constructor string, which ends at one of its own signs, such as a slash, or at
+/// the end of the string: a component, or the authority, up to the first sign that tells whether it
+/// has a username.
 ///
 /// <https://urlpattern.spec.whatwg.org/#constructor-string-parser-state>
 #[derive(Clone, Copy, PartialEq, Eq)]
@@ -22,19 +24,19 @@ pub enum Section {
     Hash,
 }
 
-/// The progress in reading the tokens.
+/// A place among the tokens of a constructor string, with the open groups and the work so far.
 #[derive(Clone, Copy)]
 pub struct Position {
     /// The index of the token to be read next.
     pub index: usize,
-    /// The number of groups that are open before the token at `index`.
+    /// The number of groups in braces that are open before the token at `index`.
     pub depth: usize,
-    /// The number of looks at a token so far.
+    /// The number of times that a token was examined so far.
     pub turns: usize,
 }
 
 impl Position {
-    /// Returns the position `count` tokens after this one, outside of all groups.
+    /// Returns the position `count` tokens after this one, with a depth of 0.
     pub fn after(self, count: usize) -> Position
         requires { self.index + count < 2 ^ 64 }
         ensures index { result.index ≡ self.index + count }
@@ -50,9 +52,9 @@ impl Position {
 }
 
 impl<'t, 'a> Source<'t, 'a> {
-    /// Returns the position of the token with which a section ends that begins at `from`: the first
-    /// that is seen and is one of the section's signs, or the end. Every token up to there is
-    /// looked at once.
+    /// Returns the position of the token before which a section that begins at `from` ends: the
+    /// first of the section's signs outside of all groups, or else the last token, `End`. Each
+    /// token from `from` up to that position, inclusive, is examined once.
     pub fn end_of(&self, section: Section, from: Position) -> Position
         requires source { IsSource self.now }
         requires within { from.index < length self.now.tokens.now }
@@ -84,8 +86,8 @@ impl<'t, 'a> Source<'t, 'a> {
         }
     }
 
-    /// Whether a section ends with the token at the index, where `balanced` says that a colon there
-    /// is outside of square brackets.
+    /// Whether the token at `index` is a sign that ends `section`. A colon ends a hostname only
+    /// where `balanced` says that it is outside of square brackets.
     fn is_ending(&self, section: Section, balanced: bool, index: usize) -> bool
         ensures { result ≡ is_ending section balanced (tokens_of self.now) index }
     {
@@ -118,8 +120,8 @@ impl<'t, 'a> Source<'t, 'a> {
         }
     }
 
-    /// Returns the count with the token at the index, if it is seen, is this bracket and counts in
-    /// the section.
+    /// Returns `count`, and one more if the token at `index` is the square bracket `mark`, is
+    /// outside of all groups (`is_seen`), and the section is a hostname.
     fn count_bracket(
         &self,
         section: Section,
@@ -147,21 +149,23 @@ impl<'t, 'a> Source<'t, 'a> {
     }
 }
 
-/// Whether the kind is that of the last token.
+/// Whether the kind is `End`, which only the last token has.
 fn is_end(kind: TokenType) -> bool
     ensures { result ≡ is_end kind }
 {
     matches!(kind, TokenType::End)
 }
 
-/// Whether a token of the kind is seen at a depth of groups, where it is not the last.
+/// Whether a token of the kind, other than `End`, is outside of all groups and opens none, where
+/// `depth` groups are open before the token.
 fn is_seen(kind: TokenType, depth: usize) -> bool
     ensures { result ≡ (not (is_open kind) && depth == 0) }
 {
     !matches!(kind, TokenType::Open) && depth == 0
 }
 
-/// Returns the depth of groups after a token of the kind.
+/// Returns the number of open groups after a token of the kind, where `depth` are open before it. A
+/// closing brace without a group is ignored.
 fn depth_after(kind: TokenType, depth: usize) -> usize
     requires { depth + 1 < 2 ^ 64 }
     ensures { result ≡ depth_after kind depth }

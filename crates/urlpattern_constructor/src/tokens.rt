@@ -14,7 +14,8 @@ pub struct Source<'t, 'a> {
 }
 
 impl<'t, 'a> Source<'t, 'a> {
-    /// Whether the token at the index is this ASCII character.
+    /// Whether there is a token at `index` and it is the ASCII character `mark`: literal, escaped,
+    /// or one at which no other token begins, such as the colon of `http://`.
     pub fn is_non_special_pattern_char(&self, index: usize, mark: u8) -> bool
         requires { mark < 128 }
         ensures { result
@@ -26,7 +27,8 @@ impl<'t, 'a> Source<'t, 'a> {
         }
     }
 
-    /// Whether the search begins after the token at the index.
+    /// Whether the token at `index` is a question mark that begins the search: a character, such as
+    /// an escaped one, or not a modifier of the token before it.
     ///
     /// <https://urlpattern.spec.whatwg.org/#is-a-search-prefix>
     pub fn is_search_prefix(&self, index: usize) -> bool
@@ -41,7 +43,7 @@ impl<'t, 'a> Source<'t, 'a> {
         }
     }
 
-    /// Whether a question mark at the index would modify the token before it.
+    /// Whether a question mark at `index` would modify the token before it.
     fn follows_modified(&self, index: usize) -> bool
         ensures { result ≡ follows_modified (tokens_of self.now) index }
     {
@@ -54,7 +56,7 @@ impl<'t, 'a> Source<'t, 'a> {
         }
     }
 
-    /// Whether two slashes follow the token at the index.
+    /// Whether the two tokens after the token at `index` are slashes.
     ///
     /// <https://urlpattern.spec.whatwg.org/#next-is-authority-slashes>
     pub fn has_slashes(&self, index: usize) -> bool
@@ -65,7 +67,7 @@ impl<'t, 'a> Source<'t, 'a> {
             && self.is_non_special_pattern_char(index + 2, b'/')
     }
 
-    /// Returns the text from the token at index `from` up to the token at index `until`.
+    /// Returns the text from the token at index `from` up to the token at index `until`, exclusive.
     ///
     /// <https://urlpattern.spec.whatwg.org/#make-a-component-string>
     pub fn text_between(&self, from: usize, until: usize) -> &'a str
@@ -79,7 +81,8 @@ impl<'t, 'a> Source<'t, 'a> {
     }
 }
 
-/// Whether a token of the kind is a literal character.
+/// Whether a token of the kind is a character: literal, escaped, or one at which no other token
+/// begins.
 ///
 /// <https://urlpattern.spec.whatwg.org/#is-a-non-special-pattern-char>
 fn is_character(kind: TokenType) -> bool
@@ -101,7 +104,7 @@ fn takes_modifier(kind: TokenType) -> bool
     )
 }
 
-/// Whether the text is this ASCII character.
+/// Whether the text is the single ASCII character `mark`.
 fn is_mark(text: &str, mark: u8) -> bool
     requires { mark < 128 }
     ensures { result ≡ bytes_eq (chars text.now) (mark ∷ []) }

@@ -10,7 +10,7 @@ use Rattle.urlpattern_diagnosis.specs.Faults.{HasTokenFault, IsAfterRegexpStart,
 use Rattle.urlpattern_diagnosis.specs.Spans.{IsSpanAt}
 use Rattle.urlpattern_diagnosis.specs.declared.{fault.Fault.Fault, span.Span.Span}
 use Rattle.urlpattern_meaning.proofs.BodyStartTokens.{fault_at_one, no_fault}
-use Rattle.urlpattern_parser.specs.Bodies.{IsRefusedOf}
+use Rattle.urlpattern_parser.specs.Bodies.{AreInvalidBytes}
 use Rattle.urlpattern_syntax.specs.Text.{byte_len}
 use Rattle.urlpattern_syntax.specs.Tokens.{FaultView, IncompleteEscapeCode, InvalidRegex, IsCut, IsFault, IsFaultAt, IsRegexpStart, IsTokenOf, TokenView}
 use Rattle.urlpattern_syntax.proofs.TextLemmas.{byte_len-chars, length-le-byte_len}
@@ -115,12 +115,12 @@ module _ (text reported : List ℕ) (faulty : IsFaultAt (codes "(" ++ chars text
   ends_open fault is (inl escape) = let same = fault_at_one (codes "(" ++ chars text) fault (InvalidRegex reported) is faulty in absurd cc
   ends_open fault is (inr front) = front
 
-  pub refused_end : (fault : FaultView) (refused : Option (Bor (List ℕ) × ℕ)) → IsFaultAt (codes "(" ++ chars text) fault → IsRefusedOf text fault refused → IfNone refused (IsRegexpStart (chars text))
+  pub refused_end : (fault : FaultView) (refused : Option (Bor (List ℕ) × ℕ)) → IsFaultAt (codes "(" ++ chars text) fault → AreInvalidBytes text fault refused → IfNone refused (IsRegexpStart (chars text))
   refused_end fault None is refuses = ends_open fault is refuses
   refused_end fault (Some found) is refuses = tt
 
 -- what may not be there
-pub rejected_part : (text : List ℕ) (fault : FaultView) (refused : Option (Bor (List ℕ) × ℕ)) → IsRefusedOf text fault refused
+pub rejected_part : (text : List ℕ) (fault : FaultView) (refused : Option (Bor (List ℕ) × ℕ)) → AreInvalidBytes text fault refused
     → IfSome refused (λ found. IsAfterRegexpStart (chars text) (chars found.0.now)) × IfSome refused (λ found. IsRejectedStart (chars found.0.now) found.1) × IfSome refused (λ found. length found.0.now ≤ length text)
 rejected_part text fault None refuses = (tt, tt, tt)
 rejected_part text fault (Some found) refuses = refuses

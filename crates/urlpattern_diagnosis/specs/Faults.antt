@@ -1,4 +1,8 @@
--- Where the pattern text of a component is at fault. Texts are their bytes.
+-- Where a text is at fault: the pattern of a component, or a text that is rejected as a whole.
+-- Texts are their bytes, but a prefix code point, and what is left of a text where no token begins,
+-- are characters. The pieces of a text are the characters, placeholders and groups as which a
+-- parser reads its tokens, up to the first token that begins no piece. A component is None for a
+-- text that is not the pattern of a certain component.
 use Rattle.std.specs.Prelude.{◌≡◌, ℕ, ◌+◌, ◌⊎◌, ◌&&◌, ◌==◌, Bool, true, false, List, [], ◌∷◌, length, map, filter, take, drop, min, bytes_eq, IsTrue, Option, Some, None, IsSomeAnd, IfSome, MatchBool, string_bytes, ◌++◌, ◌||◌, MatchOption, codes, if◌then◌else◌, nat_eq}
 use Rattle.std.specs.List.{list_any, starts_with}
 use Rattle.std.specs.Str.{chars}
@@ -29,26 +33,26 @@ marks_len EscapedChar = 1
 marks_len Regexp = 2
 marks_len kind = 0
 
--- The span of a token's spelling.
+-- `span` is where the text `bytes` has the token, with the signs that are not part of its value.
 abbrev pub IsSpanOfToken : (bytes : List ℕ) → Token → Span → Type 0
 IsSpanOfToken bytes token span =
     IsSpanAt bytes token.index (length token.value.now + marks_len token.kind) span
 
--- The span of a custom expression, between its parentheses.
+-- `span` is where the text `bytes` has the custom expression `token`, without its parentheses.
 abbrev pub IsSpanOfBody : (bytes : List ℕ) → Token → Span → Type 0
 IsSpanOfBody bytes token span = IsSpanAt bytes (token.index + 1) (length token.value.now) span
 
 -- ---- faults
 
--- The spans of the fault are within the text.
+-- The spans of the fault are within the text, and cut no character.
 abbrev pub IsFaultIn : (bytes : List ℕ) → Fault → Type 0
 IsFaultIn bytes fault = IsSpanIn bytes fault.span × IfSome fault.earlier (IsSpanIn bytes)
 
--- The fault has a single span, with the property `Is`.
+-- The span of the fault has the property `Is`, and there is no earlier part.
 abbrev pub IsSingleSpan : (Is : Span → Type 0) → Fault → Type 0
 IsSingleSpan Is fault = Is fault.span × (fault.earlier ≡ None)
 
--- The whole text is at fault.
+-- The fault is the whole text.
 abbrev pub IsWholeFault : (bytes : List ℕ) → Fault → Type 0
 IsWholeFault bytes fault = IsSingleSpan (λ span. span ≡ whole_span bytes) fault
 
@@ -58,8 +62,8 @@ IsWholeFault bytes fault = IsSingleSpan (λ span. span ≡ whole_span bytes) fau
 abbrev pub begins : (bytes front : List ℕ) → Bool
 begins bytes front = starts_with nat_eq bytes front
 
--- The length of the special scheme at the beginning of a text, or of the pattern of two schemes, if
--- two slashes follow: the place of the missing colon.
+-- The length of the special scheme at the beginning of a text, or of the pattern `http{s}?`, if two
+-- slashes follow: the place of the missing colon. None if the text does not begin so.
 abbrev pub missing_colon : (bytes : List ℕ) → Option ℕ
 missing_colon bytes =
     if begins bytes (codes "http{s}?//") then Some 8
@@ -70,7 +74,7 @@ missing_colon bytes =
     else None
 
 -- The length of the special scheme at the beginning of a text, if `;` and two slashes follow: the
--- place of the `;`.
+-- place of the `;`. None if the text does not begin so.
 abbrev pub mistyped_colon : (bytes : List ℕ) → Option ℕ
 mistyped_colon bytes =
     if begins bytes (codes "https;//") then Some 5
@@ -79,33 +83,34 @@ mistyped_colon bytes =
     else if begins bytes (codes "ws;//") then Some 2
     else None
 
--- The `;` in place of the colon after a scheme is at fault, or else the whole text.
+-- The fault is the `;` in place of the colon after a special scheme, or else the whole text.
 abbrev pub IsSignFault : (bytes : List ℕ) → Fault → Type 0
 IsSignFault bytes fault =
     MatchOption (mistyped_colon bytes) (IsWholeFault bytes fault) (λ place.
     IsSingleSpan (IsSpanAt bytes place 1) fault)
 
--- The place of the missing or mistyped colon after a scheme is at fault, or else the whole text.
+-- The fault is the place where the colon after a special scheme or `http{s}?` is missing, or the
+-- `;` in place of the colon after a special scheme, or else the whole text.
 abbrev pub IsUrlFault : (bytes : List ℕ) → Fault → Type 0
 IsUrlFault bytes fault =
     MatchOption (missing_colon bytes) (IsSignFault bytes fault) (λ place.
     IsSingleSpan (IsSpanAt bytes place 0) fault)
 
--- A character of a path, a search or a hash that no protocol has.
+-- Whether a character is one of a path, a search or a hash that no protocol has: `/`, `=` or `#`.
 abbrev pub is_path_sign : ℕ → Bool
 is_path_sign c = is_among (codes "/#=") c
 
--- The colon after a text with a character of a path, a search or a hash is at fault: that text is
--- no protocol.
+-- `before`, the text before a colon, has a character of a path, a search or a hash, and so is not a
+-- protocol; the fault is that colon, or the backslash that escapes it.
 abbrev pub IsColonFault : (bytes before : List ℕ) → Fault → Type 0
 IsColonFault bytes before fault =
     IsTrue (list_any is_path_sign before) × IsSingleSpan (IsSpanAt bytes (length before) 1) fault
 
 -- ---- where no token begins
 
--- `rest` follows the `(` at the place, and is no custom expression: it is empty or begins with `?`;
--- or it does not end, and the `(` is at fault; or else a part of it is at fault, and conflicts with
--- the `(`.
+-- `rest` follows the `(` at `place`, and does not begin with a custom expression: it begins with
+-- `?` or `)`, and the `(` is at fault with that sign; or it does not end the expression, and the
+-- `(` is at fault; or else bytes of it are at fault, with the `(` as the earlier part.
 abbrev pub IsBodyFault : (bytes : List ℕ) → (place : ℕ) → (rest : List ℕ) → Fault → Type 0
 IsBodyFault bytes place rest fault =
     (BeginsWith (is_among (codes "?)")) rest × IsSingleSpan (IsSpanAt bytes place 2) fault)
@@ -125,8 +130,8 @@ abbrev pub IsLastBracket : (bracket bytes : List ℕ) → (place : ℕ) → Type
 IsLastBracket bracket bytes place =
     (rest : List ℕ) × (drop place bytes ≡ bracket ++ rest) × (list_any is_bracket rest ≡ false)
 
--- The last square bracket of the text is a `[` at the place; or, for `None`, a `]`, or there is
--- none.
+-- The result is the place of the last square bracket of the text, if it is a `[`; None if it is a
+-- `]`, or if there is no bracket.
 abbrev pub IsOpenBracket : (bytes : List ℕ) → Option ℕ → Type 0
 IsOpenBracket bytes (Some place) = IsLastBracket (codes "[") bytes place
 IsOpenBracket bytes None =
@@ -138,13 +143,13 @@ is_of_hostname None = false
 is_of_hostname (Some Hostname) = true
 is_of_hostname (Some component) = false
 
--- The lesser of two places, or the place that there is.
+-- The lesser of two places, of which the first may be missing.
 abbrev pub first_place : Option ℕ → ℕ → ℕ
 first_place None place = place
 first_place (Some other) place = min other place
 
--- No name follows the colon at the place. The colon is at fault, or in a hostname an unclosed `[`
--- before it.
+-- `fault` is the part at fault in a text where no name follows the colon at `place`: the colon, or
+-- in a hostname an unclosed `[` before it.
 abbrev pub IsNameFault : Option ComponentName → (bytes : List ℕ) → (place : ℕ) → Fault → Type 0
 IsNameFault component bytes place fault =
     MatchBool (is_of_hostname component)
@@ -152,8 +157,9 @@ IsNameFault component bytes place fault =
     × IsSingleSpan (IsSpanAt bytes (first_place bracket place) 1) fault)
     (IsSingleSpan (IsSpanAt bytes place 1) fault)
 
--- No token begins at the place, where `left` begins, for this reason: the fault is a backslash at
--- the end, a name, or a custom expression.
+-- `fault` is the part at fault in a text in which no token begins at `place`, where `left` begins:
+-- by the reason, the backslash at the end, the colon without a name, or what is at fault in a
+-- custom expression.
 abbrev pub IsTokenFault : Option ComponentName → (bytes : List ℕ) → (place : ℕ)
     → (left : List ℕ) → FaultView → Fault → Type 0
 IsTokenFault component bytes place left IncompleteEscapeCode fault =
@@ -163,18 +169,21 @@ IsTokenFault component bytes place left InvalidName fault = IsNameFault componen
 IsTokenFault component bytes place left (InvalidRegex reported) fault =
     (rest : List ℕ) × (left ≡ codes "(" ++ rest) × IsBodyFault bytes place rest fault
 
--- The first fault of the text is at the place, for this reason, and `fault` is what is at fault.
+-- `place` is the first at which no token of the text begins, for the reason `reported`, and `fault`
+-- is the part at fault.
 abbrev pub HasTokenFault : Option ComponentName → (bytes : List ℕ) → FaultView → (place : ℕ) → Fault
     → Type 0
 HasTokenFault component bytes reported place fault =
     (is : IsFault (chars bytes) reported place)
     × IsTokenFault component bytes place is.left reported fault
 
+-- Whether a token of this kind is the end of a text.
 abbrev pub is_end_kind : TokenType → Bool
 is_end_kind End = true
 is_end_kind kind = false
 
--- The token at which the pieces of the text before the place end, unless they are all of that text.
+-- `earlier` is the token at which the pieces of the text before `place` end, under the prefix code
+-- point `point`; None if the pieces are all of that text.
 abbrev pub IsStopBefore : (bytes point : List ℕ) → (place : ℕ) → Option Span → Type 0
 IsStopBefore bytes point place earlier =
     (stop : Stop)
@@ -182,15 +191,16 @@ IsStopBefore bytes point place earlier =
     × MatchBool (is_end_kind stop.found.kind) (earlier ≡ None)
     (IsSomeAnd earlier (IsSpanOfToken bytes stop.found))
 
--- The fault is that of `alone`; if it has no earlier part, the token at which the pieces before it
--- end is at fault too.
+-- `fault` is `alone`, with an earlier part if `alone` has none: the token at which the pieces of
+-- the text before `place` end, if there is one.
 abbrev pub IsWithStop : (bytes point : List ℕ) → (place : ℕ) → (alone fault : Fault) → Type 0
 IsWithStop bytes point place alone fault =
     (fault.span ≡ alone.span)
     × MatchOption alone.earlier (IsStopBefore bytes point place fault.earlier)
     (λ span. fault.earlier ≡ Some span)
 
--- The first fault of the text, with an earlier token that is at fault too.
+-- `fault` is the part at fault in a text in which `place` is the first at which no token begins,
+-- for the reason `reported`; an earlier token that is at fault too is its earlier part.
 abbrev pub IsFirstFault : Option ComponentName → (bytes point : List ℕ) → FaultView
     → (place : ℕ) → Fault → Type 0
 IsFirstFault component bytes point reported place fault =
@@ -199,28 +209,33 @@ IsFirstFault component bytes point reported place fault =
 
 -- ---- where the tokens are no pattern
 
--- The token at which the pieces end is at fault, with the brace of a group that lacks its end.
+-- The fault is the token at which the pieces end, and its earlier part the brace of a group that
+-- lacks its end there, if any.
 abbrev pub IsStopFault : (bytes : List ℕ) → Stop → Fault → Type 0
 IsStopFault bytes stop fault =
     IsSpanOfToken bytes stop.found fault.span
     × MatchBool (stop.first.index == stop.found.index) (fault.earlier ≡ None)
     (IsSomeAnd fault.earlier (IsSpanOfToken bytes stop.first))
 
+-- Whether a token of this kind is a name.
 abbrev pub is_name : TokenType → Bool
 is_name Name = true
 is_name kind = false
 
--- The token is this name.
+-- Whether the token is a name, and its value is `name`.
 abbrev pub gives_name : (name : List ℕ) → Token → Bool
 gives_name name token = is_name token.kind && bytes_eq token.value.now name
 
--- The second of the tokens with a name is at fault, with the first.
+-- The fault is the second of the tokens, which have a name in common, and its earlier part the
+-- first; or the whole text if there are not two.
 abbrev pub IsSecondFault : (bytes : List ℕ) → List Token → Fault → Type 0
 IsSecondFault bytes (first ∷ second ∷ more) fault =
     IsSpanOfToken bytes second fault.span × IsSomeAnd fault.earlier (IsSpanOfToken bytes first)
 IsSecondFault bytes tokens fault = IsWholeFault bytes fault
 
--- The fault of tokens that are no pattern, and whose pieces end at `stop`.
+-- `fault` is the part at fault in a text that consists of tokens, whose pieces end at `stop`, and
+-- which the parser rejects with this error: the token at the stop, or the second of two equal
+-- names.
 abbrev pub IsParserFault : (bytes : List ℕ) → Stop → ParserError → Fault → Type 0
 IsParserFault bytes stop (parser_errors.ExpectedToken expected found value) fault =
     IsStopFault bytes stop fault
@@ -228,14 +243,18 @@ IsParserFault bytes stop (parser_errors.DuplicateName name) fault =
     (tokens : List Token) × AreTokens (chars bytes) (map token_view tokens)
     × IsSecondFault bytes (filter (gives_name (string_bytes name)) tokens) fault
 
--- The fault of a text that consists of tokens, by the error with which the text is rejected.
+-- `fault` is the part at fault in a text that consists of tokens and is rejected with this error
+-- under the prefix code point `point`: as in `IsParserFault`, or the whole text if the parser did
+-- not report the error.
 abbrev pub IsFaultOfError : (bytes point : List ℕ) → Error → Fault → Type 0
 IsFaultOfError bytes point (errors.Parser error) fault =
     (stop : Stop) × IsStopOf (chars bytes) point (token_view stop.first) (token_view stop.found)
     × IsParserFault bytes stop error fault
 IsFaultOfError bytes point other fault = IsWholeFault bytes fault
 
--- The fault is at the first character that begins no token. If each begins one, the error decides.
+-- `fault` is the part at fault in a text, the pattern of a component: at the first place at which
+-- no token begins, or, if the text consists of tokens, by the error with which it is rejected under
+-- the prefix code point `point`.
 abbrev pub IsFaultOf : Option ComponentName → (bytes point : List ℕ) → Error → Fault → Type 0
 IsFaultOf component bytes point error fault =
     ((reported : FaultView) × (place : ℕ) × IsFirstFault component bytes point reported place fault)

@@ -3,11 +3,12 @@
 use crate::fault::Fault;
 use crate::wide::ascii_form;
 
-/// Whether the first bracket of a kind at or after a place is not closed.
-pub(crate) fn is_unclosed(part: &str, place: usize, open: u8, close: u8) -> bool {
+/// Whether no `close` matches the first `open` at or after `place`. Escaped bytes do not count.
+/// `false` if there is no `open`.
+pub(crate) fn is_unclosed(pattern: &str, place: usize, open: u8, close: u8) -> bool {
     let mut depth = 0usize;
     let mut is_escaped = false;
-    for byte in part.as_bytes().iter().skip(place) {
+    for byte in pattern.as_bytes().iter().skip(place) {
         if is_escaped {
             is_escaped = false;
         } else if *byte == b'\\' {
@@ -24,11 +25,12 @@ pub(crate) fn is_unclosed(part: &str, place: usize, open: u8, close: u8) -> bool
     depth > 0
 }
 
-/// Whether a place is within square brackets that begin at or after `start`.
-pub(crate) fn is_in_class(part: &str, start: usize, place: usize) -> bool {
+/// Whether `place` is within square brackets that begin at or after `start`. Escaped brackets do
+/// not count.
+pub(crate) fn is_in_class(pattern: &str, start: usize, place: usize) -> bool {
     let mut is_open = false;
     let mut is_escaped = false;
-    for byte in part.as_bytes().iter().take(place).skip(start) {
+    for byte in pattern.as_bytes().iter().take(place).skip(start) {
         match byte {
             _ if is_escaped => is_escaped = false,
             b'\\' => is_escaped = true,
@@ -40,13 +42,13 @@ pub(crate) fn is_in_class(part: &str, start: usize, place: usize) -> bool {
     is_open
 }
 
-/// Whether the first class between two places that contains a `)` ends after it, before another
-/// class begins.
-pub(crate) fn has_cut_class(part: &str, start: usize, end: usize) -> bool {
+/// Whether, between two places, the first `)` within square brackets is followed by their `]`
+/// before another `[`, so that the `)` ends a custom expression in the middle of a class.
+pub(crate) fn has_cut_class(pattern: &str, start: usize, end: usize) -> bool {
     let mut is_open = false;
     let mut is_cut = false;
     let mut is_escaped = false;
-    for byte in part.as_bytes().iter().take(end).skip(start) {
+    for byte in pattern.as_bytes().iter().take(end).skip(start) {
         match byte {
             _ if is_escaped => is_escaped = false,
             b'\\' => is_escaped = true,
@@ -61,11 +63,12 @@ pub(crate) fn has_cut_class(part: &str, start: usize, end: usize) -> bool {
     false
 }
 
-/// The first `]` or `}` at or after a place that closes neither a class nor a count.
-pub(crate) fn stray_bracket(part: &str, place: usize) -> Option<char> {
+/// Returns the first `]` or `}` at or after a place that is not escaped, is not in a class or a
+/// count, and closes none. `None`: there is no such bracket.
+pub(crate) fn stray_bracket(pattern: &str, place: usize) -> Option<char> {
     let mut is_escaped = false;
     let mut awaited = b' ';
-    for byte in part.as_bytes().iter().skip(place) {
+    for byte in pattern.as_bytes().iter().skip(place) {
         match *byte {
             _ if is_escaped => is_escaped = false,
             b'\\' => is_escaped = true,
@@ -79,9 +82,10 @@ pub(crate) fn stray_bracket(part: &str, place: usize) -> Option<char> {
     None
 }
 
-/// The ASCII form of the first full-width mark before a place.
-pub(crate) fn wide_mark(part: &str, place: usize) -> Option<char> {
-    for (index, c) in part.char_indices() {
+/// Returns the ASCII form of the first full-width mark before a place: of `(`, `)`, `{`, `}`, `:`,
+/// `*` or `\`. `None`: there is no such mark.
+pub(crate) fn wide_mark(pattern: &str, place: usize) -> Option<char> {
+    for (index, c) in pattern.char_indices() {
         if index >= place {
             return None;
         }
@@ -93,9 +97,9 @@ pub(crate) fn wide_mark(part: &str, place: usize) -> Option<char> {
     None
 }
 
-/// Whether a modifier is right before a place, and not escaped.
-pub(crate) fn is_after_modifier(part: &str, place: usize) -> bool {
-    let bytes = part.as_bytes();
+/// Whether `*`, `+` or `?` is right before a place, and no backslash is before that.
+pub(crate) fn is_after_modifier(pattern: &str, place: usize) -> bool {
+    let bytes = pattern.as_bytes();
     match place.checked_sub(1) {
         Some(last) => {
             matches!(bytes.get(last), Some(b'*' | b'+' | b'?'))
@@ -105,9 +109,15 @@ pub(crate) fn is_after_modifier(part: &str, place: usize) -> bool {
     }
 }
 
-/// Whether a class, `.` or a backslash and a letter is right before a place.
-pub(crate) fn is_after_expression(part: &str, place: usize) -> bool {
-    let bytes = part.as_bytes();
+/// Whether an escaped `)` is at or after a place.
+pub(crate) fn has_escaped_close(pattern: &str, place: usize) -> bool {
+    pattern.get(place..).unwrap_or("").contains("\\)")
+}
+
+/// Whether a regular expression seems to end right before a place: with `]`, `.`, or a backslash
+/// and a letter.
+pub(crate) fn is_after_expression(pattern: &str, place: usize) -> bool {
+    let bytes = pattern.as_bytes();
     match bytes.get(place.saturating_sub(1)) {
         Some(b']' | b'.') => true,
         Some(byte) if byte.is_ascii_alphabetic() => {
@@ -117,20 +127,21 @@ pub(crate) fn is_after_expression(part: &str, place: usize) -> bool {
     }
 }
 
-/// The `-` or `^` at a place, if there is one.
-pub(crate) fn sign_at(part: &str, place: usize) -> Option<char> {
-    match part.as_bytes().get(place) {
+/// Returns the `-` or `^` at a place. `None`: another character is there.
+pub(crate) fn sign_at(pattern: &str, place: usize) -> Option<char> {
+    match pattern.as_bytes().get(place) {
         Some(b'-') => Some('-'),
         Some(b'^') => Some('^'),
         _ => None,
     }
 }
 
-/// Whether only a word is between the brace of a group and the fault in the group.
-pub(crate) fn is_after_word(part: &str, fault: Fault) -> bool {
+/// Whether a group, whose brace is the earlier part of the fault, has only a word before the part
+/// at fault: a name, perhaps, that lacks its `:`.
+pub(crate) fn is_after_word(pattern: &str, fault: Fault) -> bool {
     let Some(open) = fault.earlier else {
         return false;
     };
-    let word = part.get(open.end..fault.span.start).unwrap_or("");
+    let word = pattern.get(open.end..fault.span.start).unwrap_or("");
     !word.is_empty() && !word.contains([':', '*', '(', ']', '}', '\\', '.', '/', '-', ' '])
 }

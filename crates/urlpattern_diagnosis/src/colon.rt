@@ -6,12 +6,13 @@ use crate::reason::Faulty;
 use crate::sentence::Sentence;
 use urlpattern_components::ComponentName;
 
-/// The reason why no name follows a colon in a component's pattern.
+/// Returns why no name follows a colon in a component's pattern, and what to write.
 pub(crate) fn colon_sentence<'a>(faulty: &'a Faulty<'_>) -> Sentence<'a> {
     faulty.sentence(colon_words(faulty), "write `\\:` for the character itself")
 }
 
-/// The words for a colon in a component's pattern.
+/// Returns the words for a colon that no name follows in a component's pattern, with `#` for how to
+/// write a colon, and `~` for the character of the hint.
 fn colon_words(faulty: &Faulty<'_>) -> &'static str {
     match (faulty.subject, faulty.hint) {
         _ if faulty.part == "[" => {
@@ -36,7 +37,8 @@ fn colon_words(faulty: &Faulty<'_>) -> &'static str {
     }
 }
 
-/// The words for a colon before a text that is no name.
+/// Returns the words for a colon before a text that is not a name, with `#` for how to write a
+/// colon, and `~` for the character of the hint.
 fn name_words(hint: Hint) -> &'static str {
     match hint {
         Hint::NameBegins(_) => {
@@ -50,7 +52,8 @@ fn name_words(hint: Hint) -> &'static str {
     }
 }
 
-/// The reason why the colon at a byte index ends no protocol, after a path, a search or a hash.
+/// Returns why the colon at the byte index `place`, or the colon after a backslash there, does not
+/// end a protocol: the text before it is a path, a search or a hash.
 pub(crate) fn path_colon_sentence(text: &str, place: usize) -> Sentence<'_> {
     let bytes = text.as_bytes();
     let hint = next_hint(bytes.get(place.saturating_add(1)));

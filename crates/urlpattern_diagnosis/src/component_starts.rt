@@ -3,8 +3,8 @@ ghost use Rattle.std.specs.Prelude.{◌≤◌, length};
 
 use urlpattern_components::{ComponentName, Eight};
 
-/// The byte index at which a component begins in a constructor string that is split into
-/// `components`.
+/// Returns the byte index at which a component begins in a constructor string that is split into
+/// `components`. For a component that is missing, the index is that after the last component.
 ///
 /// Text and components are read side by side: each component follows the signs before it, which may
 /// be escaped.
@@ -26,7 +26,8 @@ pub fn component_start(
     text.len() - rest.len()
 }
 
-/// The text after the signs before a component.
+/// Returns the rest of `text` after the signs before a component, such as `://` or `?`; all of the
+/// text if the signs are missing.
 fn after_signs<'a>(
     text: &'a str,
     components: &Eight<Option<&str>>,
@@ -59,7 +60,7 @@ fn is_empty(component: &Option<&str>) -> bool {
     }
 }
 
-/// The text after this part, if the text begins with it.
+/// Returns the rest of a text after `part`; all of the text if it does not begin with the part.
 fn after<'a>(text: &'a str, part: &str) -> &'a str
     ensures { length result.now ≤ length text.now }
 {
@@ -69,8 +70,8 @@ fn after<'a>(text: &'a str, part: &str) -> &'a str
     }
 }
 
-/// The text after this character, which may be escaped, and after the tabs and line ends that
-/// follow.
+/// Returns the rest of a text after `sign`, which may be escaped, and after the tabs and line ends
+/// that follow; all of the text if it does not begin with the sign.
 fn after_sign(text: &str, sign: char) -> &str
     ensures { length result.now ≤ length text.now }
 {
@@ -81,7 +82,7 @@ fn after_sign(text: &str, sign: char) -> &str
     }
 }
 
-/// The text after two slashes, if the text begins with both.
+/// Returns the rest of a text after two slashes; all of the text if it does not begin with two.
 fn after_slashes(text: &str) -> &str
     ensures { length result.now ≤ length text.now }
 {
@@ -94,7 +95,7 @@ fn after_slashes(text: &str) -> &str
     }
 }
 
-/// The text after the tabs and line ends with which it begins.
+/// Returns the rest of a text after the tabs and line ends with which it begins.
 fn after_ignored(text: &str) -> &str
     ensures { length result.now ≤ length text.now }
 {

@@ -1,4 +1,4 @@
-//! Diagnoses of rejected patterns.
+//! The diagnosis of a rejected pattern: its error, the text and the place at fault, and a reason.
 
 ghost use Rattle.std.specs.Prelude.{◌≡◌, string_bytes, IfOk, IfSome};
 ghost use Rattle.urlpattern_diagnosis.specs.declared.diagnosis.Subject.TheVariants as subjects;
@@ -44,16 +44,18 @@ pub struct Diagnosis {
     pub error: Error,
     /// What is at fault.
     pub subject: Subject,
-    /// The text at fault, as given: the constructor string, the base URL, or the value of an init.
+    /// The text at fault, as given: the constructor string, the base URL, or the value of a
+    /// component in an init. For a component that the init lacks, the pattern that is compiled;
+    /// empty for an init as a whole.
     pub text: String,
     /// The part of the text at fault, in bytes.
     pub fault: Fault,
-    /// Why the pattern is rejected, and what to do, in one line.
+    /// Why the pattern is rejected, and mostly what to do, in one line.
     pub reason: String,
 }
 
 impl Subject {
-    /// The subject, in words.
+    /// Returns the subject in words.
     pub fn name(self) -> &'static str {
         match self {
             Subject::Whole => "pattern",
@@ -64,8 +66,8 @@ impl Subject {
 }
 
 impl Diagnosis {
-    /// Diagnoses a whole text, or the place where the colon after its scheme is missing or
-    /// mistyped.
+    /// Creates a diagnosis whose fault is the whole `text`, or the place where the colon after its
+    /// scheme is missing or mistyped.
     pub fn whole(
         alloc: Global,
         error: Error,
@@ -83,34 +85,38 @@ impl Diagnosis {
         Self::of_fault(alloc, error, subject, text, fault, hint)
     }
 
-    /// Diagnoses a fault in a part of a text, or the whole text if it lacks the part.
+    /// Creates a diagnosis of `fault`, a fault of `pattern`, which is at `place` in `text`. If
+    /// `place` is `None`, the text lacks the pattern, and the fault of the diagnosis is the whole
+    /// text.
     pub fn of_part(
         alloc: Global,
         error: Error,
         subject: Subject,
         text: &str,
-        part: &str,
+        pattern: &str,
         fault: Fault,
         place: Option<PatternOffset>,
     ) -> Result<Self, AllocError>
-        requires place { IfSome place (IsPlaceOf text.now part.now) }
-        requires within { IsFaultIn part.now fault }
+        requires place { IfSome place (IsPlaceOf text.now pattern.now) }
+        requires within { IsFaultIn pattern.now fault }
         ensures error { IfOk result (λ diagnosis. diagnosis.error ≡ error) }
         ensures subject { IfOk result (λ diagnosis. diagnosis.subject ≡ subject) }
         ensures text { IfOk result (λ diagnosis. string_bytes diagnosis.text ≡ text.now) }
         ensures fault { IfOk result (λ diagnosis.
-            IsFaultMoved text.now part.now fault diagnosis.fault) }
+            IsFaultMoved text.now pattern.now fault diagnosis.fault) }
         ensures within { IfOk result (λ diagnosis. IsFaultIn text.now diagnosis.fault) }
     {
         let moved = match place {
-            Some(place) => place.moved(text, part, fault),
+            Some(place) => place.moved(text, pattern, fault),
             None => Fault::whole(text),
         };
-        let hint = Hint::of_part(&error, subject, text, part, fault, place);
+        let hint = Hint::of_part(&error, subject, text, pattern, fault, place);
         Self::of_fault(alloc, error, subject, text, moved, hint)
     }
 
-    /// Diagnoses a colon of a text that no name follows, and before which there is no protocol.
+    /// Creates a diagnosis of `fault`, the colon of the constructor string `text` that would end a
+    /// protocol, or the backslash that escapes this colon; but the text before it is a path, a
+    /// search or a hash.
     pub fn of_colon(
         alloc: Global,
         error: Error,
@@ -133,7 +139,8 @@ impl Diagnosis {
         })
     }
 
-    /// Diagnoses a fault of a text.
+    /// Creates a diagnosis of `fault`, a fault of `text`, with the reason by the error and the
+    /// hint.
     fn of_fault(
         alloc: Global,
         error: Error,

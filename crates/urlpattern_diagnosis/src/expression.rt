@@ -9,8 +9,9 @@ use crate::span::Span;
 use regex_syntax::{Config, Error, ErrorKind};
 use std::alloc::{AllocError, Global};
 
-/// The fault of an expression that an engine rejects: the place in the text where `regex` rejects
-/// it too, or else the whole expression.
+/// Returns the fault of a custom expression, the span `body` of `text`, that an engine rejects: the
+/// place where `regex` rejects it too, with the whole expression as the earlier part, or else the
+/// whole expression alone.
 pub fn fault_of_expression(alloc: Global, text: &str, body: Span) -> Result<Fault, AllocError>
     requires { IsSpanIn text.now body }
     ensures within { IfOk result (IsFaultIn text.now) }
@@ -30,8 +31,8 @@ pub fn fault_of_expression(alloc: Global, text: &str, body: Span) -> Result<Faul
     })
 }
 
-/// Why `regex` rejects an expression, in its own words, and what to do. `None`: the expression is
-/// accepted.
+/// Returns why `regex` rejects an expression, in the words of `regex`, and what to do, or an empty
+/// text. `None`: the expression is accepted.
 pub(crate) fn message(
     alloc: Global,
     expression: &str,
@@ -47,8 +48,8 @@ pub(crate) fn message(
     }
 }
 
-/// What to do about an error at a place, if its message does not say so: a text after a semicolon,
-/// or an empty text.
+/// Returns what to do about an error at a place: words after a semicolon, or an empty text if the
+/// error's message says enough.
 fn advice(kind: ErrorKind, expression: &str, place: usize, hint: Hint) -> &'static str {
     let refused = expression.as_bytes().get(place);
     let next = expression.as_bytes().get(place.saturating_add(1));
@@ -79,7 +80,8 @@ fn advice(kind: ErrorKind, expression: &str, place: usize, hint: Hint) -> &'stat
     }
 }
 
-/// What to do about a rejected repetition, where this byte is at fault.
+/// Returns what to do about a rejected repetition, where `refused` is the byte at fault; an empty
+/// text for any other error.
 fn count_advice(kind: ErrorKind, refused: Option<&u8>) -> &'static str {
     match kind {
         ErrorKind::RepetitionCountDecimalEmpty if refused == Some(&b',') => {
@@ -101,7 +103,7 @@ fn count_advice(kind: ErrorKind, refused: Option<&u8>) -> &'static str {
     }
 }
 
-/// The error with which `regex` rejects an expression. `None`: the expression is accepted.
+/// Returns the error with which `regex` rejects an expression. `None`: the expression is accepted.
 fn expression_error(alloc: Global, expression: &str) -> Result<Option<Error>, AllocError> {
     match regex_syntax::parse(alloc, expression, &Config::default()) {
         Ok(parsed) => {

@@ -1,4 +1,4 @@
-//! Where the pattern text of a component is at fault.
+//! Where a text is at fault: the pattern of a component, or a text that is rejected as a whole.
 ghost use Rattle.std.specs.Prelude.{◌≡◌, false, IfNone, IfOk, IfSome, None, filter};
 ghost use Rattle.std.specs.List.{list_any};
 ghost use Rattle.std.specs.Str.{chars};
@@ -24,13 +24,13 @@ pub struct Fault {
     /// The part at fault.
     pub span: Span,
     /// The part with which the span conflicts: the first of two equal names, the brace of a group
-    /// that lacks its end, or the parenthesis of a custom expression. Or else an earlier token that
-    /// is at fault too.
+    /// that lacks its end, the `(` of a custom expression, or the whole expression that an engine
+    /// rejects at the span. Or else an earlier token that is at fault too.
     pub earlier: Option<Span>,
 }
 
 impl Fault {
-    /// The fault of a whole text.
+    /// Returns the fault that is a whole text.
     pub fn whole(text: &str) -> Self
         ensures whole { IsWholeFault text.now result }
         ensures within { IsFaultIn text.now result }
@@ -43,8 +43,9 @@ impl Fault {
 }
 
 impl Fault {
-    /// The place in a text where the colon after a special scheme is missing, or the `;` in place
-    /// of that colon, or else the whole text, which is no URL.
+    /// Returns the fault of a text that is rejected as a whole: the place where the colon after a
+    /// special scheme or `http{s}?` is missing, or the `;` in place of the colon after a special
+    /// scheme, or else the whole text.
     pub fn of_url(text: &str) -> Self
         ensures fault { IsUrlFault text.now result }
         ensures within { IsFaultIn text.now result }
@@ -55,7 +56,8 @@ impl Fault {
         }
     }
 
-    /// The `;` in place of the colon after a special scheme, or else the whole text.
+    /// Returns the `;` in place of the colon after a special scheme as the fault, or else the whole
+    /// text.
     fn of_sign(text: &str) -> Self
         ensures fault { IsSignFault text.now result }
         ensures within { IsFaultIn text.now result }
@@ -68,8 +70,9 @@ impl Fault {
 }
 
 impl Fault {
-    /// The colon after a text that is no protocol, since it has a character of a path, a search or
-    /// a hash.
+    /// Returns the colon after `before`, or the backslash that escapes it, as the fault in `text`,
+    /// if `before` has a character of a path, a search or a hash, and so cannot be a protocol.
+    /// `None`: `before` has no such character.
     pub fn of_colon(text: &str, before: &str) -> Option<Self>
         ensures fault { IfSome result (IsColonFault text.now before.now) }
         ensures other { IfNone result (list_any is_path_sign before.now ≡ false) }
@@ -90,15 +93,17 @@ fn has_path_sign(text: &str) -> bool
     text.as_bytes().iter().any(|byte| is_path_sign(*byte))
 }
 
-/// Whether a byte is a character of a path, a search or a hash that no protocol has.
+/// Whether a byte is a character of a path, a search or a hash that no protocol has: `/`, `=` or
+/// `#`.
 fn is_path_sign(byte: u8) -> bool
     ensures { result ≡ is_path_sign byte }
 {
     matches!(byte, b'/' | b'#' | b'=')
 }
 
-/// The length of the special scheme at the beginning of a text, or of the pattern `http{s}?`, if
-/// two slashes follow, so that the colon is missing.
+/// Returns the length of the special scheme at the beginning of a text, or of the pattern
+/// `http{s}?`, if two slashes follow, so that the colon is missing. `None`: the text does not begin
+/// so.
 fn missing_colon(text: &str) -> Option<usize>
     ensures { result ≡ missing_colon text.now }
 {
@@ -118,8 +123,8 @@ fn missing_colon(text: &str) -> Option<usize>
     }
 }
 
-/// The length of the special scheme at the beginning of a text, if `;` and two slashes follow, so
-/// that the colon is mistyped.
+/// Returns the length of the special scheme at the beginning of a text, if `;` and two slashes
+/// follow, so that the colon is mistyped. `None`: the text does not begin so.
 fn mistyped_colon(text: &str) -> Option<usize>
     ensures { result ≡ mistyped_colon text.now }
 {
@@ -138,7 +143,7 @@ fn mistyped_colon(text: &str) -> Option<usize>
 }
 
 impl Fault {
-    /// The fault of a part of a text.
+    /// Returns the fault that is a single span.
     pub fn of_span(span: Span) -> Self
         ensures { result ≡ record { span = span; earlier = None } }
     {
@@ -149,8 +154,9 @@ impl Fault {
     }
 }
 
-/// Where the pattern text of a component is at fault, by the error with which it is rejected under
-/// this prefix code point. Without a component the text is no hostname pattern.
+/// Returns where `text`, the pattern of a component, is at fault, by the error with which it is
+/// rejected under the prefix code point; the whole text if the error is of `url` or of an engine.
+/// `None` for the component: the text is not a hostname pattern.
 pub fn fault_of(
     alloc: Global,
     component: Option<ComponentName>,
@@ -177,7 +183,8 @@ pub fn fault_of(
     }
 }
 
-/// The fault of a text whose tokens are no pattern, and whose pieces end at `stop`.
+/// Returns the fault of a text that consists of tokens, and which the parser rejects with `error`.
+/// The pieces of the text, its characters, placeholders and groups, end at `stop`.
 fn parser_fault(
     alloc: Global,
     text: &str,
@@ -198,7 +205,8 @@ fn parser_fault(
     }
 }
 
-/// The token at which the pieces end, and the brace of a group that lacks its end.
+/// Returns the token at which the pieces of the text, its characters, placeholders and groups, end
+/// as the fault, and the brace of a group that lacks its end there, if any, as the earlier part.
 fn stop_fault(text: &str, stop: &Stop<'_>) -> Fault
     ensures fault { IsStopFault text.now stop.now result }
     ensures within { IsFaultIn text.now result }
@@ -216,7 +224,8 @@ fn stop_fault(text: &str, stop: &Stop<'_>) -> Fault
     }
 }
 
-/// The second token with this name, and the first.
+/// Returns the second token that is the name `name` as the fault, and the first as the earlier
+/// part; the whole text if there are not two.
 fn second_fault(text: &str, tokens: &[Token<'_>], name: &str) -> Fault
     ensures fault { IsSecondFault text.now (filter (gives_name name.now) tokens.now) result }
     ensures within { IsFaultIn text.now result }
@@ -239,14 +248,14 @@ fn second_fault(text: &str, tokens: &[Token<'_>], name: &str) -> Fault
     Fault::whole(text)
 }
 
-/// Whether a token is this name.
+/// Whether a token is a name, and its value is `name`.
 fn gives_name(token: &Token<'_>, name: &str) -> bool
     ensures { result ≡ gives_name name.now token.now }
 {
     matches!(token.kind, TokenType::Name) && token.value == name
 }
 
-/// The span of a token's spelling.
+/// Returns the span of a token in `text`, with the signs that are not part of its value.
 pub(crate) fn span_of(text: &str, token: Token<'_>) -> Span
     ensures span { IsSpanOfToken text.now token.entry result }
     ensures within { IsSpanIn text.now result }
@@ -255,7 +264,8 @@ pub(crate) fn span_of(text: &str, token: Token<'_>) -> Span
     Span::at(text, token.index, len)
 }
 
-/// The number of bytes in a token's spelling that are not part of its value.
+/// Returns the number of bytes in a token's spelling that are not part of its value: a colon, a
+/// backslash or two parentheses.
 fn marks_len(kind: TokenType) -> usize
     ensures { result ≡ marks_len kind }
 {

@@ -1,4 +1,4 @@
-//! Where and why `url` rejects a hostname.
+//! Where and why `url` rejects a hostname, and why it rejects a port.
 ghost use Rattle.urlpattern_diagnosis.specs.Faults.{IsFaultIn};
 ghost use Rattle.urlpattern_diagnosis.specs.Spans.{IsSpanIn};
 
@@ -15,8 +15,9 @@ const FORBIDDEN: &str = " #/<>?@[]^|";
 /// The controls that URL parsing skips.
 const SKIPPED: &str = "\t\n\r";
 
-/// The fault of a rejected hostname: its first character that no domain contains, or its first
-/// number that no IPv4 address contains, or else all of it.
+/// Returns the fault of a rejected hostname, the span `host` of `text`: its first character that no
+/// domain contains, or the first number over 255 if it consists of four numbers, or else all of it.
+/// A hostname that begins with `[` is at fault as a whole.
 ///
 /// <https://url.spec.whatwg.org/#forbidden-host-code-point>
 pub fn fault_of_host(text: &str, host: Span) -> Fault
@@ -36,7 +37,8 @@ pub fn fault_of_host(text: &str, host: Span) -> Fault
     }
 }
 
-/// The words for a part that is no hostname, with `#` for the reason of `url`.
+/// Returns the words for `part`, which is at fault in a hostname, with `@` for the part, `~` for
+/// its ASCII form and `#` for the reason of `url`.
 pub(crate) fn host_words(part: &str) -> &'static str {
     match part {
         " " => "a hostname has no space",
@@ -53,8 +55,8 @@ pub(crate) fn host_words(part: &str) -> &'static str {
     }
 }
 
-/// The words for a part that is no port. A part that begins with a dot may be meant as a hostname
-/// that begins with a name.
+/// Returns the words for `part`, which `url` rejects as a port, with `@` for the part. A part that
+/// begins with a dot may be meant as a hostname that begins with a name.
 pub(crate) fn port_words(part: &str) -> &'static str {
     if is_number(part) {
         "`@` is no port: a port is a number up to 65535"
@@ -67,8 +69,8 @@ pub(crate) fn port_words(part: &str) -> &'static str {
     }
 }
 
-/// The byte index and length of the first character in a hostname pattern that no domain contains.
-/// A backslash counts if it is itself escaped.
+/// Returns the byte index and length of the first character in a hostname pattern that no domain
+/// contains. A backslash counts if it is itself escaped. `None`: a domain may contain each.
 fn forbidden(name: &str) -> Option<(usize, usize)> {
     let mut is_escaped = false;
     for (start, c) in name.char_indices() {
@@ -90,8 +92,9 @@ fn forbidden(name: &str) -> Option<(usize, usize)> {
     None
 }
 
-/// Whether a character is forbidden in a domain wherever it is. Not counted are a colon, which is
-/// no text in a pattern, and tabs and line ends, which are skipped.
+/// Whether a character is forbidden in a domain wherever it is. Not counted are `%` and `\`, which
+/// depend on what is around them, a colon, which is not text in a pattern, and tabs and line ends,
+/// which are skipped.
 fn is_forbidden(c: char) -> bool {
     FORBIDDEN.contains(c) || c.is_ascii_control() && !SKIPPED.contains(c)
 }
@@ -125,7 +128,8 @@ fn has_digits_after(name: &str, index: usize) -> bool {
     }
 }
 
-/// The byte index and length of the first number over 255 among the four of a hostname.
+/// Returns the byte index and length of the first number over 255 in a hostname of four numbers.
+/// `None`: the hostname is of another form, or no number is over 255.
 fn large_number(name: &str) -> Option<(usize, usize)> {
     let mut found = None;
     let mut count = 0usize;
@@ -143,18 +147,19 @@ fn large_number(name: &str) -> Option<(usize, usize)> {
     if count == 4 { found } else { None }
 }
 
-/// Whether a text is a decimal number.
+/// Whether a text consists of decimal digits, at least one.
 pub(crate) fn is_number(label: &str) -> bool {
     !label.is_empty() && label.trim_start_matches(DIGITS).is_empty()
 }
 
-/// Whether a number is larger than 255.
+/// Whether a number, in decimal digits, is larger than 255.
 fn is_large(label: &str) -> bool {
     let digits = label.trim_start_matches('0');
     digits.len() > 3 || digits.len() == 3 && digits > "255"
 }
 
-/// Whether the last label of a hostname is a number, so that the hostname is an IPv4 address.
+/// Whether the last label of a hostname is a decimal number, so that the hostname is an IPv4
+/// address. A dot at the end is ignored.
 ///
 /// <https://url.spec.whatwg.org/#ends-in-a-number-checker>
 fn ends_in_number(name: &str) -> bool {

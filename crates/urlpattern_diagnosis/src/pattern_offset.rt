@@ -11,63 +11,71 @@ use urlpattern_components::ComponentName;
 /// The place of a pattern in a text.
 #[derive(Debug, Clone, Copy, PartialEq, Eq)]
 pub struct PatternOffset {
-    /// The byte index in the text of the pattern, without the bytes that the text lacks.
+    /// The byte index at which the text has the pattern, without the pattern's first `missing`
+    /// bytes.
     pub start: usize,
     /// The number of bytes at the beginning of the pattern that the text lacks: those of the base
     /// URL, before a relative path.
-    pub lead: usize,
+    pub missing: usize,
 }
 
 impl PatternOffset {
-    /// The place of a pattern in a text, if all but its first `lead` bytes are at `start`.
-    pub fn of(text: &str, part: &str, start: usize, lead: usize) -> Option<Self>
-        ensures place { IfSome result (IsPlaceOf text.now part.now) }
-        ensures given { IfSome result (λ place. (place.start ≡ start) × (place.lead ≡ lead)) }
+    /// Returns the place of `pattern` in `text`, if all but the first `missing` bytes of the
+    /// pattern are at `start`. `None`: the text does not have them there.
+    pub fn of(text: &str, pattern: &str, start: usize, missing: usize) -> Option<Self>
+        ensures place { IfSome result (IsPlaceOf text.now pattern.now) }
+        ensures given { IfSome result (λ place. (place.start ≡ start) × (place.missing ≡ missing)) }
     {
-        if start > text.len() || lead > part.len() || part.len() - lead > text.len() - start {
+        if start > text.len()
+            || missing > pattern.len()
+            || pattern.len() - missing > text.len() - start
+        {
             return None;
         }
         let rest = &text.as_bytes()[start..];
-        if rest.starts_with(&part.as_bytes()[lead..]) {
-            Some(PatternOffset { start, lead })
+        if rest.starts_with(&pattern.as_bytes()[missing..]) {
+            Some(PatternOffset { start, missing })
         } else {
             None
         }
     }
 
-    /// The place of a component's pattern in a text, where its value, of `len` bytes, begins at
-    /// `start`. A mark before or after the value is not part of the pattern, and what is before a
-    /// relative path is not part of the value.
+    /// Returns the place in `text` of `pattern`, the processed pattern of a component whose value,
+    /// of `len` bytes, begins at `start`. `None`: the text does not have it there.
+    ///
+    /// A pattern that is longer than the value begins with the path of the base URL, which the text
+    /// lacks. A shorter one is the end of the value, after its sign, or, of a protocol, its
+    /// beginning, before the colon.
     pub fn of_component(
         text: &str,
-        part: &str,
+        pattern: &str,
         component: ComponentName,
         start: usize,
         len: usize,
     ) -> Option<Self>
-        ensures { IfSome result (IsPlaceOf text.now part.now) }
+        ensures { IfSome result (IsPlaceOf text.now pattern.now) }
     {
-        if len < part.len() {
-            return PatternOffset::of(text, part, start, part.len() - len);
+        if len < pattern.len() {
+            return PatternOffset::of(text, pattern, start, pattern.len() - len);
         }
         match component {
-            ComponentName::Protocol => PatternOffset::of(text, part, start, 0),
-            _ => PatternOffset::of(text, part, start.saturating_add(len - part.len()), 0),
+            ComponentName::Protocol => PatternOffset::of(text, pattern, start, 0),
+            _ => PatternOffset::of(text, pattern, start.saturating_add(len - pattern.len()), 0),
         }
     }
 
-    /// Moves a fault of the pattern to the text.
-    pub fn moved(self, text: &str, part: &str, fault: Fault) -> Fault
-        requires place { IsPlaceOf text.now part.now self }
-        requires within { IsFaultIn part.now fault }
+    /// Returns a fault of `pattern`, moved to `text`, where the pattern is at this place.
+    pub fn moved(self, text: &str, pattern: &str, fault: Fault) -> Fault
+        requires place { IsPlaceOf text.now pattern.now self }
+        requires within { IsFaultIn pattern.now fault }
         ensures moved { IsMovedFault text.now self fault result }
         ensures within { IsFaultIn text.now result }
     {
-        let span = self.moved_span(text, part, fault.span);
+        let span = self.moved_span(text, pattern, fault.span);
         match fault.earlier {
             Some(earlier) => Fault {
                 span,
-                earlier: Some(self.moved_span(text, part, earlier)),
+                earlier: Some(self.moved_span(text, pattern, earlier)),
             },
             None => Fault {
                 span,
@@ -76,19 +84,20 @@ impl PatternOffset {
         }
     }
 
-    /// Moves a span of the pattern to the text.
-    fn moved_span(self, text: &str, part: &str, span: Span) -> Span
-        requires place { IsPlaceOf text.now part.now self }
-        requires within { IsSpanIn part.now span }
+    /// Returns a span of `pattern`, moved to `text`; the whole text if the span begins in
+    /// bytes that the text lacks.
+    fn moved_span(self, text: &str, pattern: &str, span: Span) -> Span
+        requires place { IsPlaceOf text.now pattern.now self }
+        requires within { IsSpanIn pattern.now span }
         ensures moved { IsMovedSpan text.now self span result }
         ensures within { IsSpanIn text.now result }
     {
-        if span.start < self.lead {
+        if span.start < self.missing {
             return Span::whole(text);
         }
         Span::at(
             text,
-            self.start + (span.start - self.lead),
+            self.start + (span.start - self.missing),
             span.end - span.start,
         )
     }

@@ -8,18 +8,19 @@ use unicode_width::UnicodeWidthChar;
 /// The maximum number of columns that are printed of a text.
 const WIDTH: usize = 80;
 
-/// The number of columns that are printed of a longer text, apart from the dots where it is cut.
+/// The maximum number of columns that are printed of a longer text, apart from the dots where it is
+/// cut.
 const CUT_WIDTH: usize = 74;
 
-/// The number of columns up to the end of the marks that are printed of a longer text, if there are
-/// as many.
+/// The maximum number of columns that are printed of a longer text up to the end of the marks,
+/// unless the marks are wider.
 const WIDTH_TO_MARKS: usize = 54;
 
 /// The dots where a text is cut.
 const DOTS: &str = "...";
 
 /// Prints three lines: the reason, the text, and a line that marks the part at fault with `^` and
-/// the earlier part with `-`.
+/// the earlier part, if there is one, with `-`.
 ///
 /// The marks are as wide as the characters above them in a terminal. Of a text wider than 80
 /// columns a part is printed, with dots where it is cut, and a mark outside of this part is named
@@ -40,7 +41,8 @@ impl fmt::Display for Diagnosis {
 }
 
 impl Diagnosis {
-    /// The part of the text that is printed.
+    /// Returns the part of the text that is printed: all of it, or, if it is too wide, a part that
+    /// shows `marks_to_show`, as far as there is room.
     fn shown(&self) -> Span {
         let text = self.text.as_str();
         if width_between(text, 0, text.len()) <= WIDTH {
@@ -60,7 +62,8 @@ impl Diagnosis {
         Span { start, end }
     }
 
-    /// The byte index from which the text is printed, so that the marks are visible.
+    /// Returns the byte index from which a text that is too wide is printed, so that `marks` is
+    /// visible.
     fn shown_from(&self, marks: Span) -> usize {
         let room = width_between(&self.text, marks.start, marks.end).max(WIDTH_TO_MARKS);
         let mut left = width_between(&self.text, 0, marks.end);
@@ -73,8 +76,8 @@ impl Diagnosis {
         self.text.len()
     }
 
-    /// The span from the first mark to the last, if there is room for both, or else the part at
-    /// fault.
+    /// Returns the span from the first mark to the last, if there is room for both, or else the
+    /// part at fault.
     fn marks_to_show(&self) -> Span {
         let span = self.fault.span;
         let Some(earlier) = self.fault.earlier else {
@@ -91,7 +94,7 @@ impl Diagnosis {
         }
     }
 
-    /// Writes the part of the text that is printed.
+    /// Writes the part `shown` of the text, with dots where the text is cut.
     fn write_text<W: fmt::Write>(&self, shown: Span, f: &mut fmt::Formatter<W>) -> fmt::Result {
         if shown.start > 0 {
             f.write_str(DOTS)?;
@@ -111,7 +114,8 @@ impl Diagnosis {
         Ok(())
     }
 
-    /// Writes the marks under a part of the text, up to the last one.
+    /// Writes the marks under the part `shown` of the text, up to the last mark, and a `^` after
+    /// them if none of the characters is at fault.
     fn write_marks<W: fmt::Write>(&self, shown: Span, f: &mut fmt::Formatter<W>) -> fmt::Result {
         if shown.start > 0 {
             f.write_str("   ")?;
@@ -135,7 +139,8 @@ impl Diagnosis {
         Ok(())
     }
 
-    /// Writes a part that is not printed, and its place.
+    /// Writes a part of the text that is not printed, and the number of its first character, from 1
+    /// on.
     fn write_left_out<W: fmt::Write>(&self, part: Span, f: &mut fmt::Formatter<W>) -> fmt::Result {
         let front = Span {
             start: 0,
@@ -147,12 +152,13 @@ impl Diagnosis {
         write!(f, "` at character {number}")
     }
 
-    /// A part of the text.
+    /// Returns the part of the text with this span.
     fn part(&self, span: Span) -> &str {
         self.text.get(span.start..span.end).unwrap_or("")
     }
 
-    /// The byte index after the last marked character.
+    /// Returns the byte index after the last marked character, where an empty fault counts as one
+    /// byte.
     fn last_marked(&self) -> usize {
         let end = match self.fault.earlier {
             Some(earlier) => earlier.end.max(self.fault.span.end),
@@ -161,7 +167,7 @@ impl Diagnosis {
         end.max(self.fault.span.start.saturating_add(1))
     }
 
-    /// The mark under the character that begins at a byte.
+    /// Returns the mark under the character that begins at a byte index: `^`, `-` or a space.
     fn mark(&self, index: usize) -> &'static str {
         if self.is_at_fault(index) {
             return "^";
@@ -172,7 +178,8 @@ impl Diagnosis {
         }
     }
 
-    /// Whether the character that begins at a byte is at fault, or the fault is just before it.
+    /// Whether the character that begins at a byte index is at fault, or an empty fault is just
+    /// before it.
     fn is_at_fault(&self, index: usize) -> bool {
         has(self.fault.span, index) || index == self.fault.span.start
     }
@@ -188,7 +195,7 @@ fn meets(span: Span, other: Span) -> bool {
     span.start < other.end && other.start < span.end
 }
 
-/// The number of columns of the characters that begin between two byte indices.
+/// Returns the number of columns of the characters that begin between two byte indices.
 fn width_between(text: &str, start: usize, end: usize) -> usize {
     let mut width = 0usize;
     for (index, c) in text.char_indices() {
@@ -199,7 +206,7 @@ fn width_between(text: &str, start: usize, end: usize) -> usize {
     width
 }
 
-/// The number of columns of a character as it is printed.
+/// Returns the number of columns of a character as it is printed.
 fn width_of(c: char) -> usize {
     if c.is_control() {
         return 1;

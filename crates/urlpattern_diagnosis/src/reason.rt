@@ -15,7 +15,7 @@ use urlpattern_components::ComponentName;
 use urlpattern_syntax::error::{Error, ParserError, RegexFault, TokenizerError};
 use urlpattern_syntax::tokenizer::TokenType;
 
-/// What a reason is about.
+/// What the reason of a rejection is about.
 #[derive(Clone, Copy)]
 pub(crate) struct Faulty<'a> {
     /// What is at fault.
@@ -29,8 +29,8 @@ pub(crate) struct Faulty<'a> {
 }
 
 impl Faulty<'_> {
-    /// A sentence about the part at fault, another text, and the sign of the hint, or else the
-    /// ASCII form of a full-width part.
+    /// Returns the sentence of `words`, which have `@` for the part at fault, `#` for `other`, and
+    /// `~` for the sign of the hint, or else for the ASCII form of a full-width part.
     pub(crate) fn sentence<'a>(&'a self, words: &'static str, other: &'a str) -> Sentence<'a> {
         let sign = match self.hint.sign() {
             Some(sign) => sign,
@@ -45,7 +45,7 @@ impl Faulty<'_> {
     }
 }
 
-/// Why a pattern is rejected with this error, and what to do.
+/// Returns why a pattern is rejected with `error`, and mostly what to do, in one line.
 pub(crate) fn reason_of(
     alloc: Global,
     error: &Error,
@@ -56,7 +56,7 @@ pub(crate) fn reason_of(
     Ok(reason)
 }
 
-/// Appends why a pattern is rejected.
+/// Appends why a pattern is rejected with `error`, and mostly what to do.
 fn append_reason(
     alloc: Global,
     out: &mut String,
@@ -79,7 +79,7 @@ fn append_reason(
             .append_to(out),
         Error::Parser(ParserError::DuplicateName(name)) => {
             faulty
-                .sentence(name_words(faulty.hint), name)
+                .sentence(repeated_name_words(faulty.hint), name)
                 .append_to(out)
         }
         Error::Url(reason) => append_url_reason(alloc, out, *reason, faulty),
@@ -88,7 +88,8 @@ fn append_reason(
     }
 }
 
-/// Appends why no token begins at a place.
+/// Appends why no token begins at the part at fault, and which earlier token is at fault too, if
+/// any.
 fn append_token_reason(
     alloc: Global,
     out: &mut String,
@@ -115,12 +116,17 @@ fn append_token_reason(
 
 /// Appends that an earlier token is at fault too.
 fn append_earlier(out: &mut String, token: &str) -> Result<(), AllocError> {
-    out.push_str("; `")?;
-    out.push_str(token)?;
-    out.push_str("` is at fault too")
+    Sentence {
+        words: "; `@` is at fault too",
+        text: token,
+        other: "",
+        sign: ' ',
+    }
+    .append_to(out)
 }
 
-/// Appends why a custom expression contains no character that is not ASCII, and how URLs encode it.
+/// Appends that a custom expression has only ASCII characters, and mostly what to write for the
+/// part at fault, such as its percent-encoding.
 fn append_ascii_reason(
     alloc: Global,
     out: &mut String,
@@ -134,8 +140,8 @@ fn append_ascii_reason(
         .append_to(out)
 }
 
-/// The words for a character in a custom expression that is not ASCII, with `#` for its
-/// percent-encoding.
+/// Returns the words for a character in a custom expression that is not ASCII, with `@` for the
+/// character, `#` for its percent-encoding, and `~` for the ASCII form of a full-width one.
 fn ascii_words(faulty: &Faulty<'_>) -> &'static str {
     match (faulty.subject, faulty.hint) {
         (_, Hint::Wide(_)) => {
@@ -157,7 +163,8 @@ fn ascii_words(faulty: &Faulty<'_>) -> &'static str {
     }
 }
 
-/// The words for a parenthesis where no custom expression begins.
+/// Returns the words for a parenthesis that does not begin a custom expression, by the fault of the
+/// tokenizer and the hint.
 fn expression_words(fault: RegexFault, hint: Hint) -> &'static str {
     match (fault, hint) {
         (_, Hint::ClosedBy(_)) => {
@@ -199,8 +206,9 @@ fn expression_words(fault: RegexFault, hint: Hint) -> &'static str {
     }
 }
 
-/// The words for a name that occurs twice.
-fn name_words(hint: Hint) -> &'static str {
+/// Returns the words for a name that occurs twice, with `#` for the name, and `~` for the character
+/// after it, if the hint has one.
+fn repeated_name_words(hint: Hint) -> &'static str {
     match hint {
         Hint::NameEnds(_) => {
             "the name `#` occurs twice: first here, and here; a name ends before `~`: write `_` in its place, or rename one of them"
@@ -209,7 +217,7 @@ fn name_words(hint: Hint) -> &'static str {
     }
 }
 
-/// The words for an unexpected token.
+/// Returns the words for a token of the kind `found`, where one of the kind `expected` has to be.
 fn stop_words(expected: TokenType, found: TokenType, hint: Hint) -> &'static str {
     let is_in_group = matches!(expected, TokenType::Close);
     match found {
@@ -220,7 +228,7 @@ fn stop_words(expected: TokenType, found: TokenType, hint: Hint) -> &'static str
     }
 }
 
-/// The words for a token that a group does not contain.
+/// Returns the words for a token of the kind `found` in a group that has to end before it.
 fn group_words(found: TokenType, hint: Hint) -> &'static str {
     match (found, hint) {
         (TokenType::End, Hint::Search) => {
@@ -241,7 +249,7 @@ fn group_words(found: TokenType, hint: Hint) -> &'static str {
     }
 }
 
-/// The words for a misplaced modifier, perhaps in a group.
+/// Returns the words for a misplaced modifier; `is_in_group` says whether it is within a group.
 fn modifier_words(is_in_group: bool, hint: Hint) -> &'static str {
     match hint {
         Hint::Word => {
@@ -277,7 +285,7 @@ fn modifier_words(is_in_group: bool, hint: Hint) -> &'static str {
     }
 }
 
-/// Appends why a part is no such component or no URL, with the reason of `url`.
+/// Appends why `url` rejects the part at fault, as a component, a URL or a part of either.
 fn append_url_reason(
     alloc: Global,
     out: &mut String,
@@ -290,7 +298,8 @@ fn append_url_reason(
         .append_to(out)
 }
 
-/// The words for a part that is no such component or no URL, with `#` for the reason of `url`.
+/// Returns the words for a part at fault that `url` rejects, with `@` for the part, `~` for its
+/// ASCII form and `#` for the reason of `url`.
 fn url_words(reason: ParseError, faulty: &Faulty<'_>) -> &'static str {
     let part = faulty.part;
     match (faulty.subject, reason) {
@@ -317,7 +326,7 @@ fn url_words(reason: ParseError, faulty: &Faulty<'_>) -> &'static str {
     }
 }
 
-/// Appends why an engine rejects an expression, in the words of the crate `regex`.
+/// Appends why an engine rejects an expression, in the words of the crate `regex`, and what to do.
 fn append_engine_reason(
     alloc: Global,
     out: &mut String,

@@ -11,9 +11,10 @@ use std::alloc::Global;
 use urlpattern_syntax::error::OutOfMemory;
 use urlpattern_syntax::tokenizer::{Token, TokenType};
 
-/// The first custom expression of a text that the callback rejects, without its parentheses.
+/// Returns the span of the first custom expression among the tokens of a text, without its
+/// parentheses, for which the callback returns `true`. `None`: there is no such expression.
 ///
-/// The error is that of the callback.
+/// Fails if the callback does.
 pub fn rejected_expression<F: Fn(&str) -> Result<bool, OutOfMemory>>(
     text: &str,
     tokens: &[Token<'_>],
@@ -34,7 +35,7 @@ pub fn rejected_expression<F: Fn(&str) -> Result<bool, OutOfMemory>>(
     Ok(None)
 }
 
-/// The span of a custom expression, without its parentheses.
+/// Returns the span in `text` of the custom expression `token`, without its parentheses.
 fn span_of_body(text: &str, token: Token<'_>) -> Span
     ensures body { IsSpanOfBody text.now token.entry result }
     ensures within { IsSpanIn text.now result }
@@ -45,9 +46,11 @@ fn span_of_body(text: &str, token: Token<'_>) -> Span
     Span::at(text, token.index + 1, token.value.len())
 }
 
-/// The first run of characters of a text that the callback rejects. Runs are as long as possible.
+/// Returns the span of the first run of characters among the tokens of a text for which the
+/// callback returns `true`. Runs are as long as possible, and passed without the backslashes of
+/// escapes. `None`: there is no such run.
 ///
-/// The error is that of the callback, or of an allocation.
+/// Fails if the callback or an allocation does.
 pub fn rejected_run<F: Fn(&str) -> Result<bool, OutOfMemory>>(
     alloc: Global,
     text: &str,
@@ -76,7 +79,7 @@ pub fn rejected_run<F: Fn(&str) -> Result<bool, OutOfMemory>>(
     Ok(None)
 }
 
-/// Whether a token is a character, escaped or not.
+/// Whether a token of this kind is a character, escaped or not.
 fn is_character(kind: TokenType) -> bool {
     matches!(kind, TokenType::Char | TokenType::EscapedChar)
 }

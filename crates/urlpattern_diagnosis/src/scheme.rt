@@ -1,9 +1,10 @@
-//! Reasons why a text has no protocol.
+//! Reasons why a text has no protocol, or one that is rejected.
 
 use crate::host::is_number;
 use crate::sentence::Sentence;
 
-/// The words for a scheme without its colon, by what is in place of the colon.
+/// Returns the words for a scheme before `//` without its colon, with `@` for `sign`, what is in
+/// place of the colon. `sign` is empty if nothing is.
 pub(crate) fn missing_words(sign: &str) -> &'static str {
     if sign.is_empty() {
         "`:` is missing before `//`: a protocol ends with it, as in `https://`"
@@ -12,8 +13,9 @@ pub(crate) fn missing_words(sign: &str) -> &'static str {
     }
 }
 
-/// The reason why a pattern needs a base URL, and what to write, without the `^` and `$` of a
-/// regular expression.
+/// Returns why the pattern `part`, which has no protocol, is rejected without a base URL, and what
+/// to write: by what it seems to be meant as, or else a URL with the pattern, without the `^` and
+/// `$` of a regular expression.
 pub(crate) fn base_sentence(part: &str) -> Sentence<'_> {
     if let Some(words) = misread_message(part) {
         return Sentence {
@@ -43,8 +45,9 @@ pub(crate) fn base_sentence(part: &str) -> Sentence<'_> {
     }
 }
 
-/// What precedes a relative URL in an absolute one: also a hostname, unless the relative URL may
-/// begin with one, since it has a dot there.
+/// Returns what to put before a relative URL to make it absolute: a protocol, and also a hostname
+/// unless the text seems to begin with one: with `//`, with `localhost`, or with a name up to a
+/// dot.
 fn url_prefix(text: &str) -> &'static str {
     if text.starts_with("//") {
         return "https:";
@@ -61,8 +64,8 @@ fn url_prefix(text: &str) -> &'static str {
     }
 }
 
-/// The words for a text without a protocol that may be meant to have one, or is no URL at all.
-/// `None`: nothing suggests that.
+/// Returns the words for a text without a protocol that seems to be meant to have one, or not to be
+/// a URL, such as one in quotes, or that has tabs or line ends. `None`: the text is none of these.
 fn misread_message(text: &str) -> Option<&'static str> {
     if is_quoted(text) {
         Some(
@@ -93,7 +96,7 @@ fn misread_message(text: &str) -> Option<&'static str> {
     }
 }
 
-/// Whether a text begins with an HTTP method.
+/// Whether a text begins with one of seven HTTP methods, and a space.
 fn has_method(text: &str) -> bool {
     match text.split_once(' ') {
         Some((word, _)) => matches!(
@@ -104,7 +107,8 @@ fn has_method(text: &str) -> bool {
     }
 }
 
-/// The letters before the first colon of a text, where a name begins, unless they are a hostname.
+/// Returns the text before the first colon, if it consists of letters, as a protocol does, and is
+/// not `localhost`. `None`: it does not, or there is no colon.
 fn scheme_before_name(text: &str) -> Option<&str> {
     let (scheme, _) = text.split_once(':')?;
     if scheme.is_empty() || scheme == "localhost" {
@@ -118,12 +122,12 @@ fn scheme_before_name(text: &str) -> Option<&str> {
     Some(scheme)
 }
 
-/// Whether a text begins with a quote.
+/// Whether a text begins with a quotation mark.
 pub(crate) fn is_quoted(text: &str) -> bool {
     text.starts_with(['"', '\'', '`', '“', '‘', '«'])
 }
 
-/// Whether a text begins as an IPv4 address does.
+/// Whether a text begins with a number and a dot, as an IPv4 address does.
 fn is_of_numbers(text: &str) -> bool {
     match text.split_once('.') {
         Some((first, _)) => is_number(first),
@@ -131,7 +135,7 @@ fn is_of_numbers(text: &str) -> bool {
     }
 }
 
-/// The words for a text that is no protocol.
+/// Returns the words for `part`, which `url` rejects as a protocol, with `@` for the part.
 pub(crate) fn protocol_words(part: &str) -> &'static str {
     if part.starts_with('^') {
         "`@` is no protocol: a pattern matches a whole URL, without `^`"

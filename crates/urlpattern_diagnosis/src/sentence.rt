@@ -16,12 +16,12 @@ pub(crate) struct Sentence<'a> {
 }
 
 impl Sentence<'_> {
-    /// Appends the sentence.
+    /// Appends the words to `out`, with the texts and the sign in place of `@`, `#` and `~`.
     pub(crate) fn append_to(&self, out: &mut String) -> Result<(), AllocError> {
         for c in self.words.chars() {
             match c {
-                '@' => append_line(out, self.text)?,
-                '#' => append_line(out, self.other)?,
+                '@' => append_on_line(out, self.text)?,
+                '#' => append_on_line(out, self.other)?,
                 '~' => out.push(self.sign)?,
                 _ => out.push(c)?,
             }
@@ -31,7 +31,7 @@ impl Sentence<'_> {
 }
 
 /// Appends a text as part of a line, with spaces for control characters.
-fn append_line(out: &mut String, text: &str) -> Result<(), AllocError> {
+fn append_on_line(out: &mut String, text: &str) -> Result<(), AllocError> {
     for c in text.chars() {
         out.push(if c.is_control() { ' ' } else { c })?;
     }

@@ -19,7 +19,7 @@ pub struct Span {
 }
 
 impl Span {
-    /// The span of a whole text.
+    /// Returns the span of a whole text.
     pub fn whole(text: &str) -> Self
         ensures whole { result ≡ whole_span text.now }
         ensures within { IsSpanIn text.now result }
@@ -30,8 +30,8 @@ impl Span {
         }
     }
 
-    /// The span of `len` bytes from `start` on, or of the whole text if these are not whole
-    /// characters of it.
+    /// Returns the span of the `len` bytes from `start` on, or of the whole text if these are not
+    /// whole characters of it.
     pub fn at(text: &str, start: usize, len: usize) -> Self
         ensures at { IsSpanAt text.now start len result }
         ensures within { IsSpanIn text.now result }

@@ -15,8 +15,9 @@ use urlpattern_syntax::error::{OutOfMemory, TokenizerError};
 use urlpattern_syntax::text::split_first;
 use urlpattern_syntax::tokenizer::TokenType;
 
-/// The fault of a text whose first fault is `fault`, at a place, with an earlier token that is at
-/// fault too.
+/// Returns the fault of a component's pattern `text`, in which `place` is the first at which no
+/// token begins, because of `fault`. An earlier token that is at fault too is the earlier part,
+/// unless the fault has one already.
 pub(crate) fn first_fault(
     alloc: Global,
     component: Option<ComponentName>,
@@ -46,14 +47,15 @@ pub(crate) fn first_fault(
     })
 }
 
-/// Whether a token is the end of a text.
+/// Whether a token of this kind is the end of a text.
 fn is_end(kind: TokenType) -> bool
     ensures { result ≡ is_end_kind kind }
 {
     matches!(kind, TokenType::End)
 }
 
-/// The fault of a text whose first fault is `fault`, at a place in the pattern of this component.
+/// Returns the fault of a component's pattern `text`, in which no token begins at `place`, because
+/// of `fault`.
 fn token_fault(
     component: Option<ComponentName>,
     text: &str,
@@ -76,8 +78,8 @@ fn token_fault(
     }
 }
 
-/// The fault of a text where no name follows the colon at a place: the colon, or in a hostname an
-/// unclosed `[` before it.
+/// Returns the fault of a text where no name follows the colon at a place: the colon, or in a
+/// hostname an unclosed `[` before it.
 fn name_fault(component: Option<ComponentName>, text: &str, place: usize) -> Fault
     ensures fault { IsNameFault component text.now place result }
     ensures within { IsFaultIn text.now result }
@@ -98,7 +100,8 @@ fn is_hostname(component: Option<ComponentName>) -> bool
     matches!(component, Some(ComponentName::Hostname))
 }
 
-/// The place of the last square bracket of a text, if it is a `[`.
+/// Returns the place of the last square bracket of a text, if it is a `[`. `None`: it is a `]`, or
+/// there is no bracket.
 fn open_bracket(text: &str) -> Option<usize>
     ensures { IsOpenBracket text.now result }
 {
@@ -115,7 +118,8 @@ fn open_bracket(text: &str) -> Option<usize>
     None
 }
 
-/// The fault of a text where `body` follows the `(` at a place, and is no custom expression.
+/// Returns the fault of a text where `body`, the text after the `(` at `place`, does not begin with
+/// a custom expression.
 fn body_fault(text: &str, place: usize, body: &str) -> Fault
     requires faulty { (reported : List ℕ)
         × IsFaultAt (codes "(" ++ chars body.now) (InvalidRegex reported) }
@@ -136,8 +140,8 @@ fn body_fault(text: &str, place: usize, body: &str) -> Fault
     }
 }
 
-/// The rest of a body from its first invalid character on, and the number of invalid bytes. `None`:
-/// the text ends before the body does.
+/// Returns the rest of a body from its first invalid character on, and the number of invalid bytes.
+/// `None`: the text ends before the body does.
 fn rejected_at(body: &str) -> Option<(&str, usize)>
     requires faulty { (reported : List ℕ)
         × IsFaultAt (codes "(" ++ chars body.now) (InvalidRegex reported) }
@@ -150,6 +154,6 @@ fn rejected_at(body: &str) -> Option<(&str, usize)>
 {
     match split_body(body) {
         Ok(_) => None,
-        Err(fault) => fault.refused,
+        Err(fault) => fault.invalid_bytes,
     }
 }

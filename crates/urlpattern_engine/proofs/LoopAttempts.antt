@@ -11,7 +11,7 @@ use Rattle.regex_hir.specs.Re.{Re, char_in, plus, Trace, Rest, rounds as trace_r
 use Rattle.regex_hir.proofs.AttemptLemmas.{more_rounds_unfold}
 use Rattle.regex_hir.proofs.TextLemmas.{char_at_from, char_at_past}
 use Rattle.urlpattern_meaning.specs.PartMeaning.{Captures}
-use Rattle.urlpattern_meaning.specs.Ways.{Way, Choice, empty_way, continued, one_that, is_shorter, more_rounds, looped}
+use Rattle.urlpattern_meaning.specs.Ways.{Way, WaysByText, empty_way, continued, one_that, is_shorter, more_rounds, looped}
 use Rattle.urlpattern_meaning.proofs.WayLists.{Every, every-weaker}
 use Rattle.urlpattern_engine.proofs.WayResults.{Writes, at, Gave, gave-continued, gave-empty_way, gave-ordered}
 
@@ -34,7 +34,7 @@ module _ (Shown : ℕ → Captures → Writes → Type 0)
   Shows = Gave Shown shown-append shown-empty_way
 
   -- An attempt tries the matches of this choice at each place of the text.
-  abbrev pub Suits : ℕ → Choice → (Rest → Rest) → Type 0
+  abbrev pub Suits : ℕ → WaysByText → (Rest → Rest) → Type 0
   Suits g choice body = (before text : List ℕ) → before ++ text ≡ whole → (k : Rest) → Shows g before k (choice text) (body k (at before))
 
   at-push : (before : List ℕ) (c : ℕ) → at (before ++ c ∷ []) ≡ at before + len_utf8 c
@@ -66,7 +66,7 @@ module _ (Shown : ℕ → Captures → Writes → Type 0)
       by way false true o p q = absurd cc
 
   -- ---- loops
-  module _ (g : ℕ) (greedy : Bool) (choice : Choice) (a : Re) (suits : Suits g choice (attempt hay a))
+  module _ (g : ℕ) (greedy : Bool) (choice : WaysByText) (a : Re) (suits : Suits g choice (attempt hay a))
       (placed : (text : List ℕ) → Every (λ way. (text ≡ way.taken ++ way.rest) × (way.captures ≡ [])) (choice text)) (k : Rest) where
     abbrev more : Rest
     more = trace_more_rounds hay greedy (attempt hay a) k
@@ -93,7 +93,7 @@ module _ (Shown : ℕ → Captures → Writes → Type 0)
         subst (Shows g before k (empty_way 0 text ∷ [])) (sym (ap (λ n. trace_rounds greedy (attempt hay a) k n (at before)) last ∙ no_round greedy (attempt hay a) k (at before)))
         (gave-empty_way Shown shown-append shown-empty_way g 0 before text k)
     more_rounds-suit (suc m) before text e le =
-        let next : Choice = λ rest. if is_shorter rest text then more_rounds greedy choice m rest else [] in
+        let next : WaysByText = λ rest. if is_shorter rest text then more_rounds greedy choice m rest else [] in
         let b : Rest = λ l. if nat_lt (at before) l then more l else None in
         subst (Shows g before k (more_rounds greedy choice (suc m) text)) (sym (more_rounds_unfold hay greedy a k (at before)))
         (gave-ordered Shown shown-append shown-empty_way g before k greedy (continued next (choice text)) (empty_way 0 text ∷ []) (attempt hay a b (at before)) (k (at before))
@@ -109,7 +109,7 @@ module _ (Shown : ℕ → Captures → Writes → Type 0)
     pub looped-suits : (before text : List ℕ) → before ++ text ≡ whole → Shows g before k (looped greedy choice text) (attempt hay (plus greedy a) k (at before))
     unfolding attempt
     looped-suits before text e =
-        let next : Choice = λ rest. if is_shorter rest text then more_rounds greedy choice (length rest) rest else empty_way 0 rest ∷ [] in
+        let next : WaysByText = λ rest. if is_shorter rest text then more_rounds greedy choice (length rest) rest else empty_way 0 rest ∷ [] in
         let b : Rest = λ l. if nat_lt (at before) l then more l else k l in
         gave-continued Shown shown-append shown-empty_way g before k b next (choice text) (attempt hay a b (at before))
         (every-weaker (λ (way : Way). (text ≡ way.taken ++ way.rest) × (way.captures ≡ [])) _ (choice text)

@@ -9,7 +9,7 @@ use Rattle.regex_syntax.proofs.SetLemmas.{in_ranges-members}
 use Rattle.urlpattern_meaning.specs.PartMeaning.{Captures}
 use Rattle.urlpattern_meaning.specs.Dialect.{character_of, Quantifier, Once, Optional, ZeroOrMore, OneOrMore, LazyOneOrMore, Items, Nothing, Item, Atom, Literal, Dot, AnyBut, Captured, Grouped, atom_group_count, AllowsGroups, AreItems, IsAtom, IsQuantified, Means, AtomMeans}
 use Rattle.urlpattern_syntax.specs.Text.{line_feed}
-use Rattle.urlpattern_meaning.specs.Ways.{Way, Choice, empty_way, one_that, looped, quantified_ways, ways, atom_ways}
+use Rattle.urlpattern_meaning.specs.Ways.{Way, WaysByText, empty_way, one_that, looped, quantified_ways, ways, atom_ways}
 use Rattle.urlpattern_meaning.proofs.WayLists.{Every, every-weaker}
 use Rattle.urlpattern_meaning.proofs.WaysSound.{IsSound, AreSound, nil_of_zero, taken-count, atom-count, taken-sound, ways-sound, atom-sound}
 use Rattle.urlpattern_engine.proofs.WayResults.{Writes, at, Gave, gave-append, gave-continued, gave-empty_way, gave-capturing}
@@ -43,7 +43,7 @@ module _ (Shown : ℕ → Captures → Writes → Type 0)
   abbrev hay : List ℕ
   hay = encodes whole
 
-  abbrev Fits : ℕ → Choice → (Rest → Rest) → Type 0
+  abbrev Fits : ℕ → WaysByText → (Rest → Rest) → Type 0
   Fits = Suits Shown shown-append shown-empty_way whole good
 
   abbrev Shows : ℕ → List ℕ → Rest → List Way → Option Trace → Type 0
@@ -57,12 +57,12 @@ module _ (Shown : ℕ → Captures → Writes → Type 0)
       below : (c : ℕ) → IsScalar c → c < 0x11_0000
       below c scalar = omega (arith, InScalarRange-of_IsScalar c scalar)
 
-  bare : (choice : Choice) (groups : ℕ) (Is : List ℕ → Captures → Type 0) → AreSound choice Is → ((text : List ℕ) (captures : Captures) → Is text captures → length captures ≡ groups)
+  bare : (choice : WaysByText) (groups : ℕ) (Is : List ℕ → Captures → Type 0) → AreSound choice Is → ((text : List ℕ) (captures : Captures) → Is text captures → length captures ≡ groups)
       → groups ≡ 0 → (text : List ℕ) → Every (λ way. (text ≡ way.taken ++ way.rest) × (way.captures ≡ [])) (choice text)
   bare choice groups Is sound count none text =
       every-weaker (IsSound text Is) _ (choice text) (λ way p. (p.0, nil_of_zero way.captures (count way.taken way.captures p.1 ∙ none))) (sound text)
 
-  taken-fits : (g : ℕ) (quantifier : Quantifier) (groups : ℕ) (choice : Choice) (a : Re) (Is : List ℕ → Captures → Type 0) → AllowsGroups quantifier groups → AreSound choice Is
+  taken-fits : (g : ℕ) (quantifier : Quantifier) (groups : ℕ) (choice : WaysByText) (a : Re) (Is : List ℕ → Captures → Type 0) → AllowsGroups quantifier groups → AreSound choice Is
       → ((text : List ℕ) (captures : Captures) → Is text captures → length captures ≡ groups) → Fits g choice (attempt hay a)
       → Fits g (quantified_ways quantifier groups choice) (attempt hay (re_taken quantifier a))
   unfolding attempt

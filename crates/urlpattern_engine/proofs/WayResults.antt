@@ -6,7 +6,7 @@ use lib.Utf8.{encodes}
 use Rattle.regex_hir.specs.Re.{Trace, Rest, write, prefer as prefer_trace}
 use Rattle.regex_hir.proofs.OptionLemmas.{write_cases}
 use Rattle.urlpattern_meaning.specs.PartMeaning.{Captures}
-use Rattle.urlpattern_meaning.specs.Ways.{Way, Choice, empty_way, joined_way, continued, ordered, capturing}
+use Rattle.urlpattern_meaning.specs.Ways.{Way, WaysByText, empty_way, joined_way, continued, ordered, capturing}
 use Rattle.urlpattern_meaning.proofs.WayLists.{Every}
 
 abbrev pub Writes : Type 0
@@ -61,7 +61,7 @@ module _ (Shown : ℕ → Captures → Writes → Type 0)
         shown-append g way.captures m.captures own more s shown,
       )
 
-  pub gave-continued : (g : ℕ) (before : List ℕ) (k b : Rest) (next : Choice) (xs : List Way) (o : Option Trace)
+  pub gave-continued : (g : ℕ) (before : List ℕ) (k b : Rest) (next : WaysByText) (xs : List Way) (o : Option Trace)
       → Every (λ way. Gave (g + length way.captures) (before ++ way.taken) k (next way.rest) (b (at (before ++ way.taken)))) xs
       → Gave g before b xs o → Gave g before k (continued next xs) o
   gave-continued g before k b next [] o every h = h

@@ -21,18 +21,19 @@ use Rattle.urlpattern_matcher.specs.Regexes.{regex_text, text_between}
 use Rattle.urlpattern_engine.specs.GrammarReadings.{re_result}
 use Rattle.urlpattern_meaning.specs.PartMeaning.{Captures}
 
--- The characters between two byte positions, if these are in order and at character boundaries.
+-- The characters between two byte positions. None: the positions are not in order or not at
+-- character boundaries.
 abbrev pub text_cut : (bytes : List ℕ) → ℕ × ℕ → Option (List ℕ)
 text_cut bytes span =
     if nat_le span.0 span.1 && (is_cut_at true bytes span.0 && is_cut_at true bytes span.1)
     then Some (text_between bytes span) else None
 
--- The captures of the first `count` groups of a match, from group 1 on.
+-- The captures of the first `count` groups of the match `found`, from group 1 on.
 abbrev pub match_captures : (bytes : List ℕ) → (count : ℕ) → Match → Captures
 match_captures bytes count found =
     map (λ n. option_and_then (text_cut bytes) (group_of found n)) (range_with_len 1 count)
 
--- The match at the start of the bytes.
+-- The preferred match of the automaton at the start of the bytes. None: no match.
 abbrev pub match_at_start : Nfa → (bytes : List ℕ) → Option Match
 match_at_start nfa bytes = first_match nfa bytes (length bytes) 0 0
 
@@ -58,7 +59,8 @@ pub record IsRegexReadAs (ignore_case : Bool) (regexp : List ℕ) (regex : Regex
   pub by_case : regex_config regex ≡ config_for ignore_case
   pub is_read : IsReadFromSource regex
 
--- The captures of the first match of `regexp`, as the grammar reads it, in the text.
+-- The captures of the first match of `regexp`, as the grammar reads it, in the text. None: no
+-- match, or the grammar reads nothing.
 abbrev pub read_result : (ignore_case : Bool) → (regexp : List ℕ) → List ℕ → Option Captures
 read_result ignore_case regexp text =
     option_and_then (λ (pattern, names). re_result pattern.value (length names) text)
@@ -68,8 +70,8 @@ read_result ignore_case regexp text =
 abbrev pub names_of : List (Option (String Global)) → Names
 names_of names = map (option_map string_bytes) names
 
--- The automaton matches what the expression `source` does as the grammar reads it, which matches
--- only at the start of a text.
+-- The automaton matches what the expression `source` matches as the grammar reads it, and `source`
+-- matches only at the start of a text.
 pub record IsNfaOf (ignore_case : Bool) (source : List ℕ) (nfa : Nfa) : Type 0 where
   pub tree : Hir
   pub names : Names

@@ -12,15 +12,15 @@ use Rattle.urlpattern_matcher.specs.declared.regexp.RegExp.{Ghosts as Engine}
 use Rattle.urlpattern_meaning.specs.PartMeaning.{AreGenerated, Captures}
 use Rattle.urlpattern_syntax.specs.{Options.OptionsView, Parts.PartView, RegexpText.regexp_text}
 
--- The captures of the first match of a pattern with this number of groups, the whole match among
--- them. None: no match.
+-- The captures of the first match of `re` in the text. `groups` is the number of its groups, the
+-- whole match among them. None: no match.
 abbrev pub re_result : Re → (groups : ℕ) → (text : List ℕ) → Option Captures
 re_result re groups text =
     let bytes = encode_utf8_all text in
     option_map (λ found. group_texts bytes (groups - 1) (group_of found)) (find_str re bytes 0)
 
--- Each value that was made with such flags returns the first match of what the grammar reads in the
--- value's text, custom or not.
+-- Each value that was made with flags for which `AreSuch` holds returns, for each text of
+-- characters, the first match of what the grammar reads in the value's expression, custom or not.
 abbrev pub ValuesReturnAsRead : {E : Type 0} → Engine E
     → (AreSuch : (flags : List ℕ) → Type 0) → Type 0
 ValuesReturnAsRead {E} engine AreSuch =
@@ -29,7 +29,7 @@ ValuesReturnAsRead {E} engine AreSuch =
     (text : List ℕ) → IsTrue (all_scalars text)
     → engine.answer value text ≡ re_result pattern.value (length names) text)
 
--- Two values made of the regular expression of the same parts return the same for each text of
+-- Two values made of the regular expression of the same parts return equal results for each text of
 -- characters, if case is kept or no part is custom.
 abbrev pub ExpressionsReturnAlike : {E : Type 0} → Engine E → Type 0
 ExpressionsReturnAlike {E} engine =

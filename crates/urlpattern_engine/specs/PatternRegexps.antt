@@ -1,4 +1,4 @@
--- What a value of the engine is made of, and what it returns.
+-- What a value of the engine `PatternRegexp` is made of, and what it returns.
 use Rattle.std.specs.Prelude.{◌≡◌, ℕ, Bool, List, Option, IsSome, string_bytes}
 use Rattle.regex_syntax.specs.Grammar.{read}
 use Rattle.urlpattern_matcher.specs.declared.regexp.RegExp.{Ghosts as Engine}
@@ -17,7 +17,7 @@ use Rattle.urlpattern_meaning.specs.Ways.{first_way_by}
 use Rattle.urlpattern_syntax.specs.declared.parser.RegexSyntax.TheVariants.{Rust}
 use Rattle.urlpattern_syntax.specs.Text.{text_of}
 
--- The text that an expression was made of.
+-- The text of the expression that a strategy matches.
 abbrev pub expression_text : Strategy → List ℕ
 expression_text (Steps own) = text_of own.value.text
 expression_text (LazySteps generated) = text_of generated.text
@@ -25,7 +25,7 @@ expression_text (Automaton automaton) = text_of automaton.value.text
 expression_text (Regex regex) = regex_text regex.value
 expression_text (LazyRegex text) = text_of text
 
--- The result of an expression for a text.
+-- The captures of an expression in a text, by its strategy. None: no match.
 abbrev pub expression_result : (ignore_case : Bool) → Strategy → List ℕ → Option Captures
 expression_result ignore_case (Steps own) text = walk ignore_case own.value.steps.items text
 expression_result ignore_case (LazySteps generated) text =
@@ -35,9 +35,9 @@ expression_result ignore_case (Regex regex) text = regex_result regex.value text
 expression_result ignore_case (LazyRegex regexp) text =
     read_result ignore_case (text_of regexp) text
 
--- The expression was made of the text: steps of the text; or the text alone, if it is generated
--- from parts without custom ones; or otherwise an automaton, a `Regex`, or the text alone, in which
--- the grammar reads a pattern.
+-- The strategy holds the expression `regexp`: its steps; or its text alone, if it is generated from
+-- parts without custom ones; or otherwise an automaton, a `Regex`, or the text alone, in which the
+-- grammar reads a pattern.
 abbrev pub IsExpressionOf : (ignore_case : Bool) → (regexp : List ℕ) → Strategy → Type 0
 IsExpressionOf ignore_case regexp (Steps own) =
     (text_of own.value.text ≡ regexp) × AreStepsOf regexp own.value.steps.items
@@ -51,21 +51,21 @@ IsExpressionOf ignore_case regexp (Regex regex) =
 IsExpressionOf ignore_case regexp (LazyRegex text) =
     (text_of text ≡ regexp) × IsSome (read (config_for ignore_case) regexp) × ¬ IsGenerated regexp
 
--- The text that a value was made of.
+-- The text of the expression that a value was made of.
 abbrev pub pattern_regexp_text : PatternRegexp → List ℕ
 pattern_regexp_text value = expression_text value.strategy
 
--- The result of a value for a text.
+-- The captures of a value's expression in a text. None: no match.
 unfoldable pub pattern_result : PatternRegexp → List ℕ → Option Captures
 pattern_result value text = expression_result value.ignore_case value.strategy text
 
--- The value was made of the text and the flags.
+-- The value was made of the expression `regexp` and the flags.
 pub record IsPatternRegexpOf (regexp flags : List ℕ) (value : PatternRegexp) : Type 0 where
   pub by_flags : value.ignore_case ≡ ignores_case flags
   pub of_text : IsExpressionOf value.ignore_case regexp value.strategy
 
--- The ghosts of the engine, which ignores case if the flags have an `i`, and rejects no generated
--- text, and others only for a fault.
+-- The ghosts of the trait `RegExp` for `PatternRegexp`: the engine ignores case if the flags have
+-- an `i`, and rejects no generated expression, and others only for a fault.
 abbrev pub pattern_engine : Engine PatternRegexp
 pattern_engine = record {
   syntax_of = Rust;

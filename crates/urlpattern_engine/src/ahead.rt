@@ -9,10 +9,11 @@ use crate::bounded_search::BoundedSearch;
 use regex_hir::Look;
 use regex_nfa::{State, StateId, holds};
 
-/// The greatest number of states that save a position to look past.
-const AHEAD: usize = 4;
+/// The greatest number of states that save a position, one after the other, that lookahead passes
+/// over.
+const SAVE_COUNT: usize = 4;
 
-/// A range of bytes, which is empty if `low` is greater than `high`.
+/// A span of bytes, from `low` to `high`, which is empty if `low` is greater than `high`.
 #[derive(Clone, Copy)]
 pub(crate) struct ByteBounds {
     low: u8,
@@ -20,7 +21,7 @@ pub(crate) struct ByteBounds {
 }
 
 impl BoundedSearch<'_> {
-    /// Whether a state reads a byte.
+    /// Whether a state consumes a byte.
     #[inline(always)]
     pub(crate) fn reads(&self, id: StateId) -> bool
         requires { IsState self.now id }
@@ -31,7 +32,7 @@ impl BoundedSearch<'_> {
         )
     }
 
-    /// Whether there is a byte at a position, and the span contains it.
+    /// Whether there is a byte at position `at`, and the span contains it.
     #[inline(always)]
     pub(crate) fn is_byte_of(&self, span: ByteBounds, at: usize) -> bool
         ensures { IsTrue result → IsInSpan self.now span at }
@@ -43,7 +44,8 @@ impl BoundedSearch<'_> {
         }
     }
 
-    /// Whether a state reads a byte, but not the byte at a position.
+    /// Whether a state consumes a byte, but has no transition on the byte at `at`, or no byte is
+    /// there.
     #[inline(always)]
     pub(crate) fn reads_not(&self, id: StateId, at: usize) -> bool
         requires { IsState self.now id }
@@ -57,8 +59,9 @@ impl BoundedSearch<'_> {
         }
     }
 
-    /// Returns a span of bytes on which a state goes to the other one. The span contains the byte
-    /// at the position, if the state goes to the other one on that byte.
+    /// Returns a span of bytes on which state `id` has a transition to state `other`. The span
+    /// contains the byte at `at`, if the state goes to `other` on that byte. `None`: `at` is after
+    /// all bytes, or no span was found.
     #[inline(always)]
     pub(crate) fn loop_bytes(&self, id: StateId, at: usize, other: StateId) -> Option<ByteBounds>
         requires { IsState self.now id }
@@ -86,8 +89,9 @@ impl BoundedSearch<'_> {
         }
     }
 
-    /// Returns the bytes of the first of the transitions that does not end before a byte, if the
-    /// transition leads to the other state.
+    /// Returns the span of the first transition, with an index from `from` up to but excluding
+    /// `to`, that does not end before `byte`. `None`: the transition does not lead to state
+    /// `other`, or there is none.
     #[inline(always)]
     fn sparse_bytes(&self, from: usize, to: usize, byte: u8, other: StateId) -> Option<ByteBounds>
         requires { IsSparseRange self.now.nfa.now.transitions.items from to }
@@ -111,8 +115,8 @@ impl BoundedSearch<'_> {
         None
     }
 
-    /// Returns a superset of the bytes with which a match from a state can begin, its first set.
-    /// `None`: unknown.
+    /// Returns a span that contains each byte with which a match from a state can begin, looking
+    /// into one choice. `None`: unknown.
     #[inline(always)]
     pub(crate) fn first_bytes(&self, id: StateId) -> Option<ByteBounds>
         requires { IsState self.now id }
@@ -123,14 +127,14 @@ impl BoundedSearch<'_> {
             State::Split { first, second } => {
                 let one = self.own_bytes(first)?;
                 let other = self.own_bytes(second)?;
-                Some(either(one, other))
+                Some(span_of_both(one, other))
             }
             _ => self.own_bytes(seen),
         }
     }
 
-    /// Returns a superset of the first set of a state, without looking into a choice. `None`:
-    /// unknown.
+    /// Returns a span that contains each byte with which a match from a state can begin, without
+    /// looking into a choice. `None`: unknown.
     #[inline(always)]
     fn own_bytes(&self, id: StateId) -> Option<ByteBounds>
         requires { IsState self.now id }
@@ -150,7 +154,8 @@ impl BoundedSearch<'_> {
         }
     }
 
-    /// Whether the next byte rules out a match from a state at a position.
+    /// Whether the byte at `at`, its absence, or an assertion at `at` rules out a match from a
+    /// state, looking into one choice. `false` decides nothing.
     #[inline(never)]
     pub(crate) fn fails(&self, id: StateId, at: usize) -> bool
         requires { IsState self.now id }
@@ -168,8 +173,8 @@ impl BoundedSearch<'_> {
         }
     }
 
-    /// Whether the next byte rules out a match from a state at a position, without looking into a
-    /// choice.
+    /// Whether the byte at `at`, its absence, or an assertion at `at` rules out a match from a
+    /// state, without looking into a choice. `false` decides nothing.
     #[inline(always)]
     fn stops(&self, id: StateId, at: usize) -> bool
         requires { IsState self.now id }
@@ -186,7 +191,8 @@ impl BoundedSearch<'_> {
         }
     }
 
-    /// Returns the state after those that save a position, at most `AHEAD` of them.
+    /// Passes over up to `SAVE_COUNT` states that save a position, from state `id` on, and returns
+    /// the state after them.
     #[inline(always)]
     fn after_writes(&self, id: StateId) -> StateId
         requires { IsState self.now id }
@@ -194,7 +200,7 @@ impl BoundedSearch<'_> {
         ensures none { (at : ℕ) → run_in self.now result at ≡ None → run_in self.now id at ≡ None }
     {
         let mut seen = id;
-        'writes: for _ in 0..AHEAD {
+        'writes: for _ in 0..SAVE_COUNT {
             match self.nfa.state(seen) {
                 State::Save { next, .. } => seen = next,
                 _ => return seen,
@@ -203,7 +209,7 @@ impl BoundedSearch<'_> {
         seen
     }
 
-    /// Whether an assertion holds at a position.
+    /// Whether an assertion holds at position `at`.
     #[inline(always)]
     pub(crate) fn holds(&self, look: Look, at: usize) -> bool
         ensures { result ≡ looks.holds look self.now.bytes.now at }
@@ -215,7 +221,8 @@ impl BoundedSearch<'_> {
         }
     }
 
-    /// The state that follows on the byte at a position.
+    /// Returns the state to which `state` goes on the byte at `at`. `None`: no byte is there, or
+    /// there is no transition on it.
     #[inline(always)]
     pub(crate) fn next(&self, state: State, at: usize) -> Option<StateId>
         requires { IsReadableIn self.now state }
@@ -231,9 +238,9 @@ impl BoundedSearch<'_> {
     }
 }
 
-/// The least span that contains both.
+/// The least span that contains both spans.
 #[inline(always)]
-fn either(one: ByteBounds, other: ByteBounds) -> ByteBounds
+fn span_of_both(one: ByteBounds, other: ByteBounds) -> ByteBounds
     ensures one { (b : ℕ) → HasByte one b → HasByte result b }
     ensures other { (b : ℕ) → HasByte other b → HasByte result b }
 {

@@ -72,10 +72,11 @@ impl Automaton {
         }))
     }
 
-    /// Returns the captures of the groups, if the expression matches the text. `None`: no match.
+    /// Returns the captures of the groups, if the expression matches the text. `None`: no match. An
+    /// inner `None`: the group did not participate.
     ///
-    /// Takes time proportional to the product of the numbers of states and of bytes, and less for a
-    /// long text.
+    /// Takes time at most proportional to the product of the numbers of states and of bytes, and
+    /// the time of `regex` for a long text.
     pub(crate) fn matches<'t>(
         &self,
         alloc: Global,
@@ -92,8 +93,9 @@ impl Automaton {
         }
     }
 
-    /// Returns the captures of the groups by a search without a visited set, or by one with a
-    /// visited set if the first is given up.
+    /// Returns the captures of the groups by a search without a visited set, or as `matches_each`
+    /// does if that search is given up. `None`: no match. `count` is the number of cells, two for
+    /// each group.
     fn matches_few<'t>(
         &self,
         alloc: Global,
@@ -115,8 +117,8 @@ impl Automaton {
         }
     }
 
-    /// Returns the captures of the groups by a search that visits each state at most once at each
-    /// position.
+    /// Returns the captures of the groups by `search`, which visits each state at most once at each
+    /// position. `None`: no match. `count` is the number of cells, two for each group.
     #[inline(never)]
     fn matches_each<'t>(
         &self,
@@ -132,8 +134,8 @@ impl Automaton {
         self.matches_in(alloc, text, &mut cells)
     }
 
-    /// Returns the captures of the groups by a search that writes the cells, one for the start and
-    /// one for the end of each group.
+    /// Returns the captures of the groups by `search`, which writes `cells`, one for the start and
+    /// one for the end of each group. `None`: no match.
     fn matches_in<'t>(
         &self,
         alloc: Global,
@@ -151,10 +153,11 @@ impl Automaton {
         }
     }
 
-    /// Whether the expression matches at the start of the bytes. On a match the cells are those of
-    /// the groups.
+    /// Whether the expression matches at the start of the bytes. On a match `cells` has the start
+    /// and the end of each group, plus one, or 0 if the group did not participate.
     ///
-    /// If the visited set would need too many bits, the bytes are searched in one pass.
+    /// If the backtracker would need too many bits for its visited set, a Pike VM searches in one
+    /// pass.
     fn search(&self, alloc: Global, bytes: &[u8], cells: &mut [usize]) -> Result<bool, OutOfMemory>
         requires { length cells.old ≤ self.now.nfa.slot_count - 2 }
         ensures found { IfOk result (λ is_match.
@@ -173,7 +176,8 @@ impl Automaton {
     }
 }
 
-/// Parses an expression by the grammar of `regex`: the tree, and the names of the groups.
+/// Parses an expression by the grammar of `regex`, and returns its tree and the names of its
+/// groups.
 ///
 /// The error says whether the grammar rejects the expression or memory ran out.
 pub(crate) fn read_expression(
@@ -205,7 +209,8 @@ fn config_for(ignore_case: bool) -> Config
     config
 }
 
-/// Compiles an expression with the default options of `regex`, except that case may be ignored.
+/// Compiles an expression to a `regex::Regex` with the default options, except that case may be
+/// ignored. The error for one whose automaton is too large is that of `past_limit`.
 ///
 /// The error says whether `regex` rejects the expression or memory ran out.
 pub(crate) fn regex_of(alloc: Global, regexp: &str, ignore_case: bool) -> Result<Regex, RegExpError>
@@ -221,8 +226,8 @@ pub(crate) fn regex_of(alloc: Global, regexp: &str, ignore_case: bool) -> Result
     }
 }
 
-/// Returns the captures of the groups of an expression, by a `regex::Regex` that is made for the
-/// one match. `None`: no match.
+/// Returns the captures of the groups of the expression `regexp`, by a `regex::Regex` that is
+/// compiled for the one match. `None`: no match.
 ///
 /// A rejection of the expression is reported as memory that ran out.
 pub(crate) fn match_once<'t>(
@@ -240,9 +245,10 @@ pub(crate) fn match_once<'t>(
     }
 }
 
-/// Compiles the tree of an expression with `groups` groups, the whole match among them.
+/// Compiles `hir`, the tree of the expression `regexp`, to an automaton. `groups` is the number of
+/// its groups, the whole match among them.
 ///
-/// The error says whether the automaton would be too large or memory ran out.
+/// The error says whether a large expression exceeds the limit or memory ran out; see `past_limit`.
 fn nfa_of(alloc: Global, regexp: &str, hir: &Hir, groups: usize) -> Result<Nfa, RegExpError>
     ensures implements { IfOk result (λ nfa. Implements nfa (meaning hir.now)) }
     ensures slots { IfOk result (λ nfa. nfa.slot_count ≡ 2 * groups) }
@@ -258,8 +264,9 @@ fn nfa_of(alloc: Global, regexp: &str, hir: &Hir, groups: usize) -> Result<Nfa, 
     }
 }
 
-/// The error for an expression whose automaton exceeds the limit: a rejection if the expression is
-/// large, otherwise that memory ran out. The compiler promises no size for other expressions.
+/// The error for an expression whose automaton exceeds `SIZE_LIMIT`: a rejection if `is_large`
+/// holds of the expression, otherwise that memory ran out, since the compiler's contract does not
+/// bound the automaton of an expression.
 fn past_limit(regexp: &str) -> RegExpError
     ensures { result ≡ Pattern → IsLarge (chars regexp.now) }
 {
@@ -270,8 +277,8 @@ fn past_limit(regexp: &str) -> RegExpError
     }
 }
 
-/// Returns the captures of the groups. Each group has two cells, for its start and its end, which
-/// hold the position plus one, or 0 if the group did not participate.
+/// Returns the captures of the groups from their cells, two for each group: its start and its end,
+/// plus one, or 0 if the group did not participate.
 fn groups<'t>(
     alloc: Global,
     text: &'t str,
@@ -288,7 +295,8 @@ fn groups<'t>(
     Ok(groups)
 }
 
-/// Returns the capture of a group by its two cells.
+/// Returns the capture of a group from its two cells: `first` for the start, `last` for the end.
+/// `None`: the group did not participate.
 fn group(text: &str, first: usize, last: usize) -> Option<&str>
     ensures { option_text result
         ≡ option_and_then (text_cut text.now) (both (place_of first) (place_of last)) }
@@ -298,8 +306,8 @@ fn group(text: &str, first: usize, last: usize) -> Option<&str>
     cut(text, start, end)
 }
 
-/// Returns a piece of a text. `None`: the piece ends before it begins, or it begins or ends within
-/// a character or past the text.
+/// Returns the piece of a text between two byte positions. `None`: the piece ends before it begins,
+/// or it begins or ends within a character or past the text.
 fn cut(text: &str, start: usize, end: usize) -> Option<&str>
     ensures { option_text result ≡ text_cut text.now (start, end) }
 {

@@ -1,4 +1,4 @@
-//! Searches an automaton by backtracking, without a visited set.
+//! Matches bytes by an automaton, by backtracking without a visited set.
 
 ghost use Rattle.std.specs.Prelude.{◌≡◌, ◌^◌, ◌<◌, ◌≤◌, option_map, IfNone, IfOk};
 ghost use Rattle.regex_vm.specs.Found.{group_cells, put};
@@ -7,18 +7,18 @@ ghost use Rattle.urlpattern_engine.specs.BoundedSearches.{FollowsMove, IsFoundEn
 
 use regex_nfa::{Nfa, State, StateId};
 
-/// The number of states that a search may visit, apart from those for each byte. A choice that
-/// stays open, or that all remaining bytes decide, costs one more for each remaining byte.
+/// The number of states that a search may visit, apart from those for each byte. A choice that is
+/// left open, or that all remaining bytes decide, counts as one more state for each remaining byte.
 const STATES: usize = 128;
 
-/// The number of further states for each byte.
+/// The number of further states that a search may visit for each byte of the text.
 const STATES_PER_BYTE: usize = 16;
 
-/// The greatest number of open choices.
+/// The greatest number of choices that are open at once.
 const DEPTH: usize = 64;
 
-/// The number of cells of a search, two for each group.
-pub(crate) const FEW: usize = 8;
+/// The number of cells of a search, two for each of four groups: its start and its end.
+pub(crate) const CELL_COUNT: usize = 8;
 
 /// The error of a search that would visit too many states, or leave too many choices open.
 #[derive(Clone, Copy)]
@@ -27,14 +27,13 @@ pub(crate) struct BudgetExceeded;
 /// The next move of a search from a state at a position.
 #[derive(Clone, Copy)]
 pub(crate) enum StateMove {
-    /// Continue with a state at a position.
+    /// Continue with the state at the position.
     Continue(StateId, usize),
-    /// Continue with a state at a position, after a look at all remaining bytes.
+    /// Continue with the state at the position; all remaining bytes were read to decide so.
     ContinueByRest(StateId, usize),
-    /// Try the first state at a position, and backtrack to the second if there is no match from the
-    /// first.
+    /// Try the first state at the position, and backtrack to the second if the first has no match.
     Choice(StateId, StateId, usize),
-    /// A match ends at a position.
+    /// A match ends at the position.
     Ends(usize),
     /// No match.
     Fails,
@@ -51,16 +50,17 @@ pub(crate) struct BoundedSearch<'a> {
 }
 
 impl BoundedSearch<'_> {
-    /// Returns the cells of the first groups, if the automaton matches at the start of the bytes.
+    /// Returns the cells of the first four groups, if the automaton matches at the start of the
+    /// bytes: start and end of a group, plus one, or 0 if it did not participate. `None`: no match.
     ///
     /// The error is that the search was given up.
-    pub(crate) fn find(&self) -> Result<Option<[usize; FEW]>, BudgetExceeded>
+    pub(crate) fn find(&self) -> Result<Option<[usize; CELL_COUNT]>, BudgetExceeded>
         ensures { IfOk result (λ cells.
             cells
             ≡ option_map (λ found. group_cells found 8)
             (match_at_start self.now.nfa.now self.now.bytes.now)) }
     {
-        let mut cells = [0usize; FEW];
+        let mut cells = [0usize; CELL_COUNT];
         let mut budget = self
             .bytes
             .len()
@@ -72,10 +72,11 @@ impl BoundedSearch<'_> {
         }
     }
 
-    /// Returns the end of the preferred match from a state at a position, and writes the cells of
-    /// its groups. `None`: no match.
+    /// Returns the end of the preferred match from `state` at position `at`, and writes the cells
+    /// of its groups. `None`: no match, and the cells may have changed.
     ///
-    /// The error is that the search was given up.
+    /// `depth` is the number of choices that may still be left open, `budget` the number of states
+    /// that may still be visited. The error is that the search was given up.
     #[inline(never)]
     #[cycle(search)]
     fn end(
@@ -84,7 +85,7 @@ impl BoundedSearch<'_> {
         at: usize,
         depth: usize,
         budget: &mut usize,
-        cells: &mut [usize; FEW],
+        cells: &mut [usize; CELL_COUNT],
     ) -> Result<Option<usize>, BudgetExceeded>
         requires state { IsState self.now state }
         requires place { IsTextPlace self.now at }
@@ -123,10 +124,12 @@ impl BoundedSearch<'_> {
         Err(BudgetExceeded)
     }
 
-    /// Returns the end of the preferred match from a state at a position, and writes the cells of
-    /// its groups. `None`: no match, and the cells are unchanged.
+    /// Returns the end of the preferred match from `state` at position `at`, with one more choice
+    /// left open, and writes the cells of its groups. `None`: no match, and the cells are
+    /// unchanged.
     ///
-    /// The error is that the search was given up.
+    /// `depth` is the number of choices that may still be left open, `budget` the number of states
+    /// that may still be visited. The error is that the search was given up.
     #[inline(never)]
     #[cycle(search)]
     fn try_branch(
@@ -135,7 +138,7 @@ impl BoundedSearch<'_> {
         at: usize,
         depth: usize,
         budget: &mut usize,
-        cells: &mut [usize; FEW],
+        cells: &mut [usize; CELL_COUNT],
     ) -> Result<Option<usize>, BudgetExceeded>
         requires state { IsState self.now state }
         requires place { IsTextPlace self.now at }
@@ -157,10 +160,10 @@ impl BoundedSearch<'_> {
         }
     }
 
-    /// Returns the next move from a state at a position. A state that saves a position writes its
-    /// cell.
+    /// Returns the next move of a search from state `id` at position `at`. A state that saves a
+    /// position writes its cell.
     #[inline(always)]
-    fn step(&self, id: StateId, at: usize, cells: &mut [usize; FEW]) -> StateMove
+    fn step(&self, id: StateId, at: usize, cells: &mut [usize; CELL_COUNT]) -> StateMove
         requires state { IsState self.now id }
         requires place { IsTextPlace self.now at }
         ensures { FollowsMove self.now (found_from self.now cells.old id at) cells.new result }
@@ -188,9 +191,10 @@ impl BoundedSearch<'_> {
     }
 }
 
-/// Writes a position to the cell of a slot, if the slot has one.
+/// Writes a position, plus one, to the cell of a slot. A slot of the whole match or of a group
+/// after the fourth has no cell.
 #[inline(always)]
-fn write(slot: u32, at: usize, cells: &mut [usize; FEW])
+fn write(slot: u32, at: usize, cells: &mut [usize; CELL_COUNT])
     requires { at < 2 ^ 63 }
     ensures { cells.new ≡ put cells.old slot at }
 {
@@ -199,7 +203,7 @@ fn write(slot: u32, at: usize, cells: &mut [usize; FEW])
         return;
     }
     let index = slot - 2;
-    if index < FEW {
+    if index < CELL_COUNT {
         cells[index] = at + 1;
     }
 }

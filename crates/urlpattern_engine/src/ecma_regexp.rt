@@ -8,8 +8,8 @@ use urlpattern_syntax::error::{OutOfMemory, RegExpError};
 
 /// A regular expression in ECMAScript's syntax: its text and its flags, for a browser's own engine.
 ///
-/// The crate `regex` compiles the text once, and the value keeps the result. The value matches by
-/// that `Regex`, and matches nothing if `regex` rejected the text.
+/// The crate `regex` compiles the text once, without the flags, and the value keeps the result. The
+/// value matches by that `Regex`, and matches nothing if `regex` rejected the text.
 ///
 /// A pattern whose engine is a browser's, as plain data:
 ///

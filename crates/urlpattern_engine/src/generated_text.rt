@@ -15,7 +15,8 @@ use std::alloc::Global;
 use urlpattern_steps::reading::read_steps;
 use urlpattern_syntax::error::OutOfMemory;
 
-/// The text of an expression that is generated from parts without custom ones.
+/// The text of an expression that is generated from parts without custom ones. Its steps are parsed
+/// for each match.
 #[derive(Drop)]
 pub(crate) struct GeneratedText {
     pub(crate) text: String,
@@ -24,7 +25,7 @@ pub(crate) struct GeneratedText {
 }
 
 impl GeneratedText {
-    /// Creates an expression from its text.
+    /// Creates the value from `text`, which has to be generated from parts without custom ones.
     pub(crate) fn new(text: String) -> GeneratedText
         requires { IsGenerated (text_of text) }
         ensures { result.text ≡ text }
@@ -33,7 +34,7 @@ impl GeneratedText {
     }
 
     /// Returns the captures of the groups, by steps that are parsed for the one match. `None`: no
-    /// match.
+    /// match. An inner `None`: the group did not participate.
     pub(crate) fn matches<'t>(
         &self,
         alloc: Global,

@@ -1,4 +1,4 @@
-//! Bounds the size of an expression.
+//! Bounds the size of the automaton of an expression.
 
 ghost use Rattle.std.specs.Prelude.{◌≡◌, ◌≤◌, true, map, sum};
 ghost use Rattle.std.specs.Str.{chars};
@@ -7,15 +7,15 @@ ghost use Rattle.urlpattern_engine.specs.ExpressionFaults.{IsLarge, copies_in, n
 use crate::automaton::SIZE_LIMIT;
 use urlpattern_syntax::text::split_first;
 
-/// Whether an expression may exceed the size limit of an automaton, by bounds for its characters
-/// and repetition counts.
+/// Whether the automaton of an expression may exceed `SIZE_LIMIT`, by the product of two bounds:
+/// for the characters, each once, and for their repetitions.
 pub(crate) fn is_large(regexp: &str) -> bool
     ensures { result ≡ true → IsLarge (chars regexp.now) }
 {
     copies(regexp).saturating_mul(room(regexp)) > SIZE_LIMIT
 }
 
-/// A bound in bytes for the characters of an expression, each once.
+/// A bound in bytes for the automaton of the characters of an expression, each once.
 fn room(regexp: &str) -> usize
     ensures { result ≤ sum (map room_of (chars regexp.now)) }
 {
@@ -28,7 +28,8 @@ fn room(regexp: &str) -> usize
     room
 }
 
-/// A bound for the copies of a piece: the product of the repetition counts of an expression.
+/// A bound for the number of copies of a piece of an expression: the product of the numbers after
+/// each `{` and each comma, as in `{2,30}`, where 0 or no number counts as 1.
 fn copies(regexp: &str) -> usize
     ensures { result ≤ copies_in (chars regexp.now) }
 {
@@ -43,7 +44,8 @@ fn copies(regexp: &str) -> usize
     copies
 }
 
-/// The number that a text begins with, or 0. A very large number may be returned as a smaller one.
+/// The number that a text begins with, or 0. A number that overflows is returned as the largest
+/// `usize`.
 fn number(text: &str) -> usize
     ensures { result ≤ number_from 0 (chars text.now) }
 {

@@ -1,8 +1,9 @@
 //! Engines for the regular expressions of components.
 //!
-//! [`PatternRegexp`] matches expressions of the form that parts generate by steps, other
-//! expressions that are anchored at the start of a text by an automaton, and the rest and long
-//! texts by `regex::Regex`. The results are those of `regex::Regex`.
+//! [`PatternRegexp`] matches expressions of the form that parts generate by steps, and other
+//! expressions that are anchored at the start of a text by an automaton. A `regex::Regex` matches
+//! the rest, long texts in place of the automaton, and expressions without steps that are only
+//! kept. If case is kept, the results are those of `regex::Regex`.
 //!
 //! [`EcmaRegexp`] holds an expression in ECMAScript's syntax for a browser.
 #![tactic(auto)]

@@ -11,12 +11,13 @@ use urlpattern_matcher::regexp::RegExp;
 use urlpattern_syntax::RegexSyntax;
 use urlpattern_syntax::error::{OutOfMemory, RegExpError};
 
-/// An engine that returns what `regex::Regex` returns.
+/// An engine that returns what `regex::Regex` returns, if case is kept.
 ///
 /// An expression of the form that parts generate is matched by its own steps. Any other that
 /// matches only at the start of a text, as those of patterns do, is matched by an automaton. A
-/// `regex::Regex` matches the rest; it is also made for a single match of a text of 1,024 bytes or
-/// more, and of a custom expression that is only kept.
+/// `regex::Regex` matches the rest. One is also made for each match of a text of 1,024 bytes or
+/// more, in place of the automaton, and for each match by an expression of another form that is
+/// only kept.
 ///
 /// A type alias names the engine once:
 ///

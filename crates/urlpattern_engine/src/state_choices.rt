@@ -1,4 +1,4 @@
-//! Choices of two states.
+//! Decides between the two states of a choice by the bytes that follow.
 
 ghost use Rattle.std.specs.Prelude.{◌≡◌, ◌⊎◌, ℕ, None, List, IsTrue, false};
 ghost use Rattle.regex_nfa.specs.declared.state.State.TheVariants as states;
@@ -8,18 +8,21 @@ use crate::ahead::ByteBounds;
 use crate::bounded_search::{BoundedSearch, StateMove};
 use regex_nfa::StateId;
 
-/// How far a loop runs before there is a choice.
+/// How far a match runs through a loop before it has to choose between the loop and its exit.
 #[derive(Clone, Copy)]
-struct Passed {
+struct LoopRun {
+    /// The position up to which the match runs.
     place: usize,
-    /// Whether a match may go on with either state there.
+    /// Whether a match may continue from either state at the position.
     is_open: bool,
-    /// Whether, as all remaining bytes tell, no match goes on with the first state there.
+    /// Whether all remaining bytes, once read, rule out a match from the first state at the
+    /// position.
     first_fails: bool,
 }
 
 impl BoundedSearch<'_> {
-    /// What follows a choice of two states at a place.
+    /// Returns the next move of a search from state `id` at position `at`, a choice of two states
+    /// of which `first` is preferred. Bytes decide the choice where they can.
     #[inline(always)]
     pub(crate) fn choice(
         &self,
@@ -34,11 +37,11 @@ impl BoundedSearch<'_> {
         ensures { (cells : List ℕ)
             → FollowsMove self.now (found_from self.now cells id at) cells result }
     {
-        let Passed {
+        let LoopRun {
             place,
             is_open,
             first_fails,
-        } = self.pass(id, first, second, at);
+        } = self.run_loop(id, first, second, at);
         if first_fails {
             return StateMove::ContinueByRest(second, place);
         }
@@ -60,10 +63,11 @@ impl BoundedSearch<'_> {
         StateMove::Choice(first, second, place)
     }
 
-    /// How far the loop of a choice runs: over the bytes that its body reads, and with which its
-    /// exit cannot begin.
+    /// Returns how far a match from the choice `id` runs, if one of its two states is the body of a
+    /// loop back to `id`, and the other one the exit: over the bytes that the body consumes and
+    /// with which the exit cannot begin. Without a loop, no further than `at`.
     #[inline(always)]
-    fn pass(&self, id: StateId, first: StateId, second: StateId, at: usize) -> Passed
+    fn run_loop(&self, id: StateId, first: StateId, second: StateId, at: usize) -> LoopRun
         requires choice { state_in self.now id ≡ states.Split first second }
         requires states { IsState self.now first × IsState self.now second }
         requires place { IsTextPlace self.now at }
@@ -72,16 +76,17 @@ impl BoundedSearch<'_> {
         ensures fails { IsTrue result.first_fails → run_in self.now first result.place ≡ None }
     {
         if self.reads(first) {
-            self.pass_body(id, first, second, at)
+            self.run_greedy_loop(id, first, second, at)
         } else {
-            self.pass_exit(id, first, second, at)
+            self.run_lazy_loop(id, first, second, at)
         }
     }
 
-    /// `pass`, where the first state may be the body of a loop. A loop that a match can leave at
-    /// only one place is left there.
+    /// Returns how far a match from the choice `id` runs, if `body`, its first state, is the body
+    /// of a greedy loop. If all remaining bytes show that the loop can be left only where the run
+    /// ends, `first_fails` says so.
     #[inline(always)]
-    fn pass_body(&self, id: StateId, body: StateId, exit: StateId, at: usize) -> Passed
+    fn run_greedy_loop(&self, id: StateId, body: StateId, exit: StateId, at: usize) -> LoopRun
         requires choice { state_in self.now id ≡ states.Split body exit }
         requires states { IsState self.now body × IsState self.now exit }
         requires place { IsTextPlace self.now at }
@@ -101,18 +106,19 @@ impl BoundedSearch<'_> {
         }
         let last = self.loop_end(id, body, exit, inside, leaving, place + 1);
         if last < self.bytes.len() {
-            return self.seen(exit, place);
+            return self.open_unless_exit_fails(exit, place);
         }
-        Passed {
+        LoopRun {
             place,
             is_open: true,
             first_fails: self.fails(exit, last),
         }
     }
 
-    /// `pass`, where the second state may be the body of a loop, which the first one leaves.
+    /// Returns how far a match from the choice `id` runs, if `body`, its second state, is the body
+    /// of a lazy loop, which `exit` leaves.
     #[inline(always)]
-    fn pass_exit(&self, id: StateId, exit: StateId, body: StateId, at: usize) -> Passed
+    fn run_lazy_loop(&self, id: StateId, exit: StateId, body: StateId, at: usize) -> LoopRun
         requires choice { state_in self.now id ≡ states.Split exit body }
         requires states { IsState self.now exit × IsState self.now body }
         requires place { IsTextPlace self.now at }
@@ -128,15 +134,16 @@ impl BoundedSearch<'_> {
         };
         let place = self.loop_end(id, body, exit, inside, leaving, at);
         if self.is_byte_of(inside, place) {
-            self.seen(exit, place)
+            self.open_unless_exit_fails(exit, place)
         } else {
             closed(place)
         }
     }
 
-    /// A place before a byte with which the exit of a loop may begin: open, unless the exit fails.
+    /// Returns `place`, before a byte with which the exit of a loop may begin: open, unless
+    /// lookahead rules out a match from the exit.
     #[inline(always)]
-    fn seen(&self, exit: StateId, place: usize) -> Passed
+    fn open_unless_exit_fails(&self, exit: StateId, place: usize) -> LoopRun
         requires { IsState self.now exit }
         ensures place { result.place ≡ place }
         ensures open { result.first_fails ≡ false }
@@ -148,8 +155,11 @@ impl BoundedSearch<'_> {
         }
     }
 
-    /// How far a loop runs: up to the first byte that its body does not read (`inside`), or with
-    /// which its exit may begin (`leaving`).
+    /// Returns the first position from `at` on whose byte the body of a loop does not consume
+    /// (outside of `inside`), or its exit may begin with (in `leaving`). Without one, the end of
+    /// the bytes.
+    ///
+    /// `id` is the choice between `body` and `exit`, in either order.
     #[inline(always)]
     fn loop_end(
         &self,
@@ -183,26 +193,26 @@ impl BoundedSearch<'_> {
     }
 }
 
-/// A place where a match may go on with either state.
+/// A place where a match may continue from either state of a choice.
 #[inline(always)]
-fn open(place: usize) -> Passed
+fn open(place: usize) -> LoopRun
     ensures place { result.place ≡ place }
     ensures open { result.first_fails ≡ false }
 {
-    Passed {
+    LoopRun {
         place,
         is_open: true,
         first_fails: false,
     }
 }
 
-/// A place where the next byte, if there is one, may leave no choice.
+/// A place where the next byte, or its absence, may decide a choice.
 #[inline(always)]
-fn closed(place: usize) -> Passed
+fn closed(place: usize) -> LoopRun
     ensures place { result.place ≡ place }
     ensures open { result.first_fails ≡ false }
 {
-    Passed {
+    LoopRun {
         place,
         is_open: false,
         first_fails: false,

@@ -12,7 +12,7 @@ use urlpattern_steps::walk::walk;
 use urlpattern_steps::walk_by_table;
 use urlpattern_syntax::error::OutOfMemory;
 
-/// The text of an expression, its steps, and the strategy of matching.
+/// The text of an expression, its steps, and how the steps match a text.
 #[derive(Drop)]
 pub(crate) struct Steps {
     pub(crate) text: String,
@@ -21,7 +21,7 @@ pub(crate) struct Steps {
 }
 
 impl Steps {
-    /// Creates an expression from its text and its steps.
+    /// Creates the value from an expression and its steps, and chooses how the steps match.
     #[inline(always)]
     pub(crate) fn new(text: String, steps: Vec<Step>) -> Steps
         ensures text { result.text ≡ text }
@@ -34,7 +34,8 @@ impl Steps {
         }
     }
 
-    /// Returns the captures of the steps, if they match the whole text. `None`: no match.
+    /// Returns the captures of the steps, if they match the whole text. `None`: no match. An inner
+    /// `None`: the group did not participate.
     #[inline(always)]
     pub(crate) fn matches<'t>(
         &self,
@@ -49,7 +50,8 @@ impl Steps {
     }
 }
 
-/// Returns the captures of the steps, if they match the whole text. `None`: no match.
+/// Returns the captures of the steps, if they match the whole text, in the way that `search` says.
+/// `None`: no match. An inner `None`: the group did not participate.
 #[inline(always)]
 pub(crate) fn match_steps<'t>(
     alloc: Global,

@@ -16,7 +16,7 @@ ghost use Rattle.urlpattern_syntax.specs.declared.error.RegExpError.TheVariants.
 ghost use Rattle.urlpattern_syntax.specs.Text.{text_of};
 
 use crate::automaton::{Automaton, match_once, read_expression, regex_of};
-use crate::bounded_search::FEW;
+use crate::bounded_search::CELL_COUNT;
 use crate::generated_text::GeneratedText;
 use crate::large::is_large;
 use crate::steps::Steps;
@@ -28,93 +28,102 @@ use urlpattern_steps::step::Step;
 use urlpattern_steps::stops::begin_only_with;
 use urlpattern_syntax::error::{OutOfMemory, RegExpError};
 
-/// A strategy, with what it keeps of its expression.
+/// How an expression is matched, and what is kept of the expression to match it.
 ///
-/// [`Strategy::to_match`] and [`Strategy::to_keep`] choose it.
+/// [`Strategy::to_match`] and [`Strategy::to_keep`] choose the strategy.
 #[derive(Drop)]
 pub(crate) enum Strategy {
-    /// Matches by steps that are read once.
+    /// Matches by steps that are parsed once.
     ///
-    /// Taken for each expression that can be read as steps: literals, groups of runs, repeated
-    /// groups and groups that may be missing, which is all that is generated of parts without
-    /// custom ones. Keeps the steps, O(m). A match costs what its [`StepSearch`] costs.
+    /// Chosen, where `LazySteps` is not, for each expression that can be parsed into steps, as each
+    /// one can that is generated from parts without custom ones: literals, captured runs, repeated
+    /// literals, segments and optional groups. Keeps the text and the steps, O(m). A match costs
+    /// what its [`StepSearch`] costs.
     Steps(Box<Steps>),
-    /// Matches by steps that are read for each match.
+    /// Matches by steps that are parsed for each match.
     ///
-    /// Taken for a generated expression that is kept and hardly ever matches. Keeps its m bytes. A
-    /// match reads the steps, in O(m) time and memory, and costs what their [`StepSearch`] costs.
+    /// Chosen for a generated expression that is kept and hardly ever matched. Keeps its m bytes. A
+    /// match parses the steps, in O(m) time and memory, and costs what their [`StepSearch`] costs.
     LazySteps(GeneratedText),
     /// Matches by the automaton that `regex` would compile.
     ///
-    /// Taken for an expression without steps that matches only at the start of a text. Keeps an
-    /// automaton of up to 10 MiB. A match costs what its [`AutomatonSearch`] costs.
+    /// Chosen for an expression without steps that is to match texts, and matches only at the start
+    /// of a text. Keeps the text and an automaton of up to 10 MiB. A match costs what its
+    /// [`AutomatonSearch`] costs.
     Automaton(Box<Automaton>),
     /// Matches by a `regex::Regex` that is compiled once.
     ///
-    /// Taken for an expression without steps that may match elsewhere than at the start of a text.
-    /// Keeps what `regex` compiles. A match takes the time and memory of `regex`.
+    /// Chosen for an expression without steps that is to match texts, and may match elsewhere than
+    /// at the start of a text. Keeps what `regex` compiles. A match takes the time and memory of
+    /// `regex`.
     Regex(Box<Regex>),
     /// Matches by a `regex::Regex` that is compiled for each match.
     ///
-    /// Taken for an expression without steps that is kept and hardly ever matches. Keeps its m
+    /// Chosen for an expression without steps that is kept and hardly ever matched. Keeps its m
     /// bytes. A match compiles the expression, and takes the time and memory of `regex`.
     LazyRegex(String),
 }
 
 /// How steps match a text.
 ///
-/// [`StepSearch::of`] chooses it.
+/// [`StepSearch::of`] chooses the search.
 #[derive(Clone, Copy)]
 pub(crate) enum StepSearch {
-    /// Backtracks from the last choice that is left, and forgets where it failed.
+    /// Backtracks, and memoizes no failed state.
     ///
-    /// Taken where at most one run may end at several places, no run follows it, and at most four
-    /// groups may be missing. Takes O(m · n) time, and up to 16 n bytes for repeated segments.
+    /// Chosen where at most one run or repeat may end at several places, no run follows it, and
+    /// there are at most four optional groups. Takes O(m · n) time, and up to 16 n bytes for
+    /// repeated segments.
     Backtracking,
-    /// Backtracks, and in texts of more than 256 bytes remembers where it failed.
+    /// Backtracks, and memoizes failed states in texts of more than `SHORT_LENGTH`
+    /// bytes.
     ///
-    /// Taken where another run follows the one that may end at several places, and is matched again
-    /// after each end. Takes O(n · (m + n)) time in short texts, and what `Memoized` takes in
-    /// others.
+    /// Chosen where another run follows the only run or repeat that may end at several places, and
+    /// is matched again after each end, with at most four optional groups. Takes O(n · (m + n))
+    /// time in short texts, and what `Memoized` takes in others.
     MemoizedIfLong,
-    /// Backtracks, and remembers each state, a step and a place, from which it failed.
+    /// Backtracks, and memoizes failed states: the remaining steps, if they begin with a choice,
+    /// and the remaining text.
     ///
-    /// Taken where two runs may end at several places, or more than four groups may be missing.
-    /// Takes O(m · n) time, and a bit for each state.
+    /// Chosen where two runs, or a repeat and a run after it, may end at several places, or there
+    /// are more than four optional groups. Takes O(m · n) time, and a bit for each state.
     Memoized,
-    /// Fills a table that says which ends of the text the steps from each one on match.
+    /// Fills a table that says which suffixes of the text each suffix of the steps matches.
     ///
-    /// Taken where a repeated group follows another choice, so that it would be matched anew at
-    /// many places, and where more than 1,000 steps may leave a choice, each of which takes stack.
-    /// Takes O(m · n) time, and a byte for each step and place.
+    /// Chosen where a repeat follows a run or repeat that may end at several places, and would be
+    /// matched anew after each end; and where the steps leave a choice and more than 1,000 of them
+    /// are not literal, since each of these may take stack. Takes O(m · n) time, and a byte for
+    /// each step and place.
     Table,
 }
 
 /// How an automaton matches a text.
 ///
-/// [`AutomatonSearch::of`] chooses it.
+/// [`AutomatonSearch::of`] chooses the search.
 #[derive(Clone, Copy)]
 pub(crate) enum AutomatonSearch {
-    /// Backtracks over the states, without marks on those that it visited.
+    /// Backtracks over the states, without a visited set.
     ///
-    /// Taken for texts of less than 1,024 bytes, with up to four groups. Takes O(n) time and no
-    /// memory: past 16 n + 128 states, or 64 open choices, `Marked` matches the text.
-    Unmarked,
-    /// Visits each state at most once at each place.
-    ///
-    /// Taken for texts of less than 1,024 bytes with more groups, or where `Unmarked` gave up.
-    /// Takes time for each state and place, and a bit; or, if these are too many, one pass over the
+    /// Chosen for texts of less than 1,024 bytes, with up to four groups. Takes O(n) time and no
+    /// memory. Past 16 n + 128 states, or 64 open choices, it is given up, and `Marked` matches the
     /// text.
+    Unmarked,
+    /// Visits each state at most once at each position.
+    ///
+    /// Chosen for texts of less than 1,024 bytes with more groups, or where `Unmarked` gave up.
+    /// Takes time for each state and position, and a bit; or, if these are too many, one pass over
+    /// the text.
     Marked,
     /// Matches by a `regex::Regex` that is compiled for the text.
     ///
-    /// Taken for texts of 1,024 bytes or more, where a search state by state takes longer. Takes
+    /// Chosen for texts of 1,024 bytes or more, where a search state by state takes longer. Takes
     /// the time and memory of `regex`, to compile the expression and to match the text.
     Compiled,
 }
 
 impl Strategy {
-    /// Chooses the strategy of an expression that matches texts.
+    /// Chooses the strategy of an expression that is to match texts, and parses or compiles the
+    /// expression for it.
     ///
     /// The error says whether `regex` rejects the expression or memory ran out.
     pub(crate) fn to_match(
@@ -133,8 +142,8 @@ impl Strategy {
         Ok(compiled(alloc, pattern, ignore_case)?)
     }
 
-    /// Chooses the strategy of an expression that is kept and hardly ever matches. `is_generated`
-    /// says that parts without custom ones generate the expression.
+    /// Chooses the strategy of an expression that is kept and hardly ever matched, and parses the
+    /// expression unless `is_generated`, which says that parts without custom ones generate it.
     ///
     /// The error says whether `regex` rejects the expression or memory ran out.
     pub(crate) fn to_keep(
@@ -159,7 +168,8 @@ impl Strategy {
         Ok(Strategy::LazyRegex(pattern))
     }
 
-    /// Returns the captures of the groups, if the expression matches the text. `None`: no match.
+    /// Returns the captures of the groups, if the expression matches the text. `None`: no match. An
+    /// inner `None`: the group did not participate.
     pub(crate) fn matches<'t>(
         &self,
         alloc: Global,
@@ -212,7 +222,7 @@ fn compiled(alloc: Global, pattern: &str, ignore_case: bool) -> Result<Strategy,
 
 /// Parses an expression, and also compiles a large one, to see whether the engine accepts it.
 ///
-/// The error says whether `regex` rejects it or memory ran out.
+/// The error says whether `regex` rejects the expression or memory ran out.
 #[tactic(auto, using(crate::proofs::GrammarResults::reads_some))]
 fn check(alloc: Global, pattern: &str, ignore_case: bool) -> Result<(), RegExpError>
     ensures accepted { IfOk result (λ nothing.
@@ -236,14 +246,14 @@ fn boxed<T: Drop>(alloc: Global, value: T) -> Result<Box<T>, AllocError>
     }
 }
 
-/// The greatest length in bytes of a short text.
+/// The greatest length in bytes of a text for which `MemoizedIfLong` memoizes nothing.
 const SHORT_LENGTH: usize = 256;
 
-/// The greatest number of optional groups for which failed states are not remembered.
-const MAYBE_COUNT: usize = 4;
+/// The greatest number of optional groups that alone do not make a match memoize failed states.
+const OPTIONAL_COUNT: usize = 4;
 
-/// The greatest number of steps with a choice for which steps are matched by backtracking. Each may
-/// be a nested call.
+/// The greatest number of steps other than literals that are matched by backtracking, if one leaves
+/// a choice. Each may be a nested call.
 const CHOICE_COUNT: usize = 1000;
 
 impl StepSearch {
@@ -256,7 +266,7 @@ impl StepSearch {
         }
     }
 
-    /// Whether a match of this text remembers the states that failed.
+    /// Whether a match of this text memoizes failed states.
     pub(crate) fn is_memoized(self, text: &str) -> bool {
         match self {
             StepSearch::Memoized => true,
@@ -266,8 +276,11 @@ impl StepSearch {
     }
 }
 
-/// How steps match texts by backtracking: with a memory of failed states, unless at most one run
-/// may end at several places and few groups may be missing.
+/// Chooses whether steps that are matched by backtracking memoize failed states: always, in long
+/// texts or never.
+///
+/// Nothing is memoized if at most one run or repeat may end at several places, no run follows it,
+/// and at most `OPTIONAL_COUNT` groups are optional.
 fn backtracking(steps: &[Step]) -> StepSearch {
     let mut search = StepSearch::Backtracking;
     let mut is_chosen = false;
@@ -294,14 +307,15 @@ fn backtracking(steps: &[Step]) -> StepSearch {
         }
         rest = others;
     }
-    if maybe_count > MAYBE_COUNT {
+    if maybe_count > OPTIONAL_COUNT {
         StepSearch::Memoized
     } else {
         search
     }
 }
 
-/// Whether a step may match up to several places before the other steps.
+/// Whether a step may match several prefixes of a text after which the other steps match, as far as
+/// is known. An optional group does not count.
 fn has_choice(step: &Step, others: &[Step]) -> bool {
     match step {
         Step::LazyRun(end) => !begin_only_with(others, *end),
@@ -311,8 +325,8 @@ fn has_choice(step: &Step, others: &[Step]) -> bool {
     }
 }
 
-/// Whether the repeated groups among the steps come before each other choice, so that none of them
-/// begins at many places of a text.
+/// Whether no repeat (a `GreedyRun`, `RepeatedLiteral` or `Segments`) follows a step with a choice,
+/// so that no repeat begins at many places of a text.
 fn begin_with_repeats(steps: &[Step]) -> bool {
     let mut is_chosen = false;
     let mut rest = steps;
@@ -330,7 +344,8 @@ fn begin_with_repeats(steps: &[Step]) -> bool {
     true
 }
 
-/// Whether so few of the steps may leave a choice that trying them needs little of the stack.
+/// Whether backtracking over the steps needs little of the stack: at most `CHOICE_COUNT` steps are
+/// not literal, or no step leaves a choice.
 fn is_shallow(steps: &[Step]) -> bool {
     let choices = steps
         .iter()
@@ -338,7 +353,7 @@ fn is_shallow(steps: &[Step]) -> bool {
     choices.count() <= CHOICE_COUNT || !leave_choices(steps)
 }
 
-/// Whether some step leaves a choice, or may be missing.
+/// Whether some step leaves a choice of matches, or is an optional group.
 fn leave_choices(steps: &[Step]) -> bool {
     let mut rest = steps;
     while let Some((step, others)) = rest.split_first() {
@@ -350,18 +365,19 @@ fn leave_choices(steps: &[Step]) -> bool {
     false
 }
 
-/// The least length in bytes of a long text.
+/// The least length in bytes of a text that `Compiled` matches.
 const LONG_LENGTH: usize = 1 << 10;
 
 impl AutomatonSearch {
-    /// Chooses how an automaton matches a text. There are two cells for each group.
+    /// Chooses how an automaton matches a text. `cells` is the number of cells, in which a search
+    /// writes the start and the end of each group.
     pub(crate) fn of(text: &str, cells: usize) -> AutomatonSearch
         ensures { result ≡ Unmarked → cells ≤ 8 }
     {
         if text.len() >= LONG_LENGTH {
             return AutomatonSearch::Compiled;
         }
-        if cells <= FEW {
+        if cells <= CELL_COUNT {
             AutomatonSearch::Unmarked
         } else {
             AutomatonSearch::Marked

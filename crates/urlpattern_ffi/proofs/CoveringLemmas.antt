@@ -6,7 +6,7 @@ use Rattle.urlpattern_ffi.specs.KeptPatterns.{PatternList}
 use Rattle.urlpattern_ffi.specs.declared.status.Status.{Status}
 use Rattle.urlpattern_ffi.specs.declared.status.Status.TheVariants as statuses
 use Rattle.urlpattern_engine.specs.declared.pattern_regexp.PatternRegexp.{PatternRegexp}
-use Rattle.urlpattern_pattern.specs.PatternComparing.{OfBoth}
+use Rattle.urlpattern_pattern.specs.PatternComparing.{OfPartsOfBoth}
 use Rattle.urlpattern_pattern.specs.UrlPatterns.{UrlPattern}
 use Rattle.urlpattern_compare.specs.declared.pattern_parts.PatternParts.{PatternParts}
 
@@ -16,7 +16,7 @@ some_and (Some x) P Q weaker is = weaker x is
 
 -- A fact of the parts of both patterns implies a weaker fact.
 pub of_both : {E : Type 0} (pattern other : UrlPattern E) (P Q : (parts others : PatternParts) → Type 0)
-    → ((parts others : PatternParts) → P parts others → Q parts others) → OfBoth pattern other P → OfBoth pattern other Q
+    → ((parts others : PatternParts) → P parts others → Q parts others) → OfPartsOfBoth pattern other P → OfPartsOfBoth pattern other Q
 of_both pattern other P Q weaker =
     some_and pattern.parts (λ parts. IsSomeAnd other.parts (P parts)) (λ parts. IsSomeAnd other.parts (Q parts))
     (λ parts. some_and other.parts (P parts) (Q parts) (weaker parts))

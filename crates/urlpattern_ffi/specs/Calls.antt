@@ -1,4 +1,5 @@
--- Outcomes of calls, whose texts are bytes.
+-- Outcomes of compiling patterns and of matching URLs. Texts are bytes, and an empty base URL
+-- counts as no base URL.
 use Rattle.std.specs.Prelude.{◌≡◌, ◌⊎◌, ◌++◌, ℕ, Bool, List, [], ◌∷◌, slice_get, Option, None, Some}
 use Rattle.std.specs.Str.{chars, IsUtf8}
 use Rattle.url.specs.Parts.{Parts}
@@ -22,53 +23,57 @@ use Rattle.urlpattern_pattern.specs.KeptParts.{KeepsPartsOfText}
 use Rattle.urlpattern_pattern.specs.UrlPatterns.{UrlPattern}
 use Rattle.urlpattern_syntax.specs.declared.parser.RegexSyntax.TheVariants.{Rust}
 
--- The number is that of a status for which `Holds` is true.
+-- `number` is the number of a status for which `Holds` is true.
 abbrev pub ReturnsStatus : (Holds : Status → Type 0) → ℕ → Type 0
 ReturnsStatus Holds number = (status : Status) × (number ≡ status_number status) × Holds status
 
 -- ---- patterns
 
--- The base URL as an option: an empty text is none.
+-- The base URL that a text gives. `None`: the text is empty.
 abbrev pub given_base : List ℕ → Option (List ℕ)
 given_base [] = None
 given_base (byte ∷ bytes) = Some (byte ∷ bytes)
 
--- The options of a pattern that C compiles.
+-- The options with which C compiles patterns: the syntax of `regex`, and case ignored or not.
 abbrev pub c_options : (ignore_case : Bool) → UrlPatternOptions
 c_options ignores = record { regex_syntax = Rust; ignore_case = ignores }
 
--- The constructor string with this base URL is compiled to the pattern.
+-- The constructor string `text` with the base URL `base` is compiled to the pattern.
 abbrev pub IsCompiledFromText : (text : List ℕ) → (base : Option (List ℕ))
     → (ignore_case : Bool) → UrlPattern PatternRegexp → Type 0
 IsCompiledFromText text base ignores pattern =
     IsPatternOfText pattern_engine (chars text) base (c_options ignores) (pattern_view pattern)
 
--- The pattern keeps the parts that the component texts of the constructor string read as.
+-- The pattern keeps the parts that the texts of its components are parsed to, and its components
+-- are made of these parts. The texts are those of the constructor string `text` with the base URL
+-- `base`.
 abbrev pub KeepsItsParts : (text : List ℕ) → (base : Option (List ℕ))
     → (ignore_case : Bool) → UrlPattern PatternRegexp → Type 0
 KeepsItsParts text base ignores pattern =
     KeepsPartsOfText pattern_engine (chars text) base (c_options ignores) pattern
 
--- The constructor string with this base URL is rejected with this error.
+-- The constructor string `text` with the base URL `base` is rejected with this error.
 abbrev pub RejectsCompilation : (text : List ℕ) → (base : Option (List ℕ))
     → (ignore_case : Bool) → ErrorView → Type 0
 RejectsCompilation text base ignores =
     RejectsPatternOfText pattern_engine (chars text) base (c_options ignores)
 
--- The status for an error with which a pattern is rejected.
+-- The status for an error of compiling: `OutOfMemory`, or `Refused` for any other error.
 abbrev pub error_status : ErrorView → Status
 error_status views.OutOfMemory = statuses.OutOfMemory
 error_status error = statuses.Refused
 
--- The pattern is appended, or memory ran out and the patterns are unchanged.
+-- The outcome of appending a pattern. `Done`: it is appended. `OutOfMemory`: the patterns are
+-- unchanged.
 abbrev pub IsPushed : (old : List (UrlPattern PatternRegexp)) → UrlPattern PatternRegexp
     → (new : List (UrlPattern PatternRegexp)) → Status → Type 0
 IsPushed old pattern new statuses.Done = new ≡ old ++ pattern ∷ []
 IsPushed old pattern new statuses.OutOfMemory = new ≡ old
 IsPushed old pattern new status = ⊥
 
--- The constructor string with this base URL is compiled, and its pattern, which keeps its parts, is
--- appended. Otherwise the patterns are unchanged.
+-- The outcome of compiling the constructor string `text` with the base URL `base` and appending the
+-- pattern. `Done`: the pattern is appended, with its parts. `Refused`: the string is rejected.
+-- Unless `Done`, the patterns are unchanged.
 abbrev pub IsAdded : (old : List (UrlPattern PatternRegexp)) → (text base : List ℕ)
     → (ignore_case : Bool) → (new : List (UrlPattern PatternRegexp)) → Status → Type 0
 IsAdded old text base ignores new statuses.Done =
@@ -83,11 +88,12 @@ IsAdded old text base ignores new status = ⊥
 
 -- ---- URLs
 
--- The text is parsed as this URL, under the base URL unless that is empty.
+-- `text` is parsed as the URL, under the base URL `base` unless that is empty.
 abbrev pub IsUrlUnderBase : (text base : List ℕ) → Parts → Type 0
 IsUrlUnderBase text base url = IsUrlOf text (given_base base) url
 
--- The reason why the text is not a URL.
+-- The status says why `text` with the base URL `base` is not parsed as a URL. `NoMatch`: `url`
+-- rejects one of the two, or the longer one may be too long.
 abbrev pub IsNoUrl : (text base : List ℕ) → Status → Type 0
 IsNoUrl text base statuses.NotUtf8 = (¬ IsUtf8 text) ⊎ (¬ IsUtf8 base)
 IsNoUrl text base statuses.NoMatch = IsRejectedText text (given_base base)
@@ -96,7 +102,8 @@ IsNoUrl text base status = ⊥
 
 -- ---- matches
 
--- Whether the pattern matches the URL. A text that is not a URL does not match.
+-- The outcome of matching the pattern against the URL `text` with the base URL `base`. `Done`: it
+-- matches. `NoMatch`: it does not match, or there is no URL. Any other status is as in `IsNoUrl`.
 abbrev pub IsUrlTested : PatternView PatternRegexp → (text base : List ℕ) → Status → Type 0
 IsUrlTested pattern text base statuses.Done =
     (url : Parts) × IsUrlUnderBase text base url
@@ -107,7 +114,8 @@ IsUrlTested pattern text base statuses.NoMatch =
     × HasNoMatch pattern_result pattern (match_inputs.Url url))
 IsUrlTested pattern text base status = IsNoUrl text base status
 
--- Whether the pattern at an index matches the URL.
+-- The outcome of matching the pattern at `index` against a URL (`IsUrlTested`). `NoPattern`: the
+-- index is out of range.
 abbrev pub IsTested : List (UrlPattern PatternRegexp) → (index : ℕ) → (text base : List ℕ) → Status
     → Type 0
 IsTested patterns index text base statuses.NoPattern = slice_get patterns index ≡ None
@@ -115,7 +123,9 @@ IsTested patterns index text base status =
     (pattern : UrlPattern PatternRegexp) × (slice_get patterns index ≡ Some pattern)
     × IsUrlTested (pattern_view pattern) text base status
 
--- The first pattern that matches the URL, or none.
+-- The outcome of finding the first pattern that matches the URL `text` with the base URL `base`.
+-- `Done`: `new` is its index. `NoMatch`: no pattern matches, or there is no URL. `NoPattern`: the
+-- list is empty. Any other status is as in `IsNoUrl`. Unless `Done`, the index `old` is unchanged.
 abbrev pub IsFirstReported : List (UrlPattern PatternRegexp) → (text base : List ℕ) → (old new : ℕ)
     → Status → Type 0
 IsFirstReported patterns text base old new statuses.Done =

@@ -1,4 +1,4 @@
--- Captures as a text and spans of it.
+-- The captures of a match as one text, with a span of it for each group. Texts are bytes.
 use Rattle.std.specs.Prelude.{◌≡◌, ◌⊎◌, ◌++◌, ◌+◌, ◌<◌, ◌≤◌, ℕ, List, [], ◌∷◌, length, drop, take, flat_map, slice_get, encode_utf8_all, unwrap_or, is_some, Option, None, Some, if◌then◌else◌}
 use Rattle.std.specs.Global.{Global}
 use Rattle.std.specs.declared.boxed.Box.{Box}
@@ -27,28 +27,30 @@ use Rattle.urlpattern_pattern.specs.UrlPatterns.{UrlPattern}
 
 -- ---- groups
 
--- A group: its component, its number in the component, and its capture.
+-- A group of a match: its component, its number in the component, and its capture, or `None` if the
+-- group took no part.
 abbrev pub NumberedGroup : Type 0
 NumberedGroup = ComponentName × ℕ × Option (List ℕ)
 
--- The groups of a component, numbered from an index on.
+-- The groups of a component, given with their names, numbered from `from` on.
 abbrev pub numbered : ComponentName → (from : ℕ) → List (List ℕ × Option (List ℕ))
     → List NumberedGroup
 numbered component from [] = []
 numbered component from (group ∷ groups) =
     (component, from, group.1) ∷ numbered component (from + 1) groups
 
--- The groups of these components, each component's numbered from 0 on.
+-- The groups of the components `names`, component by component, numbered from 0 on in each.
 abbrev pub numbered_groups : (groups : ComponentName → List (List ℕ × Option (List ℕ)))
     → List ComponentName
     → List NumberedGroup
 numbered_groups groups names = flat_map (λ name. numbered name 0 (groups name)) names
 
--- The groups of a match, in the order of the components.
+-- The groups of a match, in the order of the components, numbered from 0 on in each.
 abbrev pub found_groups : UrlPatternCaptures → List NumberedGroup
 found_groups found = numbered_groups (groups_view found) components
 
--- The groups are those of a match of the URL, in the order of the components.
+-- `groups` are the groups of the pattern's match of the URL `url` with the base URL `base`, in the
+-- order of the components.
 pub record AreGroupsOf (pattern : PatternView PatternRegexp) (url base : List ℕ)
     (groups : List NumberedGroup) : Type 0 where
   pub parts : Parts
@@ -59,15 +61,15 @@ pub record AreGroupsOf (pattern : PatternView PatternRegexp) (url base : List �
 
 -- ---- texts and spans
 
--- The capture of a group in UTF-8. Empty if the group took no part.
+-- The capture of a group in UTF-8. Empty if the group took no part (`None`).
 abbrev pub capture_bytes : Option (List ℕ) → List ℕ
 capture_bytes capture = encode_utf8_all (unwrap_or capture [])
 
--- The captures of groups, one after the other.
+-- The captures of groups in UTF-8, one after the other.
 abbrev pub texts_of_groups : List NumberedGroup → List ℕ
 texts_of_groups groups = flat_map (λ group. capture_bytes group.2) groups
 
--- The span of a group whose text begins at `start`.
+-- The span of a group whose capture begins at byte `start`.
 abbrev pub span_at : (start : ℕ) → NumberedGroup → GroupSpan
 span_at start group = record {
   component = component_number group.0;
@@ -77,17 +79,17 @@ span_at start group = record {
   length = length (capture_bytes group.2);
 }
 
--- The spans of groups whose texts follow each other from `start` on.
+-- The spans of groups whose captures follow each other from byte `start` on.
 abbrev pub spans_from : (start : ℕ) → List NumberedGroup → List GroupSpan
 spans_from start [] = []
 spans_from start (group ∷ groups) =
     span_at start group ∷ spans_from (start + length (capture_bytes group.2)) groups
 
--- The sizes before anything is written.
+-- The sizes before anything is written: 0 bytes and 0 spans.
 abbrev pub no_sizes : Sizes
 no_sizes = record { bytes = 0; spans = 0 }
 
--- The sizes that groups need.
+-- The room that groups need: the bytes of their captures, and a span for each.
 abbrev pub sizes_of : List NumberedGroup → Sizes
 sizes_of groups = record {
   bytes = length (texts_of_groups groups);
@@ -96,14 +98,15 @@ sizes_of groups = record {
 
 -- ---- buffers
 
--- If the elements fit into the list from `at` on, they are written there, and the rest is
--- unchanged.
+-- If `added` fits into the list `old` from index `at` on, then `new` is `old` with `added` written
+-- there.
 abbrev pub IsWrittenAt : {A : Type 0} → (at : ℕ) → (added old new : List A) → Type 0
 IsWrittenAt at added old new =
     at + length added ≤ length old → new ≡ take at old ++ added ++ drop (at + length added) old
 
--- The texts and the spans of the groups are written after the sizes `from`, as far as there is
--- room.
+-- The captures of the groups, from byte `from.bytes` on, and their spans, from index `from.spans`
+-- on, end at the sizes `to`. The captures are written to their buffer if all of them fit, and the
+-- spans are written to theirs if all of them fit.
 pub record AreWrittenAt (groups : List NumberedGroup) (from to : Sizes) (old new : List ℕ)
     (old_spans new_spans : List GroupSpan) : Type 0 where
   pub bytes : to.bytes ≡ from.bytes + length (texts_of_groups groups)
@@ -111,19 +114,21 @@ pub record AreWrittenAt (groups : List NumberedGroup) (from to : Sizes) (old new
   pub texts_put : IsWrittenAt from.bytes (texts_of_groups groups) old new
   pub spans_put : IsWrittenAt from.spans (spans_from from.bytes groups) old_spans new_spans
 
--- A group is written after the sizes `from`.
+-- `AreWrittenAt` for a single group, given by its component, its number and its capture.
 abbrev pub IsGroupWrittenAt : ComponentName → (group : ℕ) → (capture : Option (List ℕ))
     → (from to : Sizes) → (old new : List ℕ)
     → (old_spans new_spans : List GroupSpan) → Type 0
 IsGroupWrittenAt component group capture from to old new old_spans new_spans =
     AreWrittenAt ((component, group, capture) ∷ []) from to old new old_spans new_spans
 
--- The list begins with these elements, and the rest is unchanged.
+-- `new` is `old` with `elements` written at its start. `old` has room for them.
 abbrev pub BeginsWithElements : {A : Type 0} → (elements old new : List A) → Type 0
 BeginsWithElements elements old new =
     (length elements ≤ length old) × (new ≡ elements ++ drop (length elements) old)
 
--- Done: the texts and the spans of the groups are written. TooSmall: there is no room for both.
+-- The outcome of writing the captures and the spans of the groups. `Done`: each buffer begins with
+-- them. `TooSmall`: a buffer has too little room. In both cases `needed` is the room that the
+-- groups need. `OutOfMemory` says nothing of the buffers and of `needed`.
 abbrev pub AreSpansWritten : List NumberedGroup
     → (old new : List ℕ) → (old_spans new_spans : List GroupSpan) → (needed : Sizes) → Status
     → Type 0
@@ -138,7 +143,10 @@ AreSpansWritten groups old new old_spans new_spans needed status = ⊥
 
 -- ---- matches
 
--- The groups of the match are written, or there is no match.
+-- The outcome of writing the groups of the pattern's match of the URL `url` with the base URL
+-- `base`. `Done`, `TooSmall`: there is a match, as in `AreSpansWritten`. `OutOfMemory` says
+-- nothing. Any other status says why there is no match (`IsUrlTested`), and the buffers are
+-- unchanged.
 abbrev pub AreUrlCaptures : PatternView PatternRegexp → (url base : List ℕ) → (old new : List ℕ)
     → (old_spans new_spans : List GroupSpan) → (needed : Sizes)
     → Status → Type 0
@@ -152,7 +160,8 @@ AreUrlCaptures pattern url base old new old_spans new_spans needed statuses.OutO
 AreUrlCaptures pattern url base old new old_spans new_spans needed status =
     IsUrlTested pattern url base status × (new ≡ old) × (new_spans ≡ old_spans)
 
--- The captures of the pattern at an index.
+-- The outcome of writing the groups of the match by the pattern at `index` (`AreUrlCaptures`).
+-- `NoPattern`: the index is out of range, and the buffers are unchanged.
 abbrev pub AreCapturesReported : PatternList → (index : ℕ) → (url base : List ℕ)
     → (old new : List ℕ) → (old_spans new_spans : List GroupSpan)
     → (needed : Sizes) → Status → Type 0
@@ -164,7 +173,8 @@ AreCapturesReported patterns index url base old new old_spans new_spans needed s
 
 -- ---- first matches
 
--- The groups of the first pattern of the list that matches the URL, which has this index.
+-- The pattern at `index` is the first of the list that matches the URL `url` with the base URL
+-- `base`, and `groups` are the groups of its match.
 pub record AreFirstGroupsOf (patterns : PatternList) (url base : List ℕ) (index : ℕ)
     (groups : List NumberedGroup) : Type 0 where
   pub parts : Parts
@@ -178,7 +188,10 @@ pub record AreFirstGroupsOf (patterns : PatternList) (url base : List ℕ) (inde
   pub are_captures : AreGroupsInOrder pattern_result pattern (texts_of_url parts) captures
   pub are_groups : groups ≡ numbered_groups captures components
 
--- The index of the first match and its groups are written, or there is no match.
+-- The outcome of writing the index and the groups of the first match of the URL `url` with the base
+-- URL `base`. `Done`, `TooSmall`: `new_index` is the index, and the groups are as in
+-- `AreSpansWritten`. `OutOfMemory` says nothing. Any other status says why there is no match
+-- (`IsFirstReported`), and index and buffers are unchanged.
 abbrev pub AreFirstCaptures : PatternList → (url base : List ℕ) → (old_index new_index : ℕ)
     → (old new : List ℕ) → (old_spans new_spans : List GroupSpan)
     → (needed : Sizes) → Status → Type 0
@@ -197,7 +210,7 @@ AreFirstCaptures patterns url base old_index new_index old new old_spans new_spa
     × (new ≡ old)
     × (new_spans ≡ old_spans)
 
--- The first match of the patterns of a handle.
+-- `AreFirstCaptures` for the patterns that a handle keeps.
 abbrev pub AreFirstInBox : Option (Box PatternBox Global)
     → (url base : List ℕ) → (old_index new_index : ℕ) → (old new : List ℕ)
     → (old_spans new_spans : List GroupSpan) → (needed : Sizes) → Status → Type 0

@@ -1,4 +1,4 @@
--- Inits in JSON.
+-- Inits in JSON, and the outcome of compiling them.
 use Rattle.std.specs.Prelude.{◌≡◌, ◌⊎◌, ◌++◌, ℕ, Bool, List, [], ◌∷◌, Option, None, Some, option_and_then}
 use Rattle.std.specs.Str.{IsUtf8}
 use Rattle.serde_json.specs.Read.{read}
@@ -20,23 +20,25 @@ use Rattle.urlpattern_pattern.specs.KeptParts.{KeepsPartsOf}
 use Rattle.urlpattern_pattern.specs.UrlPatterns.{UrlPattern}
 use Rattle.urlpattern_quirks.specs.Inputs.{IsInitOf, RejectsInput}
 
--- The texts of an init in JSON: an object, in which each text may be missing or null.
+-- The init that JSON is: an object in which the text of each component and of the base URL may be
+-- missing or null. `None`: the text is not JSON, or not such an object.
 abbrev pub plain_init_of : (json : List ℕ) → Option InitView
 plain_init_of json = option_and_then init_read (read json)
 
--- The init has the texts in the JSON, and its base URL.
+-- `init` has the component texts in the JSON, and the URL that its base URL is parsed to.
 pub record IsInitOfJson (json : List ℕ) (init : UrlPatternInit) : Type 0 where
   pub plain : PlainInit
   pub is_read : plain_init_of json ≡ Some (init_view plain)
   pub is_init : IsInitOf plain init
 
--- `url` rejects the base URL in the JSON.
+-- The JSON is an init whose base URL `url` rejects with this error.
 abbrev pub HasRejectedBase : (json : List ℕ) → ErrorView → Type 0
 HasRejectedBase json error =
     (plain : PlainInit) × (plain_init_of json ≡ Some (init_view plain))
     × RejectsInput (inputs.Init plain) None error
 
--- The reason why the JSON is not an init.
+-- The status says why there is no init. `Refused`: the text is not the JSON of an init, or its base
+-- URL is rejected.
 abbrev pub IsNoInit : (json : List ℕ) → Status → Type 0
 IsNoInit json statuses.NotUtf8 = ¬ IsUtf8 json
 IsNoInit json statuses.Refused =
@@ -44,14 +46,15 @@ IsNoInit json statuses.Refused =
 IsNoInit json statuses.OutOfMemory = Unit {0}
 IsNoInit json status = ⊥
 
--- The init is rejected with this error.
+-- The JSON is an init, which is rejected with this error when it is compiled.
 abbrev pub IsInitRejected : (json : List ℕ) → (ignore_case : Bool) → ErrorView → Type 0
 IsInitRejected json ignores error =
     (init : UrlPatternInit) × IsInitOfJson json init
     × RejectsInit pattern_engine init (c_options ignores) error
 
--- The init is compiled, and its pattern, which keeps its parts, is appended. Otherwise the patterns
--- are unchanged.
+-- The outcome of compiling an init in JSON and appending the pattern. `Done`: the pattern is
+-- appended, with its parts. `Refused`: the JSON is not an init, or the init is rejected. Unless
+-- `Done`, the patterns are unchanged.
 abbrev pub IsInitAdded : (old : PatternList) → (json : List ℕ)
     → (ignore_case : Bool) → (new : PatternList) → Status → Type 0
 IsInitAdded old json ignores new statuses.Done =

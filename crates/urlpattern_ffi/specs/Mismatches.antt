@@ -1,4 +1,5 @@
--- Components as reported to C.
+-- Numbers of components, the component that does not match a URL, and whether a pattern has a
+-- custom regular expression, as reported to C.
 use Rattle.std.specs.Prelude.{◌≡◌, ◌⊎◌, ℕ, true, false, List, slice_get, None, Some}
 use Rattle.url.specs.Parts.{Parts}
 use Rattle.urlpattern.specs.Eight.{components}
@@ -15,7 +16,7 @@ use Rattle.urlpattern_init.specs.Inheritance.{texts_of_url}
 use Rattle.urlpattern_pattern.specs.Mismatch.{FindsMismatch}
 use Rattle.urlpattern_pattern.specs.UrlPatterns.{UrlPattern}
 
--- The number that is written if there is no component.
+-- The number that is reported in place of a component if there is none.
 abbrev pub no_component : ℕ
 no_component = 8
 
@@ -30,7 +31,8 @@ component_number names.Pathname = 5
 component_number names.Search = 6
 component_number names.Hash = 7
 
--- The number is that of the first component that does not match the URL.
+-- `number` is the number of the first component of the pattern that does not match the URL `text`
+-- with the base URL `base`.
 abbrev pub IsMismatchNumber : PatternView PatternRegexp → (text base : List ℕ) → (number : ℕ)
     → Type 0
 IsMismatchNumber pattern text base number =
@@ -39,8 +41,10 @@ IsMismatchNumber pattern text base number =
     × (slice_get components number ≡ Some name)
     × FindsMismatch pattern_result pattern (texts_of_url url) (Some name)
 
--- Done: each component matches. NoMatch: the first one that does not match is reported, or none if
--- the text is not a URL.
+-- The outcome of looking for a component that does not match the URL `text` with the base URL
+-- `base`. `Done`: each matches. `NoMatch`: `number` is the number of the first that does not match,
+-- or `no_component` if there is no URL. Any other status is as in `IsNoUrl`. Unless `NoMatch`,
+-- `number` is `no_component`.
 abbrev pub IsUrlMismatched : PatternView PatternRegexp → (text base : List ℕ) → (number : ℕ)
     → Status → Type 0
 IsUrlMismatched pattern text base number statuses.Done =
@@ -52,7 +56,8 @@ IsUrlMismatched pattern text base number statuses.NoMatch =
     ⊎ IsMismatchNumber pattern text base number
 IsUrlMismatched pattern text base number status = (number ≡ no_component) × IsNoUrl text base status
 
--- The first component of the pattern at an index that does not match.
+-- The outcome of looking for a component of the pattern at `index` that does not match
+-- (`IsUrlMismatched`). `NoPattern`: the index is out of range.
 abbrev pub IsMismatchReported : PatternList → (index : ℕ) → (text base : List ℕ)
     → (number : ℕ) → Status → Type 0
 IsMismatchReported patterns index text base number statuses.NoPattern =
@@ -61,7 +66,8 @@ IsMismatchReported patterns index text base number status =
     (pattern : UrlPattern PatternRegexp) × (slice_get patterns index ≡ Some pattern)
     × IsUrlMismatched (pattern_view pattern) text base number status
 
--- Whether the pattern at an index has a custom regular expression.
+-- Whether the pattern at `index` has a custom regular expression: `Done` if it has one, `NoMatch`
+-- if it has none, `NoPattern` if the index is out of range.
 abbrev pub IsCustomReported : PatternList → (index : ℕ) → Status → Type 0
 IsCustomReported patterns index statuses.NoPattern = slice_get patterns index ≡ None
 IsCustomReported patterns index statuses.Done =

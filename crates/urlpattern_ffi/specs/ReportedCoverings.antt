@@ -7,39 +7,44 @@ use Rattle.urlpattern_ffi.specs.declared.status.Status.TheVariants as statuses
 use Rattle.urlpattern_compare.specs.declared.coverage.Reason.{Reason}
 use Rattle.urlpattern_components.specs.declared.eight.ComponentName.{ComponentName}
 use Rattle.urlpattern_engine.specs.declared.pattern_regexp.PatternRegexp.{PatternRegexp}
-use Rattle.urlpattern_pattern.specs.PatternComparing.{LackParts, OfBoth}
+use Rattle.urlpattern_pattern.specs.PatternComparing.{LackParts, OfPartsOfBoth}
 use Rattle.urlpattern_pattern.specs.UrlPatterns.{UrlPattern}
 use Rattle.urlpattern_pattern.specs.declared.pattern.compare.CompareError.TheVariants.{NoParts}
 use Rattle.urlpattern_compare.specs.Comparing.{IsCovered, IsParting, IsReasonIn}
 use Rattle.urlpattern_compare.specs.declared.pattern_parts.{Parting.Parting, PatternParts.PatternParts}
 
--- Eight texts tell the two patterns apart, in the component with this number.
-abbrev pub IsPartedIn : (number : ℕ) → (parts asked : PatternParts) → Type 0
-IsPartedIn number parts asked =
+-- By their parts, the asked pattern matches eight texts, and the other one does not match the text
+-- of the component with this number.
+abbrev pub HasPartingIn : (number : ℕ) → (parts asked : PatternParts) → Type 0
+HasPartingIn number parts asked =
     (parting : Parting) × IsParting parts asked parting
     × (number ≡ component_number parting.component)
 
--- Whether the pattern covers the asked one is not known, because of the component with this number.
+-- Whether the pattern with `parts` covers the asked one is not known, because of the component with
+-- this number.
 abbrev pub IsUnknownIn : (number : ℕ) → (parts asked : PatternParts) → Type 0
 IsUnknownIn number parts asked =
     (name : ComponentName) × (reason : Reason)
     × IsReasonIn parts asked name reason
     × (number ≡ component_number name)
 
--- Done: by their parts, the pattern covers the asked one. NoMatch: it does not, and a component in
--- which they differ is reported. Unknown: it is not known, because of the component that is
--- reported, or because a pattern has no parts.
+-- The outcome of comparing two patterns by their parts. `Done`: `pattern` covers `asked`.
+-- `NoMatch`: it does not, and `number` is that of a component in which they differ. `Unknown`: it
+-- is not known because of the component `number`, or, with `no_component`, because a pattern has no
+-- parts. `OutOfMemory`: `number` is `no_component`.
 abbrev pub AreCompared : (pattern asked : UrlPattern PatternRegexp) → (number : ℕ) → Status → Type 0
 AreCompared pattern asked number statuses.Done =
-    (number ≡ no_component) × OfBoth pattern asked IsCovered
-AreCompared pattern asked number statuses.NoMatch = OfBoth pattern asked (IsPartedIn number)
+    (number ≡ no_component) × OfPartsOfBoth pattern asked IsCovered
+AreCompared pattern asked number statuses.NoMatch =
+    OfPartsOfBoth pattern asked (HasPartingIn number)
 AreCompared pattern asked number statuses.Unknown =
-    OfBoth pattern asked (IsUnknownIn number)
+    OfPartsOfBoth pattern asked (IsUnknownIn number)
     ⊎ ((number ≡ no_component) × LackParts pattern asked NoParts)
 AreCompared pattern asked number statuses.OutOfMemory = number ≡ no_component
 AreCompared pattern asked number status = ⊥
 
--- The comparison of the pattern at `index` with the one at `asked`, which may be in another list.
+-- The outcome of comparing the pattern of `patterns` at `index` with the asked one, the pattern of
+-- `others` at `asked` (`AreCompared`). `NoPattern`: an index is out of range.
 abbrev pub IsCoveringReported : PatternList → (index : ℕ) → (others : PatternList)
     → (asked : ℕ) → (number : ℕ) → Status → Type 0
 IsCoveringReported patterns index others asked number statuses.NoPattern =

@@ -1,4 +1,4 @@
--- Diagnoses of patterns that are rejected.
+-- Diagnoses of patterns that are rejected, as reported to C.
 use Rattle.std.specs.Prelude.{◌≡◌, ◌+◌, ℕ, Bool, List, string_bytes}
 use Rattle.std.specs.Str.{chars}
 use Rattle.urlpattern.specs.Errors.{ErrorView, error_view}
@@ -19,18 +19,20 @@ use Rattle.urlpattern_engine.specs.PatternRegexps.{pattern_engine}
 use Rattle.urlpattern_engine.specs.declared.pattern_regexp.PatternRegexp.{PatternRegexp}
 use Rattle.urlpattern_init.specs.declared.init.UrlPatternInit.{UrlPatternInit}
 
--- 1 if the fault is in the base URL, 0 if it is in the pattern.
+-- The number of the text at fault: 1 for the base URL, 0 for the constructor string.
 abbrev pub subject_number : Subject → ℕ
 subject_number subjects.Base = 1
 subject_number subject = 0
 
--- For an init, 2 plus the number of the component whose text is at fault, 1 for the base URL, or 0.
+-- The number of the text of an init at fault: 2 plus the number of its component, 1 for the base
+-- URL, or 0 for the init as a whole.
 abbrev pub init_subject_number : Subject → ℕ
 init_subject_number subjects.Whole = 0
 init_subject_number subjects.Base = 1
 init_subject_number (subjects.Component name) = 2 + component_number name
 
--- The place of the fault, in the text with this number.
+-- The place of the fault that a diagnosis shows: its span in bytes, in the text whose number is
+-- `subject`.
 abbrev pub place_of_diagnosis : (subject : ℕ) → Diagnosis → Place
 place_of_diagnosis subject diagnosis = record {
   subject = subject;
@@ -38,8 +40,8 @@ place_of_diagnosis subject diagnosis = record {
   end = diagnosis.fault.span.end;
 }
 
--- The reason and the place are those of a diagnosis that shows the fault, whose error is one with
--- which the pattern is rejected, and whose place is within its text.
+-- `reason` and `place` are those of a diagnosis for which `Shows` is true, whose spans are within
+-- its text, and for whose error `Refuses` is true. `number` gives the number of its subject.
 pub record IsDiagnosis (Refuses : ErrorView → Type 0) (Shows : Diagnosis → Type 0)
     (number : Subject → ℕ) (place : Place) (reason : List ℕ) : Type 0 where
   pub diagnosis : Diagnosis
@@ -49,31 +51,35 @@ pub record IsDiagnosis (Refuses : ErrorView → Type 0) (Shows : Diagnosis → T
   pub is_reason : reason ≡ string_bytes diagnosis.reason
   pub is_place : place ≡ place_of_diagnosis (number diagnosis.subject) diagnosis
 
--- The errors with which the constructor string is rejected.
+-- The constructor string `text` with the base URL `base`, which may be empty, is rejected with this
+-- error.
 abbrev pub RejectsTextByOptions : (text base : List ℕ) → (ignore_case : Bool) → ErrorView → Type 0
 RejectsTextByOptions text base ignores error =
     RejectsCompilation text (given_base base) ignores error
 
--- The reason and the place are those of a diagnosis of the constructor string.
+-- `reason` and the place are those of a diagnosis of the constructor string `text` with the base
+-- URL `base`.
 abbrev pub IsDiagnosisOfText : (text base : List ℕ) → (ignore_case : Bool) → Place
     → (reason : List ℕ) → Type 0
 IsDiagnosisOfText text base ignores =
     IsDiagnosis (RejectsTextByOptions text base ignores)
     (ShowsGiven pattern_engine text (given_base base) (c_options ignores)) subject_number
 
--- The diagnosis shows the fault of an init in JSON.
+-- The diagnosis shows what is wrong with the init in JSON.
 abbrev pub ShowsInitOfJson : (json : List ℕ) → (ignore_case : Bool) → Diagnosis → Type 0
 ShowsInitOfJson json ignores diagnosis =
     (init : UrlPatternInit) × IsInitOfJson json init
     × ShowsInit pattern_engine init (c_options ignores) diagnosis
 
--- The reason and the place are those of a diagnosis of an init in JSON.
+-- `reason` and the place are those of a diagnosis of the init in JSON.
 abbrev pub IsDiagnosisOfInit : (json : List ℕ) → (ignore_case : Bool) → Place
     → (reason : List ℕ) → Type 0
 IsDiagnosisOfInit json ignores =
     IsDiagnosis (IsInitRejected json ignores) (ShowsInitOfJson json ignores) init_subject_number
 
--- Done: the reason why the pattern is rejected is written. NoMatch: it is not rejected.
+-- The outcome of diagnosing the constructor string `text` with the base URL `base`. `Done`: the
+-- reason why the string or the base is rejected is written. `TooSmall`: the buffer has no room for
+-- the reason. `NoMatch`: neither is rejected. Any other status is as in `IsNoUrl`.
 abbrev pub IsDiagnosed : (text base : List ℕ) → (ignore_case : Bool)
     → (old new : List ℕ) → (needed : ℕ) → Place → Status → Type 0
 IsDiagnosed text base ignores old new needed place statuses.Done =
@@ -86,7 +92,9 @@ IsDiagnosed text base ignores old new needed place statuses.NoMatch =
     × (new ≡ old)
 IsDiagnosed text base ignores old new needed place status = IsNoUrl text base status × (new ≡ old)
 
--- Done: the reason why the init is rejected is written. NoMatch: it is not rejected.
+-- The outcome of diagnosing an init in JSON. `Done`: the reason why the init is rejected is
+-- written. `TooSmall`: the buffer has no room for the reason. `NoMatch`: the init is not rejected.
+-- Any other status is as in `IsNoInit`.
 abbrev pub IsInitDiagnosed : (json : List ℕ) → (ignore_case : Bool)
     → (old new : List ℕ) → (needed : ℕ) → Place → Status → Type 0
 IsInitDiagnosed json ignores old new needed place statuses.Done =

@@ -20,15 +20,16 @@ use Rattle.urlpattern_matches.specs.ResultJson.{IsResultTree, plain_results_view
 use Rattle.urlpattern_matches.specs.declared.result.UrlPatternResult.{UrlPatternResult}
 use Rattle.urlpattern_pattern.specs.UrlPatterns.{UrlPattern}
 
--- Done: the buffer begins with the text, and the rest is unchanged. TooSmall: the text is longer
--- than the buffer, which is unchanged.
+-- The outcome of writing a text to a buffer. `Done`: the buffer begins with the text, and the rest
+-- is unchanged. `TooSmall`: the text is longer than the buffer, which is unchanged.
 abbrev pub IsWrittenTo : (text old new : List ℕ) → Status → Type 0
 IsWrittenTo text old new statuses.Done =
     (length text ≤ length old) × (new ≡ text ++ drop (length text) old)
 IsWrittenTo text old new statuses.TooSmall = (length old < length text) × (new ≡ old)
 IsWrittenTo text old new status = ⊥
 
--- A text for which `IsText` is true is written, of `needed` bytes.
+-- Some text for which `IsText` is true has `needed` bytes, and the status is the outcome of writing
+-- it to the buffer (`IsWrittenTo`).
 abbrev pub WritesToBuffer : (IsText : List ℕ → Type 0) → (old new : List ℕ) → (needed : ℕ) → Status
     → Type 0
 WritesToBuffer IsText old new needed status =
@@ -36,7 +37,8 @@ WritesToBuffer IsText old new needed status =
 
 -- ---- components
 
--- The pattern text of a component, given its number.
+-- `text` is the pattern text of a component of the pattern at `index`. `component` is the number of
+-- the component.
 abbrev pub IsTextOfComponent : List (UrlPattern PatternRegexp)
     → (index component : ℕ) → (text : List ℕ) → Type 0
 IsTextOfComponent patterns index component text =
@@ -45,7 +47,8 @@ IsTextOfComponent patterns index component text =
     × (slice_get components component ≡ Some name)
     × (chars text ≡ (pattern_view pattern name).pattern_string)
 
--- The pattern text of a component is written. NoPattern: there is no such pattern or component.
+-- The outcome of writing the pattern text of a component of the pattern at `index`. `NoPattern`: no
+-- pattern has this index, or no component this number.
 abbrev pub IsComponentWritten : List (UrlPattern PatternRegexp)
     → (index component : ℕ) → (old new : List ℕ) → (needed : ℕ) → Status → Type 0
 IsComponentWritten patterns index component old new needed statuses.NoPattern =
@@ -55,7 +58,8 @@ IsComponentWritten patterns index component old new needed status =
 
 -- ---- names of groups
 
--- The name of a group, given its number in a component.
+-- The name of a group of the pattern at `index`, given the number of its component and its number
+-- in the component. `None`: there is no such group.
 abbrev pub group_name_at : PatternList → (index component group : ℕ) → Option (List ℕ)
 group_name_at patterns index component group =
     option_and_then (λ pattern.
@@ -63,7 +67,8 @@ group_name_at patterns index component group =
     (slice_get components component))
     (slice_get patterns index)
 
--- The name of a group is written. NoPattern: there is no such group.
+-- The outcome of writing the name of a group (`group_name_at`). `NoPattern`: there is no such
+-- group.
 abbrev pub IsGroupNameWritten : PatternList → (index component group : ℕ) → (old new : List ℕ)
     → (needed : ℕ) → Status → Type 0
 IsGroupNameWritten patterns index component group old new needed statuses.NoPattern =
@@ -78,12 +83,12 @@ IsGroupNameWritten patterns index component group old new needed status =
 abbrev pub IsTextOf : Data → (text : List ℕ) → Type 0
 IsTextOf tree text = depth tree ≤ max_depth → read text ≡ Some tree
 
--- The text is the JSON of the result.
+-- `text` is JSON that reads as the tree of the result, unless the tree is too deep.
 abbrev pub IsResultText : UrlPatternResult → (text : List ℕ) → Type 0
 IsResultText result text =
     (tree : Data) × IsResultTree (plain_results_view result) tree × IsTextOf tree text
 
--- The text is the JSON of the pattern's match of the URL.
+-- `text` is the JSON of the pattern's match of the URL `url` with the base URL `base`.
 pub record IsJsonOfMatch (pattern : PatternView PatternRegexp) (url base text : List ℕ) : Type 0
   where
     pub parts : Parts
@@ -92,7 +97,9 @@ pub record IsJsonOfMatch (pattern : PatternView PatternRegexp) (url base text : 
     pub is_match : IsMatch pattern_result pattern (match_inputs.Url parts) (result_view result)
     pub is_text : IsResultText result text
 
--- The match of the URL is written, or there is no match.
+-- The outcome of writing the pattern's match of the URL `url` with the base URL `base` as JSON.
+-- `Done`: it is written. `TooSmall`: the buffer has no room for it. Any other status says why there
+-- is no match (`IsUrlTested`), and the buffer is unchanged.
 abbrev pub IsUrlExecuted : PatternView PatternRegexp → (url base : List ℕ) → (old new : List ℕ)
     → (needed : ℕ) → Status → Type 0
 IsUrlExecuted pattern url base old new needed statuses.Done =
@@ -102,7 +109,8 @@ IsUrlExecuted pattern url base old new needed statuses.TooSmall =
 IsUrlExecuted pattern url base old new needed status =
     IsUrlTested pattern url base status × (new ≡ old)
 
--- The match by the pattern at an index.
+-- The outcome of writing the match by the pattern at `index` as JSON (`IsUrlExecuted`).
+-- `NoPattern`: the index is out of range.
 abbrev pub IsExecReported : List (UrlPattern PatternRegexp) → (index : ℕ) → (url base : List ℕ)
     → (old new : List ℕ) → (needed : ℕ) → Status → Type 0
 IsExecReported patterns index url base old new needed statuses.NoPattern =

@@ -1,4 +1,5 @@
--- URLs of patterns, given texts for the groups.
+-- The URL of a pattern with given groups, written to a buffer. Each `GivenBytes` names a group and
+-- cuts the text for it out of one text.
 use Rattle.std.specs.Prelude.{◌≡◌, ◌⊎◌, ℕ, Any, List, IfSome, None, Some, slice_get}
 use Rattle.url.specs.Parts.{Parts, serialize}
 use Rattle.urlpattern_ffi.specs.KeptPatterns.{PatternList}
@@ -13,11 +14,13 @@ use Rattle.urlpattern_pattern.specs.UrlPatterns.{UrlPattern}
 use Rattle.urlpattern_generate.specs.NoLinkText.{no_link_text}
 use Rattle.urlpattern_generate.specs.declared.no_link.NoLink.{NoLink}
 
--- The text says why there is no URL. Nothing is promised about messages of `url`.
+-- `text` is the message of the reason why there is no URL. Nothing is said of a reason that has the
+-- message of `url`.
 abbrev pub SaysWhy : NoLink → (text : List ℕ) → Type 0
 SaysWhy reason text = IfSome (no_link_text reason) (λ words. text ≡ words)
 
--- Refused: the reason why there is no URL is written. TooSmall: there is no room for it.
+-- The outcome of writing the reason why there is no URL. `Refused`: it is written. `TooSmall`: the
+-- buffer has no room for it. `OutOfMemory`: the buffer is unchanged.
 abbrev pub IsReasonWritten : NoLink → (old new : List ℕ) → (needed : ℕ) → Status → Type 0
 IsReasonWritten reason old new needed statuses.Refused =
     WritesToBuffer (SaysWhy reason) old new needed statuses.Done
@@ -38,8 +41,10 @@ abbrev pub IsTextOfNoLink : UrlPattern PatternRegexp → (text : List ℕ) → L
 IsTextOfNoLink pattern text given written =
     (reason : NoLink) × RejectsLinkOfBytes pattern text given reason × SaysWhy reason written
 
--- Done: the URL is written. Refused: the reason why there is none is written. TooSmall: there is no
--- room for the URL or the reason.
+-- The outcome of writing the URL of the pattern with the groups that `given` cuts out of `text`.
+-- `Done`: the URL is written. `Refused`: the reason why there is no URL is written. `TooSmall`: the
+-- buffer has no room for the URL or for the reason. `NoPattern`: some element of `given` gives no
+-- group. `OutOfMemory`: the buffer is unchanged.
 abbrev pub IsUrlLinked : UrlPattern PatternRegexp → (text : List ℕ) → List GivenBytes
     → (old new : List ℕ) → (needed : ℕ) → Status → Type 0
 IsUrlLinked pattern text given old new needed statuses.Done =
@@ -55,8 +60,8 @@ IsUrlLinked pattern text given old new needed statuses.NoPattern =
 IsUrlLinked pattern text given old new needed statuses.OutOfMemory = new ≡ old
 IsUrlLinked pattern text given old new needed status = ⊥
 
--- The outcome for the pattern at an index. NoPattern: there is no pattern, or a part of the text
--- gives no group.
+-- The outcome of writing the URL of the pattern at `index` (`IsUrlLinked`). `NoPattern`: the index
+-- is out of range, or some element of `given` gives no group.
 abbrev pub IsLinkReported : PatternList → (index : ℕ) → (text : List ℕ) → List GivenBytes
     → (old new : List ℕ) → (needed : ℕ) → Status → Type 0
 IsLinkReported patterns index text given old new needed statuses.NoPattern =

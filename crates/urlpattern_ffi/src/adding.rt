@@ -1,17 +1,18 @@
-//! Compiles patterns.
+//! Compiles constructor strings, and appends patterns to those of a handle.
 ghost use Rattle.std.specs.Prelude.{◌≡◌, option_copied, IfErr, IfOk};
 ghost use Rattle.urlpattern_ffi.specs.Calls.{given_base, c_options, error_status, IsAdded, IsCompiledFromText, IsPushed, KeepsItsParts, RejectsCompilation};
 ghost use Rattle.urlpattern_ffi.specs.KeptPatterns.{boxed_patterns};
 ghost use Rattle.urlpattern.specs.Errors.{error_view, MemoryOr};
 
-use crate::pattern_box::{PatternBox, take_or_insert_empty};
+use crate::pattern_box::{PatternBox, take_or_make_empty};
 use crate::status::Status;
 use std::alloc::Global;
 use std::str;
 use urlpattern::regexp::PatternRegexp;
 use urlpattern::{Error, RegexSyntax, UrlPattern, UrlPatternOptions};
 
-/// Compiles a constructor string, under a base URL unless `base` is empty, and appends the pattern.
+/// Compiles a constructor string, under a base URL unless `base` is empty, and appends the pattern
+/// to `kept`, the patterns of a handle. Unless the status is `Done`, the patterns are unchanged.
 pub fn add(
     alloc: Global,
     kept: &mut Option<Box<PatternBox>>,
@@ -38,7 +39,7 @@ pub fn add(
     }
 }
 
-/// The status for the error with which a pattern is rejected.
+/// The status for an error of compiling: `OutOfMemory`, or `Refused` for any other error.
 pub(crate) fn status_of_error(error: &Error) -> Status
     ensures { result ≡ error_status (error_view error.now) }
 {
@@ -48,14 +49,14 @@ pub(crate) fn status_of_error(error: &Error) -> Status
     }
 }
 
-/// The base URL as an option. `None`: the text is empty.
+/// The base URL that a text gives. `None`: the text is empty.
 pub(crate) fn given_base(text: &str) -> Option<&str>
     ensures { option_copied result ≡ given_base text.now }
 {
     if text.is_empty() { None } else { Some(text) }
 }
 
-/// Compiles a constructor string.
+/// Compiles a constructor string, under a base URL if there is one.
 fn compiled(
     alloc: Global,
     text: &str,
@@ -71,7 +72,7 @@ fn compiled(
     UrlPattern::from_constructor_string(alloc, text, base, options(ignore_case))
 }
 
-/// The options of a pattern.
+/// The options with which patterns are compiled: the syntax of `regex`, and case ignored or not.
 pub(crate) fn options(ignore_case: bool) -> UrlPatternOptions
     ensures { result ≡ c_options ignore_case }
 {
@@ -81,7 +82,8 @@ pub(crate) fn options(ignore_case: bool) -> UrlPatternOptions
     }
 }
 
-/// Appends a pattern.
+/// Appends a pattern to `kept`, the patterns of a handle. If memory runs out, the patterns are
+/// unchanged, and the status is `OutOfMemory`.
 pub(crate) fn push(
     alloc: Global,
     kept: &mut Option<Box<PatternBox>>,
@@ -89,7 +91,7 @@ pub(crate) fn push(
 ) -> Status
     ensures { IsPushed (boxed_patterns kept.old) pattern (boxed_patterns kept.new) result }
 {
-    let Ok(mut taken) = take_or_insert_empty(alloc, kept) else {
+    let Ok(mut taken) = take_or_make_empty(alloc, kept) else {
         return Status::OutOfMemory;
     };
     let pushed = taken.list.try_push(pattern);

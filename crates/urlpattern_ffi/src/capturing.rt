@@ -11,7 +11,9 @@ use std::alloc::Global;
 use urlpattern::regexp::PatternRegexp;
 use urlpattern::{UrlPattern, UrlPatternList};
 
-/// Writes what the groups of the pattern at an index capture of a URL, and a span for each group.
+/// Matches the pattern at an index against a URL, under a base URL unless `base` is empty. If it
+/// matches, writes the captures of its groups to `buffer`, a span for each group to `spans`, and
+/// the room that both need to `needed`.
 pub fn captures(
     alloc: Global,
     kept: &Option<Box<PatternBox>>,
@@ -31,7 +33,9 @@ pub fn captures(
     }
 }
 
-/// Writes what the groups of a pattern capture of a URL, and a span for each group.
+/// Matches a pattern against a URL, under a base URL unless `base` is empty. If it matches, writes
+/// the captures of its groups to `buffer`, a span for each group to `spans`, and the room that both
+/// need to `needed`.
 fn pattern_captures(
     alloc: Global,
     pattern: &UrlPattern<PatternRegexp>,
@@ -55,8 +59,9 @@ fn pattern_captures(
     }
 }
 
-/// Finds the first pattern that matches a URL, and writes its index, what its groups capture, and a
-/// span for each group.
+/// Finds the first pattern that matches a URL, under a base URL unless `base` is empty. If there is
+/// one, writes its index, the captures of its groups to `buffer`, a span for each group to `spans`,
+/// and the room that both need to `needed`.
 pub fn first_captures(
     alloc: Global,
     kept: &Option<Box<PatternBox>>,
@@ -76,8 +81,9 @@ pub fn first_captures(
     }
 }
 
-/// Finds the first pattern of a list that matches a URL, and writes its index, what its groups
-/// capture, and a span for each group.
+/// Finds the first pattern of a list that matches a URL, under a base URL unless `base` is empty.
+/// If there is one, writes its index, the captures of its groups to `buffer`, a span for each group
+/// to `spans`, and the room that both need to `needed`.
 fn list_captures(
     alloc: Global,
     list: &UrlPatternList<PatternRegexp>,

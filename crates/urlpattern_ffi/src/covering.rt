@@ -12,9 +12,10 @@ use urlpattern::regexp::PatternRegexp;
 use urlpattern::rules::PatternCovering;
 use urlpattern::{CompareError, UrlPattern};
 
-/// Whether the pattern at `index` covers the one at `asked`, of the same patterns or of others.
-/// Writes the number of a component in which the two differ, or because of which it is not known,
-/// or else `NO_COMPONENT`.
+/// Compares the pattern of `kept` at `index` with the asked one, the pattern of `others` at
+/// `asked`: `Done` if it covers the asked one, `NoMatch` if not, `Unknown` if it is not known,
+/// `NoPattern` if an index is out of range. Writes the number of a component in which the two
+/// differ, or because of which it is not known, or else `NO_COMPONENT`.
 pub fn covers(
     alloc: Global,
     kept: &Option<Box<PatternBox>>,
@@ -38,7 +39,9 @@ pub fn covers(
     compare(alloc, pattern, other, component)
 }
 
-/// Whether `pattern` covers `asked`. The caller has written `NO_COMPONENT` before.
+/// Compares two patterns: `Done` if `pattern` covers `asked`, `NoMatch` if not, `Unknown` if it is
+/// not known. Writes the number of the component to which that is due, if there is one. The caller
+/// has written `NO_COMPONENT` before.
 fn compare(
     alloc: Global,
     pattern: &UrlPattern<PatternRegexp>,

@@ -13,20 +13,21 @@ use std::str;
 use urlpattern::regexp::PatternRegexp;
 use urlpattern::{Diagnosis, Subject, UrlPattern};
 
-/// The part of a text at which the fault is, in bytes.
+/// The place of a fault: a part of the text at fault, in bytes.
 #[repr(C)]
 #[derive(Drop)]
 pub struct Place {
-    /// 0: the pattern's text, 1: the base URL. For an init, 2 plus the number of the component
-    /// whose text it is.
+    /// The number of the text at fault. 0: the constructor string, or the init as a whole. 1: the
+    /// base URL. From 2 on: the text of an init, for the component whose number is `subject - 2`.
     pub subject: u32,
     /// The byte at which the part begins.
     pub start: usize,
-    /// The byte at which the part ends.
+    /// The byte after the last one of the part.
     pub end: usize,
 }
 
-/// Writes why a constructor string is rejected, and where the fault is.
+/// Writes to `buffer` why a constructor string or its base URL is rejected, the length of that in
+/// bytes to `needed`, and to `place` where the fault is. `NoMatch`: neither is rejected.
 pub fn diagnose(
     alloc: Global,
     text: &[u8],
@@ -56,7 +57,9 @@ pub fn diagnose(
     }
 }
 
-/// Writes why an init in JSON is rejected, in which of its texts the fault is, and where.
+/// Writes to `buffer` why an init in JSON is rejected, the length of that in bytes to `needed`, and
+/// to `place` in which of its texts and where the fault is. `NoMatch`: the init is not rejected.
+/// `Refused`: the JSON is not an init, or its base URL is rejected.
 pub fn diagnose_init(
     alloc: Global,
     json: &[u8],
@@ -82,7 +85,8 @@ pub fn diagnose_init(
     }
 }
 
-/// Writes the reason of a diagnosis, and its place in the text with this number.
+/// Writes to `buffer` the reason of a diagnosis, its length in bytes to `needed`, and to `place`
+/// where the fault is. `subject` is the number of the text at fault.
 fn write_diagnosis(
     diagnosis: &Diagnosis,
     subject: u32,
@@ -102,7 +106,7 @@ fn write_diagnosis(
     write(&diagnosis.reason, buffer, needed)
 }
 
-/// The number, for C, of the text at fault.
+/// The number of the text at fault: 1 for the base URL, 0 for the constructor string.
 fn subject_number(subject: Subject) -> u32
     ensures { result ≡ subject_number subject }
 {
@@ -112,7 +116,8 @@ fn subject_number(subject: Subject) -> u32
     }
 }
 
-/// The number, for C, of the text of an init at fault.
+/// The number of the text of an init at fault: 2 plus the number of its component, 1 for the base
+/// URL, or 0 for the init as a whole.
 fn init_subject_number(subject: Subject) -> u32
     ensures { result ≡ init_subject_number subject }
 {

@@ -1,4 +1,5 @@
-//! Matches URLs.
+//! Matches patterns against URLs, and writes matches as JSON. URLs are parsed under a base URL
+//! unless `base` is empty.
 ghost use Rattle.std.specs.Prelude.{◌≢◌, string_bytes, IfErr, IfOk};
 ghost use Rattle.urlpattern.specs.Patterns.{pattern_view};
 ghost use Rattle.urlpattern_ffi.specs.Calls.{IsFirstReported, IsTested, IsUrlTested};
@@ -14,7 +15,8 @@ use std::alloc::Global;
 use urlpattern::regexp::PatternRegexp;
 use urlpattern::{Error, UrlPattern, UrlPatternList, UrlPatternResult};
 
-/// Whether the pattern at an index matches a URL.
+/// Matches the pattern at an index against a URL. `Done`: it matches. `NoMatch`: it does not match,
+/// or the text is not a URL.
 pub fn test(
     alloc: Global,
     kept: &Option<Box<PatternBox>>,
@@ -30,7 +32,8 @@ pub fn test(
     }
 }
 
-/// Whether a pattern matches a URL.
+/// Matches a pattern against a URL. `Done`: it matches. `NoMatch`: it does not match, or the text
+/// is not a URL.
 fn test_pattern(
     alloc: Global,
     pattern: &UrlPattern<PatternRegexp>,
@@ -50,7 +53,8 @@ fn test_pattern(
     }
 }
 
-/// Finds the first pattern that matches a URL, and writes its index.
+/// Finds the first pattern that matches a URL, and writes its index. `NoMatch`: no pattern matches,
+/// or the text is not a URL. `NoPattern`: the handle is empty.
 pub fn first(
     alloc: Global,
     kept: &Option<Box<PatternBox>>,
@@ -67,7 +71,8 @@ pub fn first(
     }
 }
 
-/// Finds the first pattern of a list that matches a URL, and writes its index.
+/// Finds the first pattern of a list that matches a URL, and writes its index. `NoMatch`: no
+/// pattern matches, or the text is not a URL.
 fn first_in(
     alloc: Global,
     list: &UrlPatternList<PatternRegexp>,
@@ -92,7 +97,9 @@ fn first_in(
     }
 }
 
-/// Writes the match of a URL by the pattern at an index, as JSON.
+/// Writes the match of a URL by the pattern at an index to `buffer`, as JSON, and the length of the
+/// JSON in bytes to `needed`. `NoMatch`: the pattern does not match, or the text is not a URL.
+/// `NoPattern`: there is no such pattern.
 pub fn execute(
     alloc: Global,
     kept: &Option<Box<PatternBox>>,
@@ -111,7 +118,9 @@ pub fn execute(
     }
 }
 
-/// Writes the match of a URL by a pattern, as JSON.
+/// Writes the match of a URL by a pattern to `buffer`, as JSON, and the length of the JSON in bytes
+/// to `needed`. `NoMatch`: the pattern does not match, or the text is not a URL. `TooSmall`: the
+/// buffer is shorter than the JSON.
 fn execute_pattern(
     alloc: Global,
     pattern: &UrlPattern<PatternRegexp>,
@@ -129,10 +138,10 @@ fn execute_pattern(
     }
 }
 
-/// The match of a URL by a pattern, as JSON.
+/// Returns the match of a URL by a pattern, as JSON.
 ///
-/// The error is `NoMatch` if the pattern does not match, or else the status that says why there is
-/// no URL.
+/// The error is the status that says why there is none: `NoMatch` if the pattern does not match or
+/// the text is not a URL, `NotUtf8`, or `OutOfMemory`.
 fn match_text(
     alloc: Global,
     pattern: &UrlPattern<PatternRegexp>,

@@ -14,7 +14,8 @@ use urlpattern::quirks::{self, StringOrInit, process_construct_pattern_input};
 use urlpattern::{UrlPattern, UrlPatternInit};
 
 /// Compiles an init, a JSON object with the texts of components and of a base URL, and appends the
-/// pattern.
+/// pattern to `kept`, the patterns of a handle. Unless the status is `Done`, the patterns are
+/// unchanged.
 #[tactic(auto, using(crate::proofs::ReportedInitLemmas::init_added))]
 pub fn add_init(
     alloc: Global,

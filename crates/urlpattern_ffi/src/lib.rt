@@ -1,7 +1,7 @@
 //! The calls that `urlpattern_c` exports to C, over references and slices.
 //!
-//! Each wraps a call of `urlpattern`, and reports its outcome as a `Status`. Texts are bytes, which
-//! are checked to be UTF-8.
+//! Each call but `version` calls the library `urlpattern`, and reports the outcome as a `Status`.
+//! Texts are bytes, which are checked to be UTF-8.
 #![tactic(auto)]
 
 mod adding;

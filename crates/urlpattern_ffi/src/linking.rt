@@ -1,4 +1,4 @@
-//! Writes URLs of patterns whose groups are given.
+//! Writes the URL of a pattern with given groups.
 ghost use Rattle.urlpattern_ffi.specs.KeptPatterns.{boxed_patterns};
 ghost use Rattle.urlpattern_ffi.specs.WrittenLinks.{IsLinkReported, IsReasonWritten, IsUrlLinked};
 
@@ -10,8 +10,10 @@ use urlpattern::regexp::PatternRegexp;
 use urlpattern::{NoLink, UrlPattern};
 use urlpattern_ffi_links::{GivenBytes, Unlinked};
 
-/// Writes the URL of the pattern at an index, with parts of a text for its groups, or why there is
-/// none.
+/// Writes the URL of the pattern at an index, with the groups that `given` cuts out of `text`, to
+/// `buffer`, and its length in bytes to `needed`. `Refused`: there is no URL, and the reason is
+/// written in its place. `NoPattern`: there is no such pattern, or an element of `given` gives no
+/// group.
 pub fn link(
     alloc: Global,
     kept: &Option<Box<PatternBox>>,
@@ -30,7 +32,9 @@ pub fn link(
     }
 }
 
-/// Writes the URL of a pattern, with parts of a text for its groups, or why there is none.
+/// Writes the URL of a pattern, with the groups that `given` cuts out of `text`, to `buffer`, and
+/// its length in bytes to `needed`. `Refused`: there is no URL, and the reason is written in its
+/// place. `NoPattern`: an element of `given` gives no group.
 fn link_pattern(
     alloc: Global,
     pattern: &UrlPattern<PatternRegexp>,
@@ -49,7 +53,8 @@ fn link_pattern(
     }
 }
 
-/// Writes why there is no URL.
+/// Writes to `buffer` why there is no URL, and the length of that in bytes to `needed`. `Refused`:
+/// the reason is written.
 fn write_reason(alloc: Global, reason: &NoLink, buffer: &mut [u8], needed: &mut usize) -> Status
     ensures { IsReasonWritten reason.now buffer.old buffer.new needed.new result }
 {

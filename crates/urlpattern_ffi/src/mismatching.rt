@@ -12,11 +12,12 @@ use std::alloc::Global;
 use urlpattern::regexp::PatternRegexp;
 use urlpattern::{ComponentName, UrlPattern};
 
-/// The number that is written if there is no component.
+/// The number that is written in place of a component if there is none.
 pub(crate) const NO_COMPONENT: u32 = 8;
 
-/// Writes the number of the first component of the pattern at an index that does not match, or else
-/// `NO_COMPONENT`.
+/// Matches the pattern at an index against a URL, and writes the number of the first component that
+/// does not match, or `NO_COMPONENT` if none is found: each matches, there is no URL or no pattern,
+/// or memory ran out.
 pub fn mismatch(
     alloc: Global,
     kept: &Option<Box<PatternBox>>,
@@ -37,8 +38,8 @@ pub fn mismatch(
     }
 }
 
-/// Writes the number of the first component of a pattern that does not match, or else
-/// `NO_COMPONENT`.
+/// Matches a pattern against a URL, and writes the number of the first component that does not
+/// match, or `NO_COMPONENT` if none is found: each matches, there is no URL, or memory ran out.
 fn pattern_mismatch(
     alloc: Global,
     pattern: &UrlPattern<PatternRegexp>,
@@ -81,7 +82,8 @@ pub(crate) fn component_number(name: ComponentName) -> u32
     }
 }
 
-/// Whether the pattern at an index has a custom regular expression.
+/// Whether the pattern at an index has a custom regular expression: `Done` if it has one, `NoMatch`
+/// if it has none, `NoPattern` if there is no such pattern.
 pub fn has_regexp_groups(kept: &Option<Box<PatternBox>>, index: usize) -> Status
     ensures { IsCustomReported (boxed_patterns kept.now) index result }
 {

@@ -1,4 +1,4 @@
-//! The patterns of a handle.
+//! The patterns that a handle keeps. `None` is an empty handle.
 ghost use Rattle.std.specs.Prelude.{◌≡◌, [], option_copied, slice_get, IfErr, IfOk};
 ghost use Rattle.urlpattern_ffi.specs.KeptPatterns.{boxed_patterns};
 
@@ -6,13 +6,13 @@ use std::alloc::{AllocError, Global};
 use urlpattern::regexp::PatternRegexp;
 use urlpattern::{UrlPattern, UrlPatternList};
 
-/// Patterns in order, in memory of their own.
+/// The patterns of a handle, in order. A handle keeps them in a box.
 #[derive(Drop)]
 pub struct PatternBox {
     pub(crate) list: UrlPatternList<PatternRegexp>,
 }
 
-/// The pattern at an index.
+/// The pattern at an index. `None`: the index is out of range, or the handle is empty.
 pub(crate) fn pattern_at(
     kept: &Option<Box<PatternBox>>,
     index: usize,
@@ -25,10 +25,11 @@ pub(crate) fn pattern_at(
     }
 }
 
-/// Takes the patterns out, or makes an empty list.
+/// Takes the patterns out of a handle, which is then empty. Returns a new, empty list if the handle
+/// was empty.
 ///
-/// If memory runs out, there were no patterns, and there are none.
-pub(crate) fn take_or_insert_empty(
+/// The error, that memory ran out, occurs only for an empty handle.
+pub(crate) fn take_or_make_empty(
     alloc: Global,
     kept: &mut Option<Box<PatternBox>>,
 ) -> Result<Box<PatternBox>, AllocError>

@@ -1,7 +1,7 @@
 //! The version of the interface.
 ghost use Rattle.std.specs.Prelude.{◌≡◌};
 
-/// The version: 1,000 times its first number, plus its second.
+/// The version of the interface: 1,000 times its first number, plus its second.
 pub fn version() -> u32
     ensures { result ≡ 1000 }
 {

@@ -1,4 +1,4 @@
-//! Spans of captures, in memory that C owns.
+//! Writes the captures of a match and their spans to memory that C owns.
 ghost use Rattle.std.specs.Prelude.{◌≡◌, ◌+◌, [], ◌∷◌, length, encode_utf8_all, if◌then◌else◌, is_some, IfSome};
 ghost use Rattle.std.specs.Str.{chars};
 ghost use Rattle.urlpattern_ffi.specs.GroupSpans.{capture_bytes, found_groups, no_sizes, numbered, AreWrittenAt, AreSpansWritten, IsGroupWrittenAt, IsWrittenAt};
@@ -9,7 +9,7 @@ use crate::mismatching::component_number;
 use crate::status::Status;
 use urlpattern::{ComponentName, UrlPatternCaptures, UrlPatternGroups};
 
-/// The place of a capture in the text that is written.
+/// The place of a group's capture in the text of all captures, which is written to a buffer.
 #[repr(C)]
 #[derive(Clone, Copy)]
 pub struct GroupSpan {
@@ -17,26 +17,28 @@ pub struct GroupSpan {
     pub component: u32,
     /// 1: the group took part in the match, 0: it did not.
     pub took_part: u32,
-    /// The number of the group in its component.
+    /// The number of the group in its component, from 0 on.
     pub group: usize,
-    /// The byte at which the capture begins.
+    /// The byte of the text of all captures at which this capture begins.
     pub start: usize,
     /// The length of the capture in bytes.
     pub length: usize,
 }
 
-/// The room that a match needs.
+/// The room that the captures of a match need, or how much of it is filled.
 #[repr(C)]
 #[derive(Clone, Copy)]
 pub struct Sizes {
-    /// The length of the text in bytes.
+    /// The length of the text of all captures in bytes.
     pub bytes: usize,
-    /// The number of spans.
+    /// The number of spans, one for each group.
     pub spans: usize,
 }
 
-/// Writes the captures of a match and their spans, if there is room for both. Writes the room that
-/// they need to `needed`.
+/// Writes the captures of a match to the start of `buffer` and their spans to the start of `spans`.
+/// Writes the room that both need to `needed`. `TooSmall`: `buffer` or `spans` has too little room,
+/// and some captures and spans may be written. `OutOfMemory`: a size exceeds `usize`, and `needed`
+/// is unchanged.
 pub(crate) fn write_groups(
     found: &UrlPatternCaptures<'_, '_>,
     buffer: &mut [u8],
@@ -77,8 +79,10 @@ fn put_all(
     Some(sizes)
 }
 
-/// Writes the groups of a component after the first `from` bytes and spans. Returns the sizes with
-/// them.
+/// Writes the captures and the spans of a component's groups, as far as there is room. `from` is
+/// how many bytes and spans are before them. Returns `from` with their sizes added.
+///
+/// `None`: a size exceeds `usize`.
 fn put_groups(
     groups: UrlPatternGroups<'_, '_, '_>,
     component: ComponentName,
@@ -98,7 +102,11 @@ fn put_groups(
     Some(sizes)
 }
 
-/// Writes a group after the first `from` bytes and spans. Returns the sizes with it.
+/// Writes the capture and the span of a group, as far as there is room. `group` is its number in
+/// the component, and `from` is how many bytes and spans are before it. Returns `from` with its
+/// sizes added.
+///
+/// `None`: a size exceeds `usize`.
 fn put_group(
     component: ComponentName,
     group: usize,
@@ -124,7 +132,8 @@ fn put_group(
     Some(Sizes { bytes, spans })
 }
 
-/// Writes a text from a place on, if it fits. Returns the place after it.
+/// Writes a text from byte `at` on, if it fits. Returns where it ends. `None`: the end exceeds
+/// `usize`.
 fn put_text(text: &[u8], at: usize, buffer: &mut [u8]) -> Option<usize>
     ensures end { IfSome result (λ end. end ≡ at + length text.now) }
     ensures text { IfSome result (λ _. IsWrittenAt at text.now buffer.old buffer.new) }
@@ -139,7 +148,8 @@ fn put_text(text: &[u8], at: usize, buffer: &mut [u8]) -> Option<usize>
     Some(end)
 }
 
-/// Writes a span at a place, if it fits. Returns the place after it.
+/// Writes a span at index `at`, if it fits. Returns the index after it. `None`: the index exceeds
+/// `usize`.
 fn put_span(span: GroupSpan, at: usize, spans: &mut [GroupSpan]) -> Option<usize>
     ensures end { IfSome result (λ end. end ≡ at + 1) }
     ensures span { IfSome result (λ _. IsWrittenAt at (span ∷ []) spans.old spans.new) }
@@ -161,7 +171,7 @@ fn took_part(capture: Option<&str>) -> u32
     }
 }
 
-/// The capture of a group. Empty if the group took no part.
+/// The bytes of a group's capture. Empty if the group took no part (`None`).
 fn capture_bytes(capture: Option<&str>) -> &[u8]
     ensures { result.now ≡ capture_bytes (option_text capture.entry) }
 {

@@ -5,19 +5,24 @@ ghost use Rattle.urlpattern_ffi.specs.Statuses.{status_number};
 /// The outcome of a call.
 #[derive(Clone, Copy)]
 pub enum Status {
-    /// The call succeeded, or there is a match.
+    /// The call succeeded, or the pattern matches, covers the asked one, or has a custom regular
+    /// expression.
     Done,
-    /// No match.
+    /// The pattern does not match, or no pattern of the handle does, or the text is not a URL. Also
+    /// the status of a pattern that does not cover the asked one, has no custom regular expression,
+    /// or is not rejected.
     NoMatch,
     /// A text is not UTF-8.
     NotUtf8,
-    /// The pattern is rejected.
+    /// The pattern is rejected, the JSON is not an init, or the pattern has no URL with the given
+    /// groups.
     Refused,
     /// Memory ran out.
     OutOfMemory,
-    /// The handle has no pattern at this index.
+    /// The handle has no pattern at this index, or none at all, there is no such component or
+    /// group, or an element of `given` gives no group.
     NoPattern,
-    /// The buffer is too small.
+    /// A buffer is too small, for bytes or for spans.
     TooSmall,
     /// Whether a pattern covers another one is not known.
     Unknown,

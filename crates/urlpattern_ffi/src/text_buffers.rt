@@ -1,4 +1,4 @@
-//! Texts that are written to memory that C owns.
+//! Writes texts to memory that C owns.
 ghost use Rattle.std.specs.Prelude.{◌≡◌, length};
 ghost use Rattle.std.specs.Str.{chars};
 ghost use Rattle.urlpattern.specs.Patterns.{pattern_view};
@@ -12,7 +12,8 @@ use urlpattern::regexp::PatternRegexp;
 use urlpattern::{ComponentName, UrlPattern};
 use urlpattern_ffi_links::component_of;
 
-/// Writes a text to the start of a buffer, if it fits, and its length in bytes to `needed`.
+/// Writes a text to the start of a buffer, and its length in bytes to `needed`. `TooSmall`: the
+/// text does not fit, and the buffer is unchanged.
 pub(crate) fn write(text: &str, buffer: &mut [u8], needed: &mut usize) -> Status
     ensures written { IsWrittenTo text.now buffer.old buffer.new result }
     ensures needed { needed.new ≡ length text.now }
@@ -26,7 +27,8 @@ pub(crate) fn write(text: &str, buffer: &mut [u8], needed: &mut usize) -> Status
     Status::Done
 }
 
-/// Writes the pattern text of a component of the pattern at an index.
+/// Writes the pattern text of a component of the pattern at an index. `component` is the number of
+/// the component. `NoPattern`: there is no such pattern or component.
 pub fn write_component(
     kept: &Option<Box<PatternBox>>,
     index: usize,
@@ -46,14 +48,15 @@ pub fn write_component(
     write(pattern_text(pattern, name), buffer, needed)
 }
 
-/// The pattern text of a component.
+/// The pattern text of a component of a pattern.
 fn pattern_text(pattern: &UrlPattern<PatternRegexp>, name: ComponentName) -> &str
     ensures { chars result.now ≡ (pattern_view pattern.now name).pattern_string }
 {
     &pattern.get(name).pattern_string
 }
 
-/// Writes the name of a group of the pattern at an index, given its number in a component.
+/// Writes the name of a group of the pattern at an index, given the number of its component and its
+/// number in the component. `NoPattern`: there is no such group.
 pub fn write_group_name(
     kept: &Option<Box<PatternBox>>,
     index: usize,
@@ -71,7 +74,8 @@ pub fn write_group_name(
     }
 }
 
-/// The name of a group of the pattern at an index, given its number in a component.
+/// The name of a group of the pattern at an index, given the number of its component and its number
+/// in the component. `None`: there is no such group.
 fn group_name(
     kept: &Option<Box<PatternBox>>,
     index: usize,

@@ -9,9 +9,10 @@ use std::str;
 use url::Url;
 use urlpattern_canonical::find_url;
 
-/// Parses a URL, under a base URL unless `base` is empty.
+/// Parses `text` as a URL, under a base URL unless `base` is empty.
 ///
-/// The error is the status that says why there is no URL.
+/// The error is the status that says why there is no URL: `NotUtf8`, `NoMatch` if `url` rejects a
+/// text, or `OutOfMemory`.
 pub(crate) fn url_of(alloc: Global, text: &[u8], base: &[u8]) -> Result<Url, Status>
     ensures found { IfOk result (λ url. IsUrlUnderBase text.now base.now url) }
     ensures missing { IfErr result (IsNoUrl text.now base.now) }

@@ -1,4 +1,4 @@
--- The texts for the groups of a pattern, as parts of one text. Texts are bytes.
+-- The groups of a pattern with their texts, cut out of one text. Texts are bytes.
 use Rattle.std.specs.Prelude.{◌≡◌, ◌+◌, ◌≤◌, ℕ, Any, List, drop, length, slice_get, take, Some}
 use Rattle.std.specs.{Borrow.Bor, Str.IsUtf8}
 use Rattle.urlpattern_components.specs.Eight.{components}
@@ -7,32 +7,35 @@ use Rattle.urlpattern_ffi_links.specs.declared.given.GivenBytes.{GivenBytes}
 use Rattle.urlpattern_ffi_links.specs.declared.given_link.Unlinked.{Unlinked}
 use Rattle.urlpattern_ffi_links.specs.declared.given_link.Unlinked.TheVariants as unlinked
 
--- The part of the text that begins at `start` and has `count` bytes. It is UTF-8.
+-- `part` is the part of `text` that begins at byte `start` and has `count` bytes. It is UTF-8.
 pub record IsPart (text : List ℕ) (start count : ℕ) (part : List ℕ) : Type 0 where
   pub within : start + count ≤ length text
   pub bytes : part ≡ take count (drop start text)
   pub utf8 : IsUtf8 part
 
--- The text has no part that begins at `start`, has `count` bytes and is UTF-8.
+-- `text` has no part that begins at byte `start`, has `count` bytes and is UTF-8.
 abbrev pub IsNoPart : (text : List ℕ) → (start count : ℕ) → Type 0
 IsNoPart text start count = (part : List ℕ) → ¬ IsPart text start count part
 
--- A group: its component, its name and the text for it.
+-- A group with its text: the component, the name of the group, and the text for it.
 abbrev pub GroupOfBytes : Type 0
 GroupOfBytes = ComponentName × Bor (List ℕ) × Bor (List ℕ)
 
--- The component has this number, and the parts are the name of the group and the text for it.
+-- `given` cuts the group out of `text`: the number of the component, the part with the name of the
+-- group, and the part with the text for the group.
 abbrev pub GivesGroup : (text : List ℕ) → GivenBytes → GroupOfBytes → Type 0
 GivesGroup text given group =
     (slice_get components given.component ≡ Some group.0)
     × IsPart text given.name_start given.name_length group.1.now
     × IsPart text given.start given.length group.2.now
 
--- The parts give no group.
+-- `given` cuts no group out of `text`: no component has the number, or a part is out of range or
+-- not UTF-8.
 abbrev pub GivesNothing : (text : List ℕ) → GivenBytes → Type 0
 GivesNothing text given = (group : GroupOfBytes) → ¬ GivesGroup text given group
 
--- A part gives no group, or memory ran out.
+-- The reason why the elements of the list cut no groups out of `text`: one of them cuts out no
+-- group, or memory ran out.
 abbrev pub RejectsParts : (text : List ℕ) → List GivenBytes → Unlinked → Type 0
 RejectsParts text given unlinked.Given = Any (GivesNothing text) given
 RejectsParts text given unlinked.OutOfMemory = Unit {0}

@@ -1,4 +1,5 @@
--- The URL of a pattern with parts of a text for its groups, or why there is none.
+-- The URL of a pattern with groups that are cut out of a text, or why there is none. `given` says
+-- where the name and the text of each group are.
 use Rattle.std.specs.Prelude.{◌≢◌, ℕ, Any, List}
 use Rattle.std.specs.List.{AllZip}
 use Rattle.url.specs.Parts.{Parts}
@@ -14,14 +15,14 @@ use Rattle.urlpattern_pattern.specs.UrlPatterns.{UrlPattern}
 use Rattle.urlpattern_generate.specs.declared.no_link.NoLink.{NoLink}
 use Rattle.urlpattern_generate.specs.declared.no_link.NoLink.TheVariants as no_link
 
--- The URL is that of the pattern with these parts of the text for its groups.
+-- `url` is the URL of the pattern with the groups that `given` cuts out of `text`.
 abbrev pub IsLinkOfBytes : UrlPattern PatternRegexp → (text : List ℕ) → List GivenBytes → Parts
     → Type 0
 IsLinkOfBytes pattern text given url =
     (groups : List GroupOfBytes) × AllZip (GivesGroup text) given groups
     × IsLink pattern_result pattern (given_groups groups) url
 
--- The pattern has no URL with these parts of the text for its groups, for this reason.
+-- The pattern has no URL with the groups that `given` cuts out of `text`, for the reason `error`.
 abbrev pub RejectsLinkOfBytes : UrlPattern PatternRegexp → (text : List ℕ) → List GivenBytes
     → NoLink → Type 0
 RejectsLinkOfBytes pattern text given error =
@@ -29,7 +30,8 @@ RejectsLinkOfBytes pattern text given error =
     × ((groups : List GroupOfBytes) × AllZip (GivesGroup text) given groups
     × RejectsLink pattern_result pattern (given_groups groups) error)
 
--- The reason why there is no URL.
+-- The reason why there is no URL: an element of `given` cuts no group out of `text`, the pattern
+-- has no URL with the groups, or memory ran out.
 abbrev pub IsUnlinked : UrlPattern PatternRegexp → (text : List ℕ) → List GivenBytes → Unlinked
     → Type 0
 IsUnlinked pattern text given unlinked.Given = Any (GivesNothing text) given

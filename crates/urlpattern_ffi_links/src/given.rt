@@ -10,7 +10,7 @@ use std::str;
 use urlpattern_components::ComponentName;
 use urlpattern_generate::GivenGroup;
 
-/// The name of a group and the text for it, as parts of a text, in bytes.
+/// The name of a group and the text for the group, as parts of one text, in bytes.
 #[repr(C)]
 #[derive(Clone, Copy)]
 pub struct GivenBytes {
@@ -26,9 +26,9 @@ pub struct GivenBytes {
     pub length: usize,
 }
 
-/// The groups that parts of a text name, with their texts.
+/// Cuts groups with their texts out of `text`, one for each element of `given`.
 ///
-/// The error is `GivenBytes` if a part gives no group, or `OutOfMemory`.
+/// The error is `Unlinked::Given` if an element gives no group, or `OutOfMemory`.
 pub(crate) fn groups_of<'t>(
     alloc: Global,
     text: &'t [u8],
@@ -53,8 +53,8 @@ pub(crate) fn groups_of<'t>(
     Ok(groups)
 }
 
-/// The group that a part of a text names, with its text. `None`: no component has the number, or a
-/// part is out of range or not UTF-8.
+/// Cuts the group that `given` names and the text for it out of `text`. `None`: no component has
+/// the number, or a part is out of range or not UTF-8.
 fn numbered_group<'t>(text: &'t [u8], given: &GivenBytes) -> Option<GivenGroup<'t>>
     ensures group { IfSome result (GivesGroup text.now given.now) }
     ensures nothing { IfNone result (GivesNothing text.now given.now) }
@@ -65,15 +65,15 @@ fn numbered_group<'t>(text: &'t [u8], given: &GivenBytes) -> Option<GivenGroup<'
     Some((component, name, value))
 }
 
-/// The component with a number, in the order of the standard.
+/// The component with a number, in the order of the standard. `None`: the number is 8 or more.
 pub fn component_of(number: u32) -> Option<ComponentName>
     ensures { result ≡ slice_get components number }
 {
     ComponentName::all().get(number as usize).copied()
 }
 
-/// The part of a text that begins at `start` and has `count` bytes. `None`: it is out of range, or
-/// not UTF-8.
+/// The part of a text that begins at byte `start` and has `count` bytes. `None`: the part is out of
+/// range, or not UTF-8.
 fn part_of(text: &[u8], start: usize, count: usize) -> Option<&str>
     ensures part { IfSome result (λ part. IsPart text.now start count part.now) }
     ensures none { IfNone result (IsNoPart text.now start count) }

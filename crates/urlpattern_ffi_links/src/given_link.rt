@@ -1,4 +1,4 @@
-//! The URL of a pattern, given texts for its groups.
+//! The URL of a pattern with given groups.
 ghost use Rattle.std.specs.Prelude.{IfErr, IfOk};
 ghost use Rattle.urlpattern_ffi_links.specs.GivenLinks.{IsLinkOfBytes, IsUnlinked};
 
@@ -9,10 +9,11 @@ use urlpattern_engine::PatternRegexp;
 use urlpattern_generate::NoLink;
 use urlpattern_pattern::UrlPattern;
 
-/// The reason why there is no URL.
+/// The reason why there is no URL of a pattern with given groups.
 #[derive(Drop)]
 pub enum Unlinked {
-    /// A part gives no group: no component has its number, or it is out of range or not UTF-8.
+    /// An element of `given` gives no group: no component has the number that it names, or a part
+    /// is out of range or not UTF-8.
     Given,
     /// The pattern has no URL with these groups.
     NoLink(NoLink),
@@ -20,9 +21,10 @@ pub enum Unlinked {
     OutOfMemory,
 }
 
-/// Returns the URL that the pattern matches when its groups capture these parts of a text.
+/// Returns a URL that the pattern matches, with the groups that `given` cuts out of `text`, as
+/// `UrlPattern::link` does.
 ///
-/// The error is the reason why there is none.
+/// The error is the reason why there is no URL.
 pub fn link(
     alloc: Global,
     pattern: &UrlPattern<PatternRegexp>,

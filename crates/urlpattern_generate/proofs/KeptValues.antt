@@ -29,7 +29,7 @@ use Rattle.url.specs.declared.host.Host.TheVariants.{Domain}
 use Rattle.url.specs.declared.scheme.SchemeType.TheVariants.{SpecialNotFile}
 use Rattle.url.specs.declared.sets.TheConstants.{FORBIDDEN_DOMAIN, FRAGMENT, OPAQUE_PATH, PATH, SPECIAL_QUERY}
 use Rattle.urlpattern_canonical.proofs.CanonicalLemmas.{pathname_of-bare}
-use Rattle.urlpattern_canonical.specs.Canonical.{after, canonical_hostname, canonical_opaque_pathname, canonical_protocol, dummy_url, hostname_of, pathname_of, without_added_prefix}
+use Rattle.urlpattern_canonical.specs.Canonical.{canonical_hostname, canonical_opaque_pathname, canonical_protocol, dummy_url, get_after_set, hostname_of, pathname_of, without_added_prefix}
 use Rattle.urlpattern_components.specs.declared.eight.ComponentName.{ComponentName}
 use Rattle.urlpattern_components.specs.declared.eight.ComponentName.TheVariants.{Protocol, Username, Password, Hostname, Port, Pathname, Search, Hash}
 use Rattle.urlpattern_generate.proofs.HostTexts.{host_visible, hostname_kept}
@@ -343,11 +343,11 @@ kept_for Pathname true bytes e = by_bytes pathname_of bytes (are_visible bytes (
 kept_for Pathname false bytes e = opaque_kept bytes e
 kept_for Search hierarchical bytes e =
     let all = All_from_list_all is_kept_character bytes e in
-    by_bytes (λ value. after dummy_url (λ old. Ok (setters.set_query old (Some value))) (λ new. unwrap_or new.query [])) bytes (are_visible bytes all)
+    by_bytes (λ value. get_after_set dummy_url (λ old. Ok (setters.set_query old (Some value))) (λ new. unwrap_or new.query [])) bytes (are_visible bytes all)
     (search_kept bytes (are_visible bytes all) (are_kept SPECIAL_QUERY refl bytes all))
 kept_for Hash hierarchical bytes e =
     let all = All_from_list_all is_kept_character bytes e in
-    by_bytes (λ value. after dummy_url (λ old. Ok (setters.set_fragment old (Some value))) (λ new. unwrap_or new.fragment [])) bytes (are_visible bytes all)
+    by_bytes (λ value. get_after_set dummy_url (λ old. Ok (setters.set_fragment old (Some value))) (λ new. unwrap_or new.fragment [])) bytes (are_visible bytes all)
     (hash_kept bytes (are_visible bytes all) (are_kept FRAGMENT refl bytes all))
 
 pub kept_alone : (component : ComponentName) (hierarchical is_ipv6 : Bool) (bytes : List ℕ) → is_ipv6 ≡ false → is_kept_value component hierarchical bytes ≡ true →

@@ -205,7 +205,7 @@ module _ {E : Type 0} (answer : E → List ℕ → Option Captures) (IsEngine : 
   made_finds parts matcher captures made reads may =
       let front = option_to_list made.front in
       let back = option_to_list made.back in
-      let cut : parts ≡ front ++ (made.middle ++ back) = made.are_peeled.cut ∙ append_assoc front made.middle back in
-      let after = front_first options made.front (BeginsPlain parts) (made.middle ++ back) captures made.are_peeled.front_removed (subst (λ all. MayCaptureAll options all captures) cut may) in
+      let cut : parts ≡ front ++ (made.middle ++ back) = made.are_stripped.cut ∙ append_assoc front made.middle back in
+      let after = front_first options made.front (BeginsPlain parts) (made.middle ++ back) captures made.are_stripped.front_removed (subst (λ all. MayCaptureAll options all captures) cut may) in
       subst (λ text. Returns answer matcher text (Some captures)) (sym (ap (λ all. text_of_parts all captures) cut ∙ after.1))
-      (between_found (end_text made.front) made.middle made.back (EndsPlain made.middle) matcher captures made.are_peeled.back_removed made.is_made reads after.0)
+      (between_found (end_text made.front) made.middle made.back (EndsPlain made.middle) matcher captures made.are_stripped.back_removed made.is_made reads after.0)

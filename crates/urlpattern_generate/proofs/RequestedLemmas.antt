@@ -1,7 +1,7 @@
 -- The captures that are requested of the groups of parts, part by part.
 use Rattle.std.proofs.Common.{◌≡◌, ◌∙◌, ℕ, Bool, true, false, List, [], ◌∷◌, ◌++◌, append-nil, append_assoc, ap, refl, sym, subst, Option}
 use Rattle.std.specs.Prelude.{◌&&◌}
-use Rattle.urlpattern_generate.specs.Requested.{capture_by_modifier, default_capture, empty_if, is_nameless}
+use Rattle.urlpattern_generate.specs.Requested.{capture_by_modifier, default_capture, empty_if, is_unnamed_full_wildcard}
 use Rattle.urlpattern_generate.specs.Links.{OfEachGroup, OfFirst, captures_after, text_of_group, text_of_part, text_of_parts}
 use Rattle.urlpattern_meaning.specs.PartMeaning.{Captures, capture_of_none}
 use Rattle.urlpattern_syntax.specs.declared.parser.PartModifier.TheVariants as modifiers
@@ -96,10 +96,10 @@ zero_or_more part bare e f =
 
 -- ---- unnamed wildcards
 
-pub full_nameless : (kind : PartType) (name : List ℕ) (digit : Bool) → kind ≡ FullWildcard → digit ≡ begins_with is_ascii_digit name → digit ≡ is_nameless kind name
-full_nameless kind name digit e is = is ∙ sym (ap (λ k. is_nameless k name) e)
+pub full_nameless : (kind : PartType) (name : List ℕ) (digit : Bool) → kind ≡ FullWildcard → digit ≡ begins_with is_ascii_digit name → digit ≡ is_unnamed_full_wildcard kind name
+full_nameless kind name digit e is = is ∙ sym (ap (λ k. is_unnamed_full_wildcard k name) e)
 
-pub other_nameless : (kind : PartType) (name : List ℕ) → ¬ (kind ≡ FullWildcard) → false ≡ is_nameless kind name
+pub other_nameless : (kind : PartType) (name : List ℕ) → ¬ (kind ≡ FullWildcard) → false ≡ is_unnamed_full_wildcard kind name
 other_nameless FullWildcard name other = absurd (other refl)
 other_nameless FixedText name other = refl
 other_nameless Regexp name other = refl

@@ -24,7 +24,7 @@ use Rattle.url.specs.declared.host.Host.TheVariants.{Domain}
 use Rattle.url.specs.declared.scheme.SchemeType.TheVariants.{SpecialNotFile}
 use Rattle.url.specs.declared.sets.TheConstants.{FRAGMENT, SPECIAL_QUERY}
 use Rattle.urlpattern_canonical.proofs.CanonicalLemmas.{after-ok, pathname_of-slash}
-use Rattle.urlpattern_canonical.specs.Canonical.{after, canonical, dummy_url, path_of, pathname_of}
+use Rattle.urlpattern_canonical.specs.Canonical.{canonical, dummy_url, get_after_set, path_of, pathname_of}
 
 -- ---- visible bytes: ASCII above a space
 
@@ -93,13 +93,13 @@ pathname_kept path visible list some =
 
 -- ---- search and hash
 
-pub search_kept : (value : List ℕ) → AreVisible value → All (IsKept SPECIAL_QUERY) value → after dummy_url (λ url. Ok (setters.set_query url (Some value))) (λ url. unwrap_or url.query []) ≡ Ok value
+pub search_kept : (value : List ℕ) → AreVisible value → All (IsKept SPECIAL_QUERY) value → get_after_set dummy_url (λ url. Ok (setters.set_query url (Some value))) (λ url. unwrap_or url.query []) ≡ Ok value
 unfolding scheme_type default_port
 search_kept value visible kept =
     after-ok dummy_url (λ url. Ok (setters.set_query url (Some value))) (λ url. unwrap_or url.query []) dummy (setters.set_query dummy (Some value)) dummy_is refl
     ∙ ap (λ text. Ok text) (ap (percent_encode SPECIAL_QUERY) (stripped value visible) ∙ percent_encode_unchanged SPECIAL_QUERY value kept)
 
-pub hash_kept : (value : List ℕ) → AreVisible value → All (IsKept FRAGMENT) value → after dummy_url (λ url. Ok (setters.set_fragment url (Some value))) (λ url. unwrap_or url.fragment []) ≡ Ok value
+pub hash_kept : (value : List ℕ) → AreVisible value → All (IsKept FRAGMENT) value → get_after_set dummy_url (λ url. Ok (setters.set_fragment url (Some value))) (λ url. unwrap_or url.fragment []) ≡ Ok value
 hash_kept value visible kept =
     after-ok dummy_url (λ url. Ok (setters.set_fragment url (Some value))) (λ url. unwrap_or url.fragment []) dummy (setters.set_fragment dummy (Some value)) dummy_is refl
     ∙ ap (λ text. Ok text) (ap (percent_encode FRAGMENT) (stripped value visible) ∙ percent_encode_unchanged FRAGMENT value kept)

@@ -4,7 +4,7 @@ use Rattle.urlpattern_components.specs.Eight.{name_text}
 use Rattle.urlpattern_generate.specs.declared.generate_error.GenerateError.{GenerateError}
 use Rattle.urlpattern_generate.specs.declared.generate_error.GenerateError.TheVariants as errors
 
--- The text of an error. A group has the name of its component before its own.
+-- The text that is printed for an error. A group has the name of its component before its own.
 abbrev pub generate_error_text : GenerateError → List ℕ
 generate_error_text (errors.Missing component name) =
     codes "the group `" ++ name_text component

@@ -10,21 +10,23 @@ abbrev pub HavePlainTexts : List PartView → Type 0
 HavePlainTexts parts =
     All (λ part. part.kind ≡ PartType.FixedText → part.modifier ≡ PartModifier.None) parts
 
--- The parts mean the text that is written from them, with the captures that it was written with.
+-- If no part is custom, and captures meet `MayCaptureAll`, parts match the text that is written
+-- from these captures, and match it with them.
 abbrev pub WrittenTextsAreMeant : Type 0
 WrittenTextsAreMeant =
     (options : OptionsView) (parts : List PartView) (captures : Captures) → AreGenerated parts →
     MayCaptureAll options parts captures
     → PartsMean options parts (text_of_parts parts captures) captures
 
--- Captures that the parts have in some text may be captured.
+-- The captures with which parts match a text meet `MayCaptureAll`, which judges each group alone: a
+-- text can be written from them.
 abbrev pub MeantCapturesMayBeCaptured : Type 0
 MeantCapturesMayBeCaptured =
     (options : OptionsView) (parts : List PartView) (text : List ℕ) (captures : Captures) →
     PartsMean options parts text captures → MayCaptureAll options parts captures
 
--- If no fixed text has a modifier, the text that is written with the captures of a text is that
--- text.
+-- If no fixed text has a modifier, and parts match a text with some captures, the text that is
+-- written with these captures is that text.
 abbrev pub MatchingIsReadBackwards : Type 0
 MatchingIsReadBackwards =
     (options : OptionsView) (parts : List PartView) (text : List ℕ) (captures : Captures) →

@@ -5,7 +5,8 @@ use Rattle.urlpattern_generate.specs.GenerateErrorText.{generate_error_text}
 use Rattle.urlpattern_generate.specs.declared.no_link.NoLink.{NoLink}
 use Rattle.urlpattern_generate.specs.declared.no_link.NoLink.TheVariants as errors
 
--- The text of an error. None: no text is promised, since the reason of `url` is printed.
+-- The text that is printed for an error. None: no text is promised, since the reason of `url` is
+-- printed.
 abbrev pub no_link_text : NoLink → Option (List ℕ)
 no_link_text (errors.Component error) = Some (generate_error_text error)
 no_link_text (errors.Url reason) = None

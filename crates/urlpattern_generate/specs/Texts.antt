@@ -3,10 +3,10 @@ use Rattle.std.specs.Prelude.{◌≡◌, ◌++◌, ℕ, Bool, IsTrue, List, Stri
 use Rattle.std.specs.declared.alloc.Global.{Global}
 use Rattle.urlpattern_syntax.specs.Text.{text_of}
 
--- The text was appended.
-abbrev pub GetsText : (old new : String Global) → List ℕ → Type 0
-GetsText old new text = text_of new ≡ text_of old ++ text
+-- `new` is `old` with the text appended.
+abbrev pub AppendsText : (old new : String Global) → List ℕ → Type 0
+AppendsText old new text = text_of new ≡ text_of old ++ text
 
--- The text was appended, if this is true.
-abbrev pub GetsTextIf : Bool → (old new : String Global) → List ℕ → Type 0
-GetsTextIf is old new text = IsTrue is → GetsText old new text
+-- If `is` (a group may have its capture), `new` is `old` with the text appended.
+abbrev pub AppendsTextIf : Bool → (old new : String Global) → List ℕ → Type 0
+AppendsTextIf is old new text = IsTrue is → AppendsText old new text

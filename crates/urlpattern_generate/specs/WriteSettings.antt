@@ -15,13 +15,13 @@ use Rattle.urlpattern_syntax.specs.Text.{begins_with}
 
 -- ---- the values of groups
 
--- A value for the group of a name in a component.
+-- A value, `text`, for the group `name` of a component.
 pub record GivenView : Type 0 where
   pub component : ComponentName
   pub name : List ℕ
   pub text : List ℕ
 
--- The view of a value.
+-- A value for a group, as it is passed in (`GivenGroup`), with name and text as characters.
 abbrev pub given_view : (ComponentName × Bor (List ℕ) × Bor (List ℕ)) → GivenView
 given_view given = record {
   component = given.0;
@@ -29,16 +29,17 @@ given_view given = record {
   text = chars given.2.now;
 }
 
--- The views of values.
+-- The values for groups, as they are passed in, with names and texts as characters.
 abbrev pub given_groups : List (ComponentName × Bor (List ℕ) × Bor (List ℕ)) → List GivenView
 given_groups groups = map given_view groups
 
--- The value is for this group.
+-- Whether the value `given` is for the group `name` of the component.
 abbrev pub is_given_for : ComponentName → (name : List ℕ) → GivenView → Bool
 is_given_for component name given =
     bytes_eq (name_text given.component) (name_text component) && bytes_eq given.name name
 
--- The first value for a group, or None.
+-- The first of the values that is for the group `name` of the component. None: the group has no
+-- value.
 abbrev pub text_given : List GivenView → ComponentName → (name : List ℕ) → Option (List ℕ)
 text_given [] component name = None
 text_given (given ∷ others) component name =
@@ -46,15 +47,15 @@ text_given (given ∷ others) component name =
 
 -- ---- a component
 
--- The options of a component's parts, the canonical form of its values, and the values of its
--- groups.
+-- How the text of a component is written: with the options of its parts, the canonical form of a
+-- value, and the value of a group by its name, if it has one.
 pub record WriteSettings : Type 0 where
   pub options : OptionsView
   pub canonical : List ℕ → Parsed (List ℕ)
   pub given : (name : List ℕ) → Option (List ℕ)
 
--- The canonical form of a value. A pathname is hierarchical or not; a hostname is an IPv6 address
--- or not.
+-- The canonical form of a value in the component. `hierarchical` is whether a pathname is a path of
+-- segments rather than opaque, and `is_ipv6` whether a hostname is an IPv6 address.
 abbrev pub canonical_for : ComponentName → (hierarchical is_ipv6 : Bool) → List ℕ → Parsed (List ℕ)
 canonical_for Protocol hierarchical is_ipv6 text = canonical_protocol text
 canonical_for Username hierarchical is_ipv6 text = canonical_username text
@@ -67,7 +68,7 @@ canonical_for Pathname hierarchical is_ipv6 text =
 canonical_for Search hierarchical is_ipv6 text = canonical_search text
 canonical_for Hash hierarchical is_ipv6 text = canonical_hash text
 
--- The delimiter is a slash, as that of a path of segments.
+-- Whether the delimiter is a slash, as in a path of segments.
 abbrev pub is_slash_delimiter : (delimiter : Option ℕ) → Bool
 is_slash_delimiter None = false
 is_slash_delimiter (Some c) = c == slash
@@ -77,18 +78,18 @@ abbrev pub leading_text : PartType → PartView → List ℕ
 leading_text PartType.FixedText part = part.value
 leading_text kind part = part.prefix
 
--- The first part begins with `[`, as an IPv6 address does.
+-- Whether the first of the parts begins with `[`, as an IPv6 address does.
 abbrev pub begins_ipv6 : List PartView → Bool
 begins_ipv6 [] = false
 begins_ipv6 (part ∷ parts) =
     begins_with (λ c. c == slice_index (codes "[") 0) (leading_text part.kind part)
 
--- The component is a hostname that is an IPv6 address.
+-- Whether the component is a hostname, and its pattern begins as an IPv6 address does.
 abbrev pub is_ipv6_host : ComponentName → List PartView → Bool
 is_ipv6_host Hostname parts = begins_ipv6 parts
 is_ipv6_host component parts = false
 
--- How a component of these parts is written with these values.
+-- How the text of a component with these options and parts is written with the values `groups`.
 abbrev pub settings_for : ComponentName → OptionsView → List PartView → List GivenView
     → WriteSettings
 settings_for component options parts groups = record {

@@ -17,7 +17,8 @@ use Rattle.urlpattern_syntax.specs.declared.parser.PartType.{PartType}
 use Rattle.urlpattern_syntax.specs.Parts.{PartView}
 use Rattle.urlpattern_syntax.specs.Text.{text_of}
 
--- The text is that of the parts with the requested captures, which their groups may have.
+-- The text is written from the parts with the requested captures, which their groups may have: the
+-- canonical form of a group's value, or for a group without a value its `default_capture`.
 pub record IsWritten (settings : WriteSettings) (parts : List PartView) (text : List ℕ) : Type 0
   where
     pub captures : Captures
@@ -27,11 +28,12 @@ pub record IsWritten (settings : WriteSettings) (parts : List PartView) (text : 
 
 -- ---- errors
 
--- The group is requested to capture nothing, but is not optional.
+-- The capture requested of the group is None, but the group cannot be left out.
 abbrev pub IsMissing : WriteSettings → PartView → Type 0
 IsMissing settings part = IsRequested settings part None × ¬ MayCapture settings.options part None
 
--- `url` rejects the value of the group, or the group may not capture the canonical form.
+-- `url` rejects the value of the group, or the group may not capture the text that is requested of
+-- it.
 abbrev pub IsNotCaptured : WriteSettings → PartView → Type 0
 IsNotCaptured settings part =
     RejectsGiven settings part.name
@@ -42,8 +44,8 @@ IsNotCaptured settings part =
 abbrev pub IsGroup : (name : List ℕ) → PartView → Type 0
 IsGroup name part = (part.kind ≢ PartType.FixedText) × (part.name ≡ name)
 
--- The error says why the part cannot be written, with the name of its group, or that memory ran
--- out.
+-- The error says why the part cannot be written with the requested capture, and names the component
+-- and the group; or memory ran out.
 abbrev pub RejectsPart : ComponentName → WriteSettings → PartView → GenerateError → Type 0
 RejectsPart component settings part (Missing of name) =
     (of ≡ component) × IsGroup (text_of name) part × IsMissing settings part
@@ -52,7 +54,7 @@ RejectsPart component settings part (NotCaptured of name) =
 RejectsPart component settings part OutOfMemory = Unit {0}
 RejectsPart component settings part error = ⊥
 
--- The error is that memory ran out, or that of the first part that cannot be written.
+-- The error says why a part cannot be written, the first that cannot, or that memory ran out.
 abbrev pub CannotWrite : ComponentName → WriteSettings → List PartView → GenerateError → Type 0
 CannotWrite component settings parts error =
     (error ≡ OutOfMemory)
@@ -67,14 +69,15 @@ CannotWrite component settings parts error =
 abbrev pub cow_text : CowStr Global → List ℕ
 cow_text text = chars (cow_str_bytes text)
 
--- How a writer writes.
+-- How the text of a component is written by a `Substitution`.
 abbrev pub settings_of_writer : Substitution → WriteSettings
 settings_of_writer writer =
     settings_for writer.component (kept_options writer.kept.now) (kept_parts writer.kept.now)
     (given_groups writer.groups.now)
 
--- The capture at `index` is the requested one, if the part is a group, and the next part's begins
--- at `next`. None: it is not.
+-- If the part is a group, the capture at `index` is the one requested of the group, and the
+-- captures of the parts that follow begin at index `next`. None: the capture is another one, or
+-- missing.
 abbrev pub LeavesRequested : WriteSettings → PartView → Captures → (index : ℕ) → (next : Option ℕ)
     → Type 0
 LeavesRequested settings part captures index None =
@@ -83,7 +86,7 @@ LeavesRequested settings part captures index (Some next) =
     OfFirst (IsRequested settings) part.kind part (drop index captures)
     × (captures_after part.kind (drop index captures) ≡ drop next captures)
 
--- The text of a part was appended.
-abbrev pub GetsPart : WriteSettings → PartView → (old new : String Global) → Type 0
-GetsPart settings part old new =
+-- `new` is `old` with the text of the part appended, written with the requested capture.
+abbrev pub AppendsPart : WriteSettings → PartView → (old new : String Global) → Type 0
+AppendsPart settings part old new =
     (text : List ℕ) × IsWritten settings (part ∷ []) text × (text_of new ≡ text_of old ++ text)

@@ -12,7 +12,7 @@ ghost use Rattle.urlpattern_syntax.specs.Text.{lacks, line_feed};
 use percent_encoding::{AsciiSet, CONTROLS, ascii_set};
 use urlpattern_components::ComponentName;
 
-/// The ASCII characters that a path, a search or a hash may percent-encode.
+/// A superset of the ASCII characters that a path, a search or a hash percent-encodes.
 const ESCAPED: AsciiSet = ascii_set!(
     CONTROLS
         .add(b' ')
@@ -35,8 +35,11 @@ const ESCAPED: AsciiSet = ascii_set!(
 /// The greatest number of digits for which every number is a port.
 const SHORT_PORT: usize = 4;
 
-/// Whether the characters of a text show that it is canonical in a component. A pathname is
-/// hierarchical or not; a hostname is an IPv6 address or not.
+/// Whether the characters of a text show that it is canonical in a component. `false` decides
+/// nothing.
+///
+/// `hierarchical` says whether a pathname is a path of segments rather than opaque, and `is_ipv6`
+/// whether a hostname is an IPv6 address.
 pub(crate) fn keeps(component: ComponentName, hierarchical: bool, is_ipv6: bool, text: &str) -> bool
     ensures canonical { IsTrue result
         → canonical_for component hierarchical is_ipv6 (chars text.now) ≡ Ok (chars text.now) }
@@ -51,7 +54,7 @@ pub(crate) fn keeps(component: ComponentName, hierarchical: bool, is_ipv6: bool,
     }
 }
 
-/// Whether a protocol is empty or a common one.
+/// Whether a protocol is known to be canonical: empty, or one of a few common ones.
 fn is_kept_protocol(text: &str) -> bool
     ensures canonical { IsTrue result → canonical_protocol (chars text.now) ≡ Ok (chars text.now) }
     ensures line { IsTrue result → IsTrue (lacks line_feed (chars text.now)) }
@@ -66,8 +69,11 @@ fn is_kept_protocol(text: &str) -> bool
     }
 }
 
-/// Whether the characters of a value show that it is canonical in a component. A pathname is a path
-/// of segments or opaque; a hostname is not an IPv6 address.
+/// Whether the characters of a value show that it is canonical in a component other than the
+/// protocol. `false` decides nothing.
+///
+/// `hierarchical` says whether a pathname is a path of segments rather than opaque. A hostname is
+/// not an IPv6 address.
 fn is_kept_value(component: ComponentName, hierarchical: bool, value: &[u8]) -> bool
     ensures { result ≡ is_kept_value component hierarchical value.now }
 {
@@ -83,7 +89,8 @@ fn is_kept_value(component: ComponentName, hierarchical: bool, value: &[u8]) -> 
     }
 }
 
-/// Whether a port has at most four digits, the first of which is not 0.
+/// Whether a port consists of at most four digits, the first of which is not 0. True if it is
+/// empty.
 fn is_kept_port(value: &[u8]) -> bool
     ensures { result ≡ is_kept_port value.now }
 {
@@ -104,22 +111,22 @@ fn are_digits(value: &[u8]) -> bool
     value.iter().all(|&b| b.is_ascii_digit())
 }
 
-/// Whether an opaque path percent-encodes no character of a value, and the value does not begin
-/// with a slash.
+/// Whether a value is known to be canonical as an opaque path: each byte passes `is_kept_byte`, and
+/// the first is not a slash.
 fn is_kept_opaque(value: &[u8]) -> bool
     ensures { result ≡ is_kept_opaque value.now }
 {
     !matches!(value, [b'/', ..]) && is_kept_text(value)
 }
 
-/// Whether a path percent-encodes no character of a value, and no segment after a slash can be a
-/// dot segment.
+/// Whether a value is known to be canonical as a path of segments: each byte passes `is_kept_byte`,
+/// and no segment after a slash begins as a dot segment may.
 fn is_kept_path(value: &[u8]) -> bool
     ensures { result ≡ is_kept_path false value.now }
 {
     let mut begins = false;
     for b in value {
-        if !goes_on(begins, *b) {
+        if !is_kept_path_byte(begins, *b) {
             return false;
         }
         begins = *b == b'/';
@@ -127,36 +134,38 @@ fn is_kept_path(value: &[u8]) -> bool
     true
 }
 
-/// Whether a path keeps a character, which is the first after a slash if `begins`.
-fn goes_on(begins: bool, b: u8) -> bool
+/// Whether a byte passes `is_kept_byte` and, if it comes directly after a slash, as `begins` says,
+/// cannot begin a dot segment.
+fn is_kept_path_byte(begins: bool, b: u8) -> bool
     ensures { result ≡ (is_kept_character b && not (begins && is_dot_mark b)) }
 {
     is_kept_byte(b) && !(begins && matches!(b, b'.' | b'%'))
 }
 
-/// Whether a search and a hash percent-encode no character of a value.
+/// Whether a value is known to be canonical as a search or a hash: each byte passes `is_kept_byte`.
 fn is_kept_text(value: &[u8]) -> bool
     ensures { result ≡ list_all is_kept_character value.now }
 {
     value.iter().all(|&b| is_kept_byte(b))
 }
 
-/// Whether no path, search or hash percent-encodes a character.
+/// Whether a byte is an ASCII character outside of `ESCAPED`, which no path, search or hash
+/// percent-encodes.
 fn is_kept_byte(b: u8) -> bool
     ensures { result ≡ is_kept_character b }
 {
     b.is_ascii_lowercase() || b.is_ascii_alphanumeric() || is_unescaped(b)
 }
 
-/// Whether no path, search or hash percent-encodes a character, by one test that is slower for
-/// letters and digits.
+/// Whether a byte is an ASCII character outside of `ESCAPED`, by one test that is slower for
+/// letters and digits than `is_kept_byte`.
 fn is_unescaped(b: u8) -> bool
     ensures { result ≡ is_kept_character b }
 {
     !ESCAPED.should_percent_encode(b)
 }
 
-/// Whether a value is a host of lowercase labels without digits, and does not end with a dot.
+/// Whether a host consists of lowercase letters, hyphens and dots, and does not end with a dot.
 fn is_kept_host(value: &[u8]) -> bool
     ensures { result ≡ is_kept_host false value.now }
 {

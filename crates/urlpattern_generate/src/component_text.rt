@@ -3,7 +3,7 @@
 ghost use Rattle.std.specs.Prelude.{◌≡◌, ◌≢◌, [], ◌∷◌, IfErr, IfOk, IfSome, IsTrue, OnOk, Some};
 ghost use Rattle.std.specs.Str.{chars};
 ghost use Rattle.urlpattern_generate.specs.Requested.{IsRequested};
-ghost use Rattle.urlpattern_generate.specs.WrittenTexts.{CannotWrite, GetsPart, IsWritten, RejectsPart, cow_text, settings_of_writer};
+ghost use Rattle.urlpattern_generate.specs.WrittenTexts.{AppendsPart, CannotWrite, IsWritten, RejectsPart, cow_text, settings_of_writer};
 ghost use Rattle.urlpattern_syntax.specs.ComponentParts.{kept_parts};
 ghost use Rattle.urlpattern_syntax.specs.declared.parser.PartType.TheVariants.{FixedText};
 ghost use Rattle.urlpattern_syntax.specs.Parts.{part_view};
@@ -23,9 +23,11 @@ use urlpattern_syntax::parser::{Part, PartModifier, PartType};
 const ROOM: usize = 64;
 
 impl<'d> Substitution<'d> {
-    /// Returns the text of the parts, borrowed if possible.
+    /// Returns the text of the parts with the requested captures: the canonical form of a group's
+    /// value, or for a group without a value its `default_capture`. The text is borrowed if
+    /// possible.
     ///
-    /// The error is that of the first part that cannot be written, or that memory ran out.
+    /// The error says why a part cannot be written, the first that cannot, or that memory ran out.
     #[inline(always)]
     pub(crate) fn text(&self) -> Result<CowStr<'d>, GenerateError>
         ensures written { IfOk result (λ text.
@@ -43,8 +45,8 @@ impl<'d> Substitution<'d> {
         }
     }
 
-    /// Returns the text of no parts, or of a single part, if the text can be borrowed. `None`: the
-    /// text has to be built.
+    /// Returns the text of the component, if it can be borrowed: there are no parts, or a single
+    /// part that allows it. `None`: the text has to be built.
     #[inline(always)]
     fn borrowed_text(&self) -> Option<&'d str>
         ensures { IfSome result (λ text.
@@ -58,8 +60,8 @@ impl<'d> Substitution<'d> {
         }
     }
 
-    /// Returns the text of a part, if it can be borrowed: a fixed text, or the capture of a
-    /// wildcard without prefix and suffix.
+    /// Returns the text of a part, if it can be borrowed: a fixed text, or the capture of a full
+    /// wildcard without prefix and suffix, each without modifier. `None`: the text has to be built.
     #[inline(always)]
     fn borrowed_part(&self, part: &'d Part) -> Option<&'d str>
         ensures { IfSome result (λ text.
@@ -75,8 +77,9 @@ impl<'d> Substitution<'d> {
         }
     }
 
-    /// Returns the capture of a group, if its value needs no canonicalization. `None`: the group
-    /// captures nothing, or the value has to be made canonical.
+    /// Returns the capture that is requested of a group: its value, if that is known to be
+    /// canonical, or without a value its `default_capture`. `None`: the value has to be made
+    /// canonical, or the default capture is `None`.
     #[inline(always)]
     fn borrowed_capture(&self, part: &Part) -> Option<&'d str>
         ensures asked { IfSome result (λ text.
@@ -91,9 +94,10 @@ impl<'d> Substitution<'d> {
         }
     }
 
-    /// Builds the text of the parts.
+    /// Builds the text of the parts with the requested captures: the canonical form of a group's
+    /// value, or for a group without a value its `default_capture`.
     ///
-    /// The error is that of the first part that cannot be written, or that memory ran out.
+    /// The error says why a part cannot be written, the first that cannot, or that memory ran out.
     #[inline(never)]
     fn build_text(&self) -> Result<String, GenerateError>
         ensures written { IfOk result (λ text.
@@ -111,11 +115,14 @@ impl<'d> Substitution<'d> {
         Ok(text)
     }
 
-    /// Appends the text of a part.
+    /// Appends the text of a part. A group is to capture the canonical form of its value, or
+    /// without a value its `default_capture`.
+    ///
+    /// The error says why the part cannot be written, or that memory ran out.
     #[inline(always)]
     fn push_part(&self, text: &mut String, part: &Part) -> Result<(), GenerateError>
         ensures written { OnOk result
-            (GetsPart (settings_of_writer self.now) (part_view part.now) text.old text.new) }
+            (AppendsPart (settings_of_writer self.now) (part_view part.now) text.old text.new) }
         ensures refused { IfErr result
             (RejectsPart self.now.component (settings_of_writer self.now) (part_view part.now)) }
     {
@@ -130,7 +137,9 @@ impl<'d> Substitution<'d> {
         }
     }
 
-    /// Appends the text of a group that is to capture the canonical form of `given`.
+    /// Appends the text of a group that is to capture the canonical form of its value, `given`.
+    ///
+    /// The error says that the group cannot capture the value, or that memory ran out.
     #[inline(never)]
     fn push_canonical(
         &self,
@@ -142,7 +151,7 @@ impl<'d> Substitution<'d> {
         requires given { (settings_of_writer self.now).given (text_of part.now.name)
             ≡ Some (chars given.now) }
         ensures written { OnOk result
-            (GetsPart (settings_of_writer self.now) (part_view part.now) text.old text.new) }
+            (AppendsPart (settings_of_writer self.now) (part_view part.now) text.old text.new) }
         ensures refused { IfErr result
             (RejectsPart self.now.component (settings_of_writer self.now) (part_view part.now)) }
     {
@@ -155,6 +164,9 @@ impl<'d> Substitution<'d> {
 
     /// Appends the text of a group that is to capture `capture`. `None`: the group does not
     /// participate.
+    ///
+    /// The error says that the group cannot capture the text, or has to participate, or that memory
+    /// ran out.
     fn push_capture(
         &self,
         text: &mut String,
@@ -165,7 +177,7 @@ impl<'d> Substitution<'d> {
         requires asked { IsRequested (settings_of_writer self.now) (part_view part.now)
             (option_text capture) }
         ensures written { OnOk result
-            (GetsPart (settings_of_writer self.now) (part_view part.now) text.old text.new) }
+            (AppendsPart (settings_of_writer self.now) (part_view part.now) text.old text.new) }
         ensures refused { IfErr result
             (RejectsPart self.now.component (settings_of_writer self.now) (part_view part.now)) }
     {

@@ -21,8 +21,9 @@ use urlpattern_matcher::regexp::RegExp;
 use urlpattern_syntax::parser::{Part, PartType};
 
 impl Substitution<'_> {
-    /// Whether a matcher that was made of the parts finds the requested captures in their text. A
-    /// matcher that always finds what was written is not run.
+    /// Whether a matcher that was made of the parts finds in `text`, which was written from the
+    /// parts, the requested captures: the canonical form of a group's value, or for a group without
+    /// a value its `default_capture`. A matcher that always finds what was written is not run.
     #[inline(always)]
     pub(crate) fn confirms<R: RegExp>(
         &self,
@@ -45,7 +46,8 @@ impl Substitution<'_> {
         self.finds(matcher, text)
     }
 
-    /// Whether a matcher finds the requested captures in a text.
+    /// Whether a matcher, when run, finds in a text the requested captures: the canonical form of a
+    /// group's value, or for a group without a value its `default_capture`.
     #[inline(never)]
     fn finds<R: RegExp>(&self, matcher: &Matcher<R>, text: &str) -> Result<bool, AllocError>
         ensures { IfOk result (λ is.
@@ -61,7 +63,8 @@ impl Substitution<'_> {
         }
     }
 
-    /// Whether the captures are the requested ones.
+    /// Whether the captures `found` are the requested ones, for each group of the parts in order:
+    /// the canonical form of its value, or without a value its `default_capture`.
     fn are_requested(&self, found: &[Option<&str>]) -> Result<bool, AllocError>
         ensures { IfOk result (λ are.
             IsTrue are
@@ -78,8 +81,9 @@ impl Substitution<'_> {
         Ok(next == found.len())
     }
 
-    /// Returns the index after the capture of a part, if the capture at `index` is the requested
-    /// one. A fixed text has no capture. `None`: the capture is another one, or missing.
+    /// Returns the index after the capture of a part, if the capture at `index` is the one
+    /// requested of the part. A fixed text has no capture. `None`: the capture is another one, or
+    /// missing.
     fn after_requested(
         &self,
         part: &Part,
@@ -104,7 +108,8 @@ impl Substitution<'_> {
         }
     }
 
-    /// Whether a capture is the one that is requested of a group.
+    /// Whether a capture is the one requested of a group: the canonical form of its value, or for a
+    /// group without a value its `default_capture`.
     fn is_requested(&self, part: &Part, capture: Option<&str>) -> Result<bool, AllocError>
         ensures { IfOk result (λ is.
             IsTrue is
@@ -120,8 +125,8 @@ impl Substitution<'_> {
         }
     }
 
-    /// Whether the canonical form of a text is `value`. A rejection by `url` is reported as memory
-    /// that ran out, since texts that were written are not rejected.
+    /// Whether the canonical form of the value `given` is `value`. A rejection by `url` is reported
+    /// as memory that ran out, since no text is written with a rejected value.
     fn has_form(&self, given: &str, value: &str) -> Result<bool, AllocError>
         ensures { IfOk result (λ has.
             IsTrue has
@@ -137,8 +142,8 @@ impl Substitution<'_> {
     }
 }
 
-/// Whether a matcher always finds what was written: it has no engine and, if case is ignored, no
-/// filter that is an ASCII letter.
+/// Whether a matcher always finds the captures with which a text was written: it has no engine and,
+/// if case is ignored, no filter that is an ASCII letter. `false` decides nothing.
 fn reads_what_is_written<R>(matcher: &Matcher<R>) -> bool
     ensures { IsTrue result
         → ReadsWritten matcher.now.ignore_case (matcher_view matcher.now).inner }
@@ -152,7 +157,8 @@ fn reads_what_is_written<R>(matcher: &Matcher<R>) -> bool
     }
 }
 
-/// Whether a filter, if there is one, is not an ASCII letter.
+/// Whether the filter of a matcher, a character that its capture may not have, is not an ASCII
+/// letter. `true` without a filter.
 fn has_one_case(filter: Option<char>) -> bool
     ensures { result ≡ has_one_case filter }
 {

@@ -21,12 +21,14 @@ use urlpattern_components::ComponentName;
 /// ```
 #[derive(Debug, PartialEq, Eq, Drop)]
 pub enum GenerateError {
-    /// The group of this name has no value, and is not optional.
+    /// The group of this name in this component has no value, and its modifier does not allow that
+    /// it is left out.
     Missing(ComponentName, String),
-    /// The group of this name cannot capture its value.
+    /// The group of this name in this component cannot capture its value, or `url` rejects the
+    /// value.
     NotCaptured(ComponentName, String),
-    /// The text of the component would be read with other groups, or is not canonical, so no URL
-    /// has it.
+    /// The text of this component would be read with other captures than those requested, or not at
+    /// all; or it is not canonical, so that no URL has it.
     ReadOtherwise(ComponentName),
     /// The pattern was put together by hand, so its parts are not known.
     NoParts,
@@ -34,7 +36,7 @@ pub enum GenerateError {
     OutOfMemory,
 }
 
-/// Prints the component, the group and the problem.
+/// Prints the reason in one line, with the component and the group where they are known.
 impl fmt::Display for GenerateError {
     ghost output = { λ error. Some (generate_error_text error) };
 

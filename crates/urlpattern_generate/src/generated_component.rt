@@ -1,4 +1,4 @@
-//! The text of a component.
+//! Generates the text of a component, and confirms that a matcher captures the values in it.
 
 ghost use Rattle.std.specs.Prelude.{IfErr, IfOk, false};
 ghost use Rattle.std.specs.Str.{chars};
@@ -21,14 +21,14 @@ use urlpattern_matcher::matcher::Matcher;
 use urlpattern_matcher::regexp::RegExp;
 use urlpattern_syntax::parts::ComponentParts;
 
-/// Generates the text of a component from its parts and its matcher. The groups capture the
-/// canonical forms of their values.
+/// Generates a canonical text of a component in which the matcher captures the canonical forms of
+/// the values in `groups`. `kept` are the parts of the component, of which `matcher` was made.
 ///
-/// A group without a value does not participate if it is optional; otherwise an unnamed wildcard
-/// captures the empty text. Values for other components, and for groups that the component does not
-/// have, are ignored.
+/// A group without a value is left out if its modifier allows that; otherwise an unnamed wildcard
+/// captures the empty text, and any other group is an error. Values for other components, and for
+/// groups that the component does not have, are ignored.
 ///
-/// The error says why there is no such text, or that memory ran out.
+/// The error says why the component has no such text, or that memory ran out.
 pub fn generate_component<R: RegExp>(
     alloc: Global,
     kept: &ComponentParts,
@@ -62,11 +62,13 @@ pub fn generate_component<R: RegExp>(
     }
 }
 
-/// Writes the text of the parts of a component, whose groups are to capture the canonical forms of
-/// their values. The text is borrowed if it is a fixed text or a value. Whether the text is
-/// canonical, and whether a matcher finds the requested captures, is not checked.
+/// Writes the text of a component from its parts, `kept`, with the canonical forms of the values in
+/// `groups` as the captures of the groups. The text is borrowed if there are no parts, or a single
+/// one without modifier: a fixed text, or a full wildcard without prefix and suffix whose capture
+/// is known to be canonical. Whether the text is canonical, and whether a matcher captures the
+/// values in it, is not checked.
 ///
-/// The error says why there is no such text, or that memory ran out.
+/// The error says why the parts cannot be written with the values, or that memory ran out.
 #[inline(always)]
 pub fn written_component<'d>(
     alloc: Global,
@@ -90,8 +92,9 @@ pub fn written_component<'d>(
     writer.text()
 }
 
-/// Whether the matcher of a component finds the requested captures in a text that was written from
-/// its parts.
+/// Whether the matcher of a component captures the canonical forms of the values in `groups` in
+/// `text`, which was written with them from its parts, `kept`. Groups without a value have to
+/// capture what was written for them.
 #[inline(always)]
 pub fn confirms<R: RegExp>(
     alloc: Global,

@@ -23,7 +23,8 @@ use urlpattern_components::ComponentName;
 /// ```
 pub type GivenGroup<'g> = (ComponentName, &'g str, &'g str);
 
-/// Returns the first value for a group. `None`: there is none.
+/// Returns the text of the first of the values that are for the group `name` of a component.
+/// `None`: the group has no value.
 #[inline(always)]
 pub(crate) fn given_text<'g>(
     groups: &[GivenGroup<'g>],
@@ -40,7 +41,7 @@ pub(crate) fn given_text<'g>(
     None
 }
 
-/// Whether a value is for this group.
+/// Whether the value `given` is for the group `name` of a component.
 #[inline(always)]
 fn is_given_for(component: ComponentName, name: &str, given: &GivenGroup<'_>) -> bool
     ensures { result ≡ is_given_for component (chars name.now) (given_view given.now) }

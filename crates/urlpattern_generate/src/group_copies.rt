@@ -11,7 +11,8 @@ use std::alloc::{AllocError, Global};
 use urlpattern_printing::is_bare;
 use urlpattern_syntax::parser::{Options, Part, PartModifier, PartType};
 
-/// Whether a group may be omitted, and then captures nothing.
+/// Whether a group may be left out, with `None` as its capture. With `*` and without prefix and
+/// suffix, a group that is left out captures the empty text instead.
 pub(crate) fn may_be_missing(options: &Options, part: &Part) -> bool
     ensures { IsTrue result ↔ MayCapture (options_view options.now) (part_view part.now) None }
 {
@@ -22,7 +23,8 @@ pub(crate) fn may_be_missing(options: &Options, part: &Part) -> bool
     }
 }
 
-/// Whether a group may capture a text. Allocates only for a repeated group.
+/// Whether a group may capture a text. A custom regular expression is not matched, so its group may
+/// capture any text. Allocates only for a repeated group.
 pub(crate) fn may_capture(
     alloc: Global,
     options: &Options,
@@ -36,7 +38,8 @@ pub(crate) fn may_capture(
     Ok(is_of_no_copies(part, text) || is_of_copies(alloc, options, part, text)?)
 }
 
-/// Whether zero copies of a group capture a text, which is then empty.
+/// Whether zero copies of a group capture a text: the empty text, under `*` without prefix and
+/// suffix.
 fn is_of_no_copies(part: &Part, text: &str) -> bool
     ensures { IsTrue result ↔ IsOfNoCopies (part_view part.now) (Some (chars text.now)) }
 {
@@ -46,7 +49,7 @@ fn is_of_no_copies(part: &Part, text: &str) -> bool
     }
 }
 
-/// Whether one or more copies of a group may capture a text.
+/// Whether one or more copies of a group, as many as its modifier allows, may capture a text.
 fn is_of_copies(
     alloc: Global,
     options: &Options,
@@ -77,7 +80,8 @@ fn is_of_copies(
     }
 }
 
-/// The texts that one copy of a wildcard may capture: those without the character `mark`.
+/// The texts that a single copy of a wildcard may capture: those without the character `mark` and,
+/// unless `may_be_empty`, not empty.
 #[derive(Clone, Copy)]
 struct CopyTexts {
     mark: char,
@@ -85,7 +89,8 @@ struct CopyTexts {
 }
 
 impl CopyTexts {
-    /// Whether one or more copies of a group, as many as its modifier allows, capture a text.
+    /// Whether one or more copies of a group, as many as its modifier allows, may capture a text:
+    /// texts of single copies, joined by the suffix and the prefix of the part.
     fn are_copies(self, alloc: Global, part: &Part, text: &str) -> Result<bool, AllocError>
         ensures { IfOk result (λ are.
             IsTrue are ↔ IsOfCopies (Allowed self) (part_view part.now) (Some (chars text.now))) }
@@ -100,7 +105,7 @@ impl CopyTexts {
         }
     }
 
-    /// Whether one copy may capture a text.
+    /// Whether a single copy may capture a text.
     fn is_one(self, text: &str) -> bool
         ensures { IsTrue result ↔ Allowed self (chars text.now) }
     {
@@ -114,8 +119,8 @@ impl CopyTexts {
         self.may_be_empty || !text.is_empty()
     }
 
-    /// Whether a text consists of one or more such texts, joined by `between`. Takes one pass over
-    /// the text.
+    /// Whether a text consists of one or more texts of single copies, joined by `between`. Takes
+    /// one pass over the text.
     fn are_some(self, between: &str, text: &str) -> bool
         ensures { IsTrue result ↔ AreSomeWith (Allowed self) (chars between.now) (chars text.now) }
     {
@@ -124,7 +129,7 @@ impl CopyTexts {
         };
         let mut rest = text;
         while let Some((front, behind)) = split_at_first(rest, self.mark) {
-            let Some(first) = without_back(front, before) else {
+            let Some(first) = without_suffix(front, before) else {
                 return false;
             };
             let Some(later) = without_prefix(behind, after) else {
@@ -139,7 +144,8 @@ impl CopyTexts {
     }
 }
 
-/// Splits a text at the first occurrence of a character. `None`: the text lacks the character.
+/// Returns the text before the first occurrence of a character, and the text after that occurrence.
+/// `None`: the text lacks the character.
 fn split_at_first(text: &str, mark: char) -> Option<(&str, &str)>
     ensures cut { IfSome result (λ cut. IsCutAtFirst mark text.now cut.0.now cut.1.now) }
     ensures none { IfNone result (IsTrue (lacks mark (chars text.now))) }
@@ -147,7 +153,7 @@ fn split_at_first(text: &str, mark: char) -> Option<(&str, &str)>
     text.split_once(mark)
 }
 
-/// Returns the text without the prefix `front`.
+/// Returns the text without the prefix `front`. `None`: the text does not begin with `front`.
 fn without_prefix<'t>(text: &'t str, front: &str) -> Option<&'t str>
     ensures cut { IfSome result (λ rest. chars text.now ≡ chars front.now ++ chars rest.now) }
     ensures none { IfNone result ((rest : List ℕ) → ¬ (chars text.now ≡ chars front.now ++ rest)) }
@@ -156,8 +162,8 @@ fn without_prefix<'t>(text: &'t str, front: &str) -> Option<&'t str>
     text.strip_prefix(front)
 }
 
-/// Returns the text without the suffix `back`.
-fn without_back<'t>(text: &'t str, back: &str) -> Option<&'t str>
+/// Returns the text without the suffix `back`. `None`: the text does not end with `back`.
+fn without_suffix<'t>(text: &'t str, back: &str) -> Option<&'t str>
     ensures cut { IfSome result (λ rest. chars text.now ≡ chars rest.now ++ chars back.now) }
     ensures none { IfNone result ((rest : List ℕ) → ¬ (chars text.now ≡ rest ++ chars back.now)) }
 {

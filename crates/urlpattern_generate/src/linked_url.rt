@@ -22,16 +22,16 @@ use urlpattern_components::{ComponentName, Eight};
 use urlpattern_init::url_text;
 use urlpattern_syntax::Error;
 
-/// Returns the URL with these texts, by parsing the joined texts.
+/// Returns the URL whose components have these texts, by parsing the joined texts.
 ///
-/// The error is that `url` rejects the joined texts, that the URL has other texts, or that memory
-/// ran out.
+/// The error is that `url` rejects the joined texts, that the URL has another text for a component,
+/// or that memory ran out.
 pub fn url_of_texts(alloc: Global, texts: &Eight<CowStr<'_>>) -> Result<Url, NoLink>
     ensures has { IfOk result (λ url. texts_of_url url ≡ cow_texts texts.now) }
     ensures read { IfOk result (IsReadOfTexts (cow_texts texts.now)) }
     ensures refused { IfErr result (RejectsTexts (cow_texts texts.now)) }
 {
-    let seen = seen(texts);
+    let seen = as_strs(texts);
     let line = url_line(alloc, &seen)?;
     let url = match read(alloc, &line) {
         Ok(url) => url,
@@ -43,8 +43,8 @@ pub fn url_of_texts(alloc: Global, texts: &Eight<CowStr<'_>>) -> Result<Url, NoL
     }
 }
 
-/// Borrows the texts.
-fn seen<'t>(texts: &'t Eight<CowStr<'_>>) -> Eight<&'t str>
+/// Borrows each of the texts.
+fn as_strs<'t>(texts: &'t Eight<CowStr<'_>>) -> Eight<&'t str>
     ensures { AreSeenAs texts.now result }
 {
     let text = |name: ComponentName| -> &str
@@ -53,7 +53,7 @@ fn seen<'t>(texts: &'t Eight<CowStr<'_>>) -> Eight<&'t str>
     Eight::from_fn(text)
 }
 
-/// Parses a URL.
+/// Parses the text of a URL.
 ///
 /// The error is that `url` rejects the text, or that memory ran out.
 fn read(alloc: Global, line: &str) -> Result<Url, NoLink>
@@ -67,7 +67,9 @@ fn read(alloc: Global, line: &str) -> Result<Url, NoLink>
     }
 }
 
-/// Returns the component at fault, if the URL has other texts. `None`: the URL has these texts.
+/// Returns the component at fault, if the URL has another text for some component: the pathname, if
+/// it differs and runs into the host, and otherwise the first that differs. `None`: the URL has all
+/// of the texts.
 fn other_text(url: &Url, texts: &Eight<&str>) -> Option<ComponentName>
     ensures same { IfNone result (texts_of_url url.now ≡ texts_seen texts.now) }
     ensures other { IfSome result (IsAtFault url.now (texts_seen texts.now)) }
@@ -83,7 +85,7 @@ fn other_text(url: &Url, texts: &Eight<&str>) -> Option<ComponentName>
     None
 }
 
-/// Whether the path runs into the host before it, and the URL has another path.
+/// Whether the URL has another path, and the path in `texts` runs into the host before it.
 fn is_path_at_fault(url: &Url, texts: &Eight<&str>) -> bool
     ensures at_fault { IsTrue result → IsAtFault url.now (texts_seen texts.now) Pathname }
     ensures other { result ≡ false
@@ -93,7 +95,8 @@ fn is_path_at_fault(url: &Url, texts: &Eight<&str>) -> bool
     runs_on(texts) && !has_text(url, texts, ComponentName::Pathname)
 }
 
-/// Whether the path runs into the host before it.
+/// Whether the path runs into the host before it: neither is empty, and the path begins without a
+/// slash.
 fn runs_on(texts: &Eight<&str>) -> bool
     ensures { result ≡ runs_on (texts_seen texts.now) }
 {
@@ -117,7 +120,7 @@ fn begins_without_slash(text: &str) -> bool
     }
 }
 
-/// Whether a URL has the text for a component.
+/// Whether a URL has, for the component `name`, the text in `texts`.
 #[inline(always)]
 fn has_text(url: &Url, texts: &Eight<&str>, name: ComponentName) -> bool
     ensures { IsTrue result ↔ (url_text name url.now ≡ at (texts_seen texts.now) name) }

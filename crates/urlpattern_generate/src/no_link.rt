@@ -26,14 +26,14 @@ pub enum NoLink {
     /// `url` rejects the joined texts of the components.
     Url(ParseError),
     /// The joined texts are a URL with another text for this component, as `https://example.com`
-    /// has the path `/`. The component is the pathname if that runs into the host before it, and
-    /// otherwise the first such component.
+    /// has the path `/`. If several components differ, among them a pathname that runs into the
+    /// host before it, the pathname is named; otherwise the first.
     OtherText(ComponentName),
     /// Memory ran out.
     OutOfMemory,
 }
 
-/// Prints the reason, in one line.
+/// Prints the reason in one line.
 impl fmt::Display for NoLink {
     ghost output = { no_link_text };
 

@@ -1,9 +1,9 @@
-//! Appends the text of a part whose group captures a given text.
+//! Appends the text of a part: a fixed text, or a group with a given capture.
 
 ghost use Rattle.std.specs.Prelude.{◌↔◌, ◌++◌, IfOk, IsTrue, OnOk};
 ghost use Rattle.std.specs.Str.{chars};
 ghost use Rattle.urlpattern_generate.specs.Links.{MayCapture, fewest_copies, text_of_group};
-ghost use Rattle.urlpattern_generate.specs.Texts.{GetsText, GetsTextIf};
+ghost use Rattle.urlpattern_generate.specs.Texts.{AppendsText, AppendsTextIf};
 ghost use Rattle.urlpattern_syntax.specs.Options.{options_view};
 ghost use Rattle.urlpattern_syntax.specs.Parts.{part_view};
 ghost use Rattle.urlpattern_syntax.specs.Text.{option_text, text_of};
@@ -12,10 +12,11 @@ use crate::group_copies::{may_be_missing, may_capture};
 use std::alloc::AllocError;
 use urlpattern_syntax::parser::{Options, Part, PartModifier};
 
-/// Appends a fixed text, in as few copies as its modifier allows.
+/// Appends the text of a part that is a fixed text: once, or not at all if its modifier allows zero
+/// copies.
 pub fn push_fixed(text: &mut String, part: &Part) -> Result<(), AllocError>
     ensures { OnOk result
-        (GetsText text.old text.new (fewest_copies part.now.modifier (text_of part.now.value))) }
+        (AppendsText text.old text.new (fewest_copies part.now.modifier (text_of part.now.value))) }
 {
     match part.modifier {
         PartModifier::None | PartModifier::OneOrMore => {
@@ -26,8 +27,11 @@ pub fn push_fixed(text: &mut String, part: &Part) -> Result<(), AllocError>
     }
 }
 
-/// Appends the text of a group that captures `capture`, if it may, and returns whether it may.
-/// `None`: the group does not participate. A custom regular expression is not matched.
+/// Appends the text of a group with this capture, between its prefix and suffix, and returns
+/// whether the group may have the capture. `None`: the group does not participate, and nothing is
+/// appended. `false`: nothing is appended.
+///
+/// A custom regular expression is not matched, so its group may capture any text.
 pub fn push_group(
     text: &mut String,
     options: &Options,
@@ -38,7 +42,7 @@ pub fn push_group(
         IsTrue may
         ↔ MayCapture (options_view options.now) (part_view part.now) (option_text capture.entry)) }
     ensures written { IfOk result (λ may.
-        GetsTextIf may text.old text.new
+        AppendsTextIf may text.old text.new
         (text_of_group (part_view part.now) (option_text capture.entry))) }
 {
     let Some(capture) = capture else {
@@ -51,9 +55,9 @@ pub fn push_group(
     Ok(true)
 }
 
-/// Appends a text between the prefix and the suffix of a part.
+/// Appends a text, `between` the prefix and the suffix of a part.
 fn push_between(text: &mut String, part: &Part, between: &str) -> Result<(), AllocError>
-    ensures { OnOk result (GetsText text.old text.new
+    ensures { OnOk result (AppendsText text.old text.new
         (text_of part.now.prefix ++ chars between.now ++ text_of part.now.suffix)) }
 {
     text.push_str(&part.prefix)?;

@@ -1,4 +1,5 @@
-//! Writes the text of a component.
+//! What the text of a component is written from, and the canonical form of a value in the
+//! component.
 
 ghost use Rattle.std.specs.Prelude.{◌≡◌, IfOk, IsTrue, Ok, length};
 ghost use Rattle.std.specs.Str.{chars};
@@ -30,7 +31,8 @@ pub(crate) struct Substitution<'d> {
 }
 
 impl Substitution<'_> {
-    /// Whether a value is known to be canonical in the component.
+    /// Whether a value is known to be canonical in the component, without a call of `url`. `false`
+    /// decides nothing.
     pub(crate) fn keeps(&self, text: &str) -> bool
         ensures canonical { IsTrue result
             → (settings_of_writer self.now).canonical (chars text.now) ≡ Ok (chars text.now) }
@@ -44,7 +46,7 @@ impl Substitution<'_> {
         )
     }
 
-    /// Returns the canonical form of a value of the component, by `url`.
+    /// Returns the canonical form of a value in the component, by `url`.
     ///
     /// The error is that `url` rejects the value, or that memory ran out.
     #[inline(never)]
@@ -69,7 +71,8 @@ impl Substitution<'_> {
         }
     }
 
-    /// Whether a text is its own canonical form.
+    /// Whether a text is its own canonical form in the component. `false` if `url` rejects the
+    /// text.
     pub(crate) fn is_canonical(&self, text: &str) -> Result<bool, AllocError>
         ensures { IfOk result (λ is.
             DecidesCanonical is (settings_of_writer self.now).canonical text.now) }
@@ -84,14 +87,14 @@ impl Substitution<'_> {
         }
     }
 
-    /// Whether the delimiter of the component is a slash.
+    /// Whether the delimiter of the component is a slash, as in a path of segments.
     fn is_hierarchical(&self) -> bool
         ensures { result ≡ is_slash_delimiter (settings_of_writer self.now).options.delimiter }
     {
         self.kept.options.delimiter_code_point == Some('/')
     }
 
-    /// Whether the component is a hostname that is an IPv6 address.
+    /// Whether the component is a hostname, and its pattern begins as an IPv6 address does.
     fn is_ipv6_host(&self) -> bool
         ensures { result ≡ is_ipv6_host self.now.component (kept_parts self.now.kept.now) }
     {
@@ -107,7 +110,7 @@ impl Substitution<'_> {
         }
     }
 
-    /// Whether the first part begins with `[`.
+    /// Whether the first part begins with `[`, as an IPv6 address does.
     fn is_ipv6(&self) -> bool
         ensures { result ≡ begins_ipv6 (parts_view self.now.kept.now.parts.items) }
     {
@@ -115,7 +118,7 @@ impl Substitution<'_> {
     }
 }
 
-/// Whether the first part begins with `[`, as an IPv6 address does.
+/// Whether the first of the parts begins with `[`, as an IPv6 address does.
 fn begins_ipv6(parts: &[Part]) -> bool
     ensures { result ≡ begins_ipv6 (parts_view parts.now) }
 {

@@ -6,10 +6,10 @@ ghost use Rattle.urlpattern_generate.specs.UrlLines.{authority_line, bytes_of_ea
 use std::alloc::{AllocError, Global};
 use urlpattern_components::Eight;
 
-/// The initial capacity in bytes in addition to that of the path, enough for most URLs.
+/// The initial capacity in bytes in addition to the length of the path, enough for most URLs.
 const ROOM: usize = 64;
 
-/// Joins the texts as the text of a URL.
+/// Joins the texts of the components as the text of a URL.
 pub(crate) fn url_line(alloc: Global, texts: &Eight<&str>) -> Result<String, AllocError>
     ensures { IfOk result (λ line. string_bytes line ≡ url_line (bytes_of_each texts.now)) }
 {
@@ -23,7 +23,8 @@ pub(crate) fn url_line(alloc: Global, texts: &Eight<&str>) -> Result<String, All
     Ok(line)
 }
 
-/// Appends the two slashes, the user, the host and the port, if the URL has them.
+/// Appends the two slashes, the user name and password, the host and the port, if the URL has an
+/// authority.
 fn push_authority(line: &mut String, texts: &Eight<&str>) -> Result<(), AllocError>
     ensures { OnOk result (string_bytes line.new
         ≡ string_bytes line.old ++ authority_line (bytes_of_each texts.now)) }
@@ -37,15 +38,15 @@ fn push_authority(line: &mut String, texts: &Eight<&str>) -> Result<(), AllocErr
     push_marked(line, ":", texts.port)
 }
 
-/// Whether a URL has two slashes before its path: it has a host, or the path itself begins with two
-/// slashes.
+/// Whether two slashes are written before user name, host and port: if the host is not empty, or if
+/// the path begins with two slashes, which would be read as those before a host.
 fn has_authority(hostname: &str, pathname: &str) -> bool
     ensures { result ≡ has_authority hostname.now pathname.now }
 {
     !hostname.is_empty() || matches!(pathname.as_bytes(), [b'/', b'/', ..])
 }
 
-/// Appends the user name and the password, unless both are empty.
+/// Appends the user name, the password and `@`, unless user name and password are empty.
 fn push_user(line: &mut String, username: &str, password: &str) -> Result<(), AllocError>
     ensures { OnOk result
         (string_bytes line.new ≡ string_bytes line.old ++ user_line username.now password.now) }
@@ -58,7 +59,7 @@ fn push_user(line: &mut String, username: &str, password: &str) -> Result<(), Al
     line.push_str("@")
 }
 
-/// Appends a text after its mark, unless the text is empty.
+/// Appends `mark` and the text, unless the text is empty.
 fn push_marked(line: &mut String, mark: &str, text: &str) -> Result<(), AllocError>
     ensures { OnOk result
         (string_bytes line.new ≡ string_bytes line.old ++ marked mark.now text.now) }

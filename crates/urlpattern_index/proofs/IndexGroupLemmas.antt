@@ -7,7 +7,7 @@ use Rattle.std.specs.Prelude.{Contains, IsTrue, OnErr, Some, Result, Ok, Err, Ve
 use Rattle.urlpattern_index.specs.FixedTexts.{AddressTexts, FixedTexts, HasTexts}
 use Rattle.urlpattern_index.specs.Keys.{HasSegmentCount, Fits, FormView, form_key, form_view, forms_for, group, group_of_form, hashes_of}
 use Rattle.urlpattern_index.specs.declared.form.Form.{Form}
-use Rattle.urlpattern_index.specs.Listed.{GetsPattern, Listing}
+use Rattle.urlpattern_index.specs.Listed.{AppendsPattern, Listing}
 
 -- ---- groups of forms
 
@@ -116,7 +116,7 @@ has-form forms form false has = Contains-push forms form
 
 module _ (form : FormView) (key : ℕ) (more : List FormView) (fixed : FixedTexts) (placed : (address : AddressTexts) → HasTexts fixed address → Fits form (hashes_of address) × (key ≡ form_key form (hashes_of address))) where
   appends-plain : (keys : List ℕ) (forms : List (List FormView)) → group_of_form form < length forms → Contains (group forms (group_of_form form) ++ more) form
-      → GetsPattern (record { keys = keys; forms = forms }) (record { keys = keys ++ key ∷ []; forms = grown forms (group_of_form form) more }) fixed
+      → AppendsPattern (record { keys = keys; forms = forms }) (record { keys = keys ++ key ∷ []; forms = grown forms (group_of_form form) more }) fixed
   appends-plain keys forms within has = record {
     one_more = length_push keys key;
     others = λ hashes number (other, is_form, fits, is). (
@@ -138,6 +138,6 @@ module _ (form : FormView) (key : ℕ) (more : List FormView) (fixed : FixedText
   pub appends : (old : Listing) (keys : List ℕ) (forms : List (List FormView)) → ◌≡◌ {A = Listing} (record { keys = keys; forms = forms }) old
       → group_of_form form < length forms → Contains (group forms (group_of_form form) ++ more) form
       → (new_keys : List ℕ) (new_forms : List (List FormView)) → new_keys ≡ keys ++ key ∷ [] → new_forms ≡ grown forms (group_of_form form) more
-      → GetsPattern old (record { keys = new_keys; forms = new_forms }) fixed
+      → AppendsPattern old (record { keys = new_keys; forms = new_forms }) fixed
   appends old keys forms view within has new_keys new_forms are_keys are_forms =
-      subst (λ (old : Listing). GetsPattern old (record { keys = new_keys; forms = new_forms }) fixed) view (rw (are_keys, are_forms) (appends-plain keys forms within has))
+      subst (λ (old : Listing). AppendsPattern old (record { keys = new_keys; forms = new_forms }) fixed) view (rw (are_keys, are_forms) (appends-plain keys forms within has))

@@ -86,8 +86,8 @@ part_fits options part text captures means = by part.modifier means.allowed
 
 means_fit : (options : OptionsView) (parts : List PartView) (text : List ℕ) (captures : Captures) → PartsMean options parts text captures → FitsParts true options.delimiter parts text
 means_fit options [] text captures means = λ whole. means.0
-means_fit options (part ∷ parts) text captures (first, rest, own, others, cut, joined, means, more) =
-    (first, rest, cut, part_fits options part first own means, means_fit options parts rest others more)
+means_fit options (part ∷ parts) text captures (first, rest, actual, others, cut, joined, means, more) =
+    (first, rest, cut, part_fits options part first actual means, means_fit options parts rest others more)
 
 -- ---- the text between prefix and suffix
 
@@ -184,12 +184,12 @@ module _ {E : Type 0} (engine : Engine E) (options : OptionsView) (parts : List 
             subst (engine.IsMade value (regexp_text options made.middle)) (ap (λ b. cond b (codes "ui") (codes "u")) kept) of in
             means_fit options made.middle inner matched.0
             (subst (Agrees options made.middle inner) answers
-            (agree options made.middle value (middle_plain parts made.front made.middle made.back made.are_peeled generated) by_u inner)))
+            (agree options made.middle value (middle_plain parts made.front made.middle made.back made.are_stripped generated) by_u inner)))
       ] in
       let whole = fits_append options.delimiter (option_to_list made.front ++ made.middle) (option_to_list made.back) (end_text made.front ++ inner) (end_text made.back)
-      (fits_append options.delimiter (option_to_list made.front) made.middle (end_text made.front) inner (end_fits options.delimiter made.front _ made.are_peeled.front_removed) fits)
-      (end_fits options.delimiter made.back _ made.are_peeled.back_removed) in
-      subst (λ ps. FitsParts true options.delimiter ps text) (sym made.are_peeled.cut)
+      (fits_append options.delimiter (option_to_list made.front) made.middle (end_text made.front) inner (end_fits options.delimiter made.front _ made.are_stripped.front_removed) fits)
+      (end_fits options.delimiter made.back _ made.are_stripped.back_removed) in
+      subst (λ ps. FitsParts true options.delimiter ps text) (sym made.are_stripped.cut)
       (subst (FitsParts true options.delimiter (option_to_list made.front ++ made.middle ++ option_to_list made.back)) (sym cut) whole)
 
   -- A matched text begins with the plain fixed text that the parts begin with.
@@ -197,7 +197,7 @@ module _ {E : Type 0} (engine : Engine E) (options : OptionsView) (parts : List 
   matched_begins first rest are plain =
       let (inner, cut, fits_or_asked) = between in
       let whole : text ≡ first.value ++ (inner ++ end_text made.back) =
-      cut ∙ append_assoc (end_text made.front) inner (end_text made.back) ∙ ap (λ t. t ++ (inner ++ end_text made.back)) (by made.front made.are_peeled.front_removed made.are_peeled.cut) in
+      cut ∙ append_assoc (end_text made.front) inner (end_text made.back) ∙ ap (λ t. t ++ (inner ++ end_text made.back)) (by made.front made.are_stripped.front_removed made.are_stripped.cut) in
       (first.value, inner ++ end_text made.back, whole, plain_fits options.delimiter first plain, λ never. absurd (true≢false (sym never)))
     where
       by : (front : Option PartView) → IsRemoved front (BeginsPlain parts) → parts ≡ option_to_list front ++ made.middle ++ option_to_list made.back → end_text front ≡ first.value
@@ -229,8 +229,8 @@ pub one_fits : (delimiter : Option ℕ) (parts : List Part) (part : Part) (text 
 one_fits delimiter [] part text some one is plain fits = absurd (omega arith)
 one_fits delimiter (first ∷ next ∷ parts) part text some one is plain fits = absurd (omega arith)
 one_fits delimiter (first ∷ []) part text some one is plain fits =
-    let (own, rest, cut, fits_own, none) = subst (λ (p : Part). FitsParts true delimiter (part_view p ∷ []) text) (sym is) fits in
-    cut ∙ ap (λ r. own ++ r) (none refl) ∙ append-nil own ∙ plain_alone delimiter (part_view part) own plain fits_own
+    let (actual, rest, cut, fits_own, none) = subst (λ (p : Part). FitsParts true delimiter (part_view p ∷ []) text) (sym is) fits in
+    cut ∙ ap (λ r. actual ++ r) (none refl) ∙ append-nil actual ∙ plain_alone delimiter (part_view part) actual plain fits_own
 
 pub not_true : (b : Bool) → IsTrue (not b) → b ≡ false
 not_true true never = absurd (cc)

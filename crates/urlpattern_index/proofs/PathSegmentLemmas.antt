@@ -59,22 +59,22 @@ hashes-end path read hashes hash all whole = ap (λ h. hashes ++ h) (sym (at_dro
 -- ---- mixing in segments
 
 -- Mixing in the next segment.
-pub mixed_segments-next : (hash : ℕ) (are_fixed : List Bool) (own : List ℕ) (i : ℕ) (b : Bool) (o : ℕ) → i < length are_fixed → i < length own → b ≡ get_or are_fixed i b → o ≡ get_or own i o
-    → mixed_segments hash (drop i are_fixed) (drop i own) ≡ mixed_segments (mixed hash (cond b o 1)) (drop (i + 1) are_fixed) (drop (i + 1) own)
-mixed_segments-next hash are_fixed own i b o within within_own is_b is_o =
-    ap (λ t. mixed_segments hash t (drop i own)) (at_drop_more (λ t. t) are_fixed i b within ∙ ap (λ x. x ∷ drop (i + 1) are_fixed) (sym is_b))
-    ∙ ap (mixed_segments hash (b ∷ drop (i + 1) are_fixed)) (at_drop_more (λ t. t) own i o within_own ∙ ap (λ x. x ∷ drop (i + 1) own) (sym is_o))
+pub mixed_segments-next : (hash : ℕ) (are_fixed : List Bool) (actual : List ℕ) (i : ℕ) (b : Bool) (o : ℕ) → i < length are_fixed → i < length actual → b ≡ get_or are_fixed i b → o ≡ get_or actual i o
+    → mixed_segments hash (drop i are_fixed) (drop i actual) ≡ mixed_segments (mixed hash (cond b o 1)) (drop (i + 1) are_fixed) (drop (i + 1) actual)
+mixed_segments-next hash are_fixed actual i b o within within_own is_b is_o =
+    ap (λ t. mixed_segments hash t (drop i actual)) (at_drop_more (λ t. t) are_fixed i b within ∙ ap (λ x. x ∷ drop (i + 1) are_fixed) (sym is_b))
+    ∙ ap (mixed_segments hash (b ∷ drop (i + 1) are_fixed)) (at_drop_more (λ t. t) actual i o within_own ∙ ap (λ x. x ∷ drop (i + 1) actual) (sym is_o))
 
 -- Only as many hashes are mixed in as there are segments.
-pub mixed_segments-take : (hash : ℕ) (are_fixed : List Bool) (own : List ℕ) (n : ℕ) → length are_fixed ≤ n → mixed_segments hash are_fixed (take n own) ≡ mixed_segments hash are_fixed own
-mixed_segments-take hash [] own n few = refl
-mixed_segments-take hash (b ∷ are_fixed) own zero few = absurd (omega arith)
+pub mixed_segments-take : (hash : ℕ) (are_fixed : List Bool) (actual : List ℕ) (n : ℕ) → length are_fixed ≤ n → mixed_segments hash are_fixed (take n actual) ≡ mixed_segments hash are_fixed actual
+mixed_segments-take hash [] actual n few = refl
+mixed_segments-take hash (b ∷ are_fixed) actual zero few = absurd (omega arith)
 mixed_segments-take hash (b ∷ are_fixed) [] (suc n) few = refl
-mixed_segments-take hash (b ∷ are_fixed) (o ∷ own) (suc n) few = mixed_segments-take (mixed hash (cond b o 1)) are_fixed own n (omega arith)
+mixed_segments-take hash (b ∷ are_fixed) (o ∷ actual) (suc n) few = mixed_segments-take (mixed hash (cond b o 1)) are_fixed actual n (omega arith)
 
-pub enough-take : (is_exact : Bool) (segments n : ℕ) (own : List ℕ) → segments < n → HasSegmentCount is_exact segments (length own) → HasSegmentCount is_exact segments (length (take n own))
-enough-take true segments n own few is = let count = length-take n own in omega (arith, count, is)
-enough-take false segments n own few is = let count = length-take n own in omega (arith, count, is)
+pub enough-take : (is_exact : Bool) (segments n : ℕ) (actual : List ℕ) → segments < n → HasSegmentCount is_exact segments (length actual) → HasSegmentCount is_exact segments (length (take n actual))
+enough-take true segments n actual few is = let count = length-take n actual in omega (arith, count, is)
+enough-take false segments n actual few is = let count = length-take n actual in omega (arith, count, is)
 
 -- Flags that a test finds equal are equal.
 pub same_flag : (a b : Bool) → not (beq a b) ≡ false → a ≡ b
@@ -89,62 +89,62 @@ pub hosts_alike : (fixed : Option (Bor (List ℕ))) (given : List ℕ) → IsTex
 hosts_alike (Some text) given is has hash is_has is_hash = rw (is_has, is_hash) (ap text_hash is)
 hosts_alike None given is has hash is_has is_hash = rw is_has refl
 
-pub keys_alike : (are_fixed : List Bool) (hashes own : List ℕ) → length are_fixed < 13 → HaveEqualKeys are_fixed hashes own
+pub keys_alike : (are_fixed : List Bool) (hashes actual : List ℕ) → length are_fixed < 13 → HaveEqualKeys are_fixed hashes actual
     → (p q r s : ℕ) → p ≡ q → r ≡ s → (is_exact : Bool)
-    → mixed (mixed_segments (mixed p r) are_fixed (take 13 own)) (cond is_exact 1 0) ≡ mixed (mixed_segments (mixed q s) are_fixed hashes) (cond is_exact 1 0)
-keys_alike are_fixed hashes own few alike p q r s same_p same_r is_exact =
+    → mixed (mixed_segments (mixed p r) are_fixed (take 13 actual)) (cond is_exact 1 0) ≡ mixed (mixed_segments (mixed q s) are_fixed hashes) (cond is_exact 1 0)
+keys_alike are_fixed hashes actual few alike p q r s same_p same_r is_exact =
     ap (λ h. mixed h (cond is_exact 1 0)) (
-    ap (λ h. mixed_segments h are_fixed (take 13 own)) (ap (λ x. mixed x r) same_p ∙ ap (mixed q) same_r)
-    ∙ mixed_segments-take (mixed q s) are_fixed own 13 (omega arith) ∙ alike (mixed q s))
+    ap (λ h. mixed_segments h are_fixed (take 13 actual)) (ap (λ x. mixed x r) same_p ∙ ap (mixed q) same_r)
+    ∙ mixed_segments-take (mixed q s) are_fixed actual 13 (omega arith) ∙ alike (mixed q s))
 
 -- ---- mixing in appended segments
 
-mixed_segments-append : (hash : ℕ) (are_fixed : List Bool) (own more : List ℕ) → length own ≡ length are_fixed → mixed_segments hash are_fixed (own ++ more) ≡ mixed_segments hash are_fixed own
-mixed_segments-append hash [] own more same = refl
+mixed_segments-append : (hash : ℕ) (are_fixed : List Bool) (actual more : List ℕ) → length actual ≡ length are_fixed → mixed_segments hash are_fixed (actual ++ more) ≡ mixed_segments hash are_fixed actual
+mixed_segments-append hash [] actual more same = refl
 mixed_segments-append hash (b ∷ are_fixed) [] more same = absurd (omega arith)
-mixed_segments-append hash (b ∷ are_fixed) (o ∷ own) more same = mixed_segments-append (mixed hash (cond b o 1)) are_fixed own more (omega arith)
+mixed_segments-append hash (b ∷ are_fixed) (o ∷ actual) more same = mixed_segments-append (mixed hash (cond b o 1)) are_fixed actual more (omega arith)
 
-mixed_segments-push : (hash : ℕ) (are_fixed : List Bool) (own : List ℕ) (b : Bool) (o : ℕ) → length own ≡ length are_fixed
-    → mixed_segments hash (are_fixed ++ b ∷ []) (own ++ o ∷ []) ≡ mixed (mixed_segments hash are_fixed own) (cond b o 1)
+mixed_segments-push : (hash : ℕ) (are_fixed : List Bool) (actual : List ℕ) (b : Bool) (o : ℕ) → length actual ≡ length are_fixed
+    → mixed_segments hash (are_fixed ++ b ∷ []) (actual ++ o ∷ []) ≡ mixed (mixed_segments hash are_fixed actual) (cond b o 1)
 mixed_segments-push hash [] [] b o same = refl
-mixed_segments-push hash [] (x ∷ own) b o same = absurd (omega arith)
+mixed_segments-push hash [] (x ∷ actual) b o same = absurd (omega arith)
 mixed_segments-push hash (t ∷ are_fixed) [] b o same = absurd (omega arith)
-mixed_segments-push hash (t ∷ are_fixed) (x ∷ own) b o same = mixed_segments-push (mixed hash (cond t x 1)) are_fixed own b o (omega arith)
+mixed_segments-push hash (t ∷ are_fixed) (x ∷ actual) b o same = mixed_segments-push (mixed hash (cond t x 1)) are_fixed actual b o (omega arith)
 
 -- ---- what was read of a path
 
 pub read_none : (segments : PathSegments) (path : List ℕ) → AreNone segments → IsReadTo segments path path
 read_none segments path none = record {
   done = [];
-  own = 0;
+  actual = 0;
   cut = refl;
   as_many = sym (ap length none.texts);
   alike = λ hash. rw none.texts refl;
   is_current = rw none.current refl;
 }
 
-same_current : (current : Option ℕ) (own hash : ℕ) → IsCurrent current own
-    → mixed hash (cond (is_some current) own 1) ≡ mixed hash (cond (is_some current) (unwrap_or current 0) 1)
-same_current (Some h) own hash is = ap (mixed hash) is
-same_current None own hash is = refl
+same_current : (current : Option ℕ) (actual hash : ℕ) → IsCurrent current actual
+    → mixed hash (cond (is_some current) actual 1) ≡ mixed hash (cond (is_some current) (unwrap_or current 0) 1)
+same_current (Some h) actual hash is = ap (mixed hash) is
+same_current None actual hash is = refl
 
 module _ (segments : PathSegments) (path : List ℕ) (as_many : length segments.hashes.items ≡ length segments.are_fixed.items) where
   -- Appending the segment that was read.
   alike-push : (rest : List ℕ) (is : IsReadTo segments path rest)
-      → HaveEqualKeys (segments.are_fixed.items ++ is_some segments.current ∷ []) (segments.hashes.items ++ unwrap_or segments.current 0 ∷ []) (is.done ++ is.own ∷ [])
+      → HaveEqualKeys (segments.are_fixed.items ++ is_some segments.current ∷ []) (segments.hashes.items ++ unwrap_or segments.current 0 ∷ []) (is.done ++ is.actual ∷ [])
   alike-push rest is = λ hash.
-      mixed_segments-push hash segments.are_fixed.items is.done (is_some segments.current) is.own is.as_many
-      ∙ ap (λ h. mixed h (cond (is_some segments.current) is.own 1)) (is.alike hash)
-      ∙ same_current segments.current is.own (mixed_segments hash segments.are_fixed.items segments.hashes.items) is.is_current
+      mixed_segments-push hash segments.are_fixed.items is.done (is_some segments.current) is.actual is.as_many
+      ∙ ap (λ h. mixed h (cond (is_some segments.current) is.actual 1)) (is.alike hash)
+      ∙ same_current segments.current is.actual (mixed_segments hash segments.are_fixed.items segments.hashes.items) is.is_current
       ∙ sym (mixed_segments-push hash segments.are_fixed.items segments.hashes.items (is_some segments.current) (unwrap_or segments.current 0) as_many)
 
   pub read_slash : (more : PathSegments) (c : ℕ) (rest : List ℕ) → AddsSegment segments more → c ≡ 47
       → IsReadTo segments path (c ∷ rest) → IsReadTo more path rest
   read_slash more c rest adds is_slash is = record {
-    done = is.done ++ is.own ∷ [];
-    own = 0;
-    cut = is.cut ∙ ap (λ h. is.done ++ h) (next_segment is.own c rest is_slash) ∙ sym (append_assoc is.done (is.own ∷ []) (segment_hashes 0 rest));
-    as_many = length_push is.done is.own ∙ ap (λ n. n + 1) is.as_many ∙ sym (length_push segments.are_fixed.items (is_some segments.current)) ∙ sym (ap length adds.texts);
+    done = is.done ++ is.actual ∷ [];
+    actual = 0;
+    cut = is.cut ∙ ap (λ h. is.done ++ h) (next_segment is.actual c rest is_slash) ∙ sym (append_assoc is.done (is.actual ∷ []) (segment_hashes 0 rest));
+    as_many = length_push is.done is.actual ∙ ap (λ n. n + 1) is.as_many ∙ sym (length_push segments.are_fixed.items (is_some segments.current)) ∙ sym (ap length adds.texts);
     alike = rw (adds.texts, adds.hashes) (alike-push (c ∷ rest) is);
     is_current = rw adds.current refl;
   }
@@ -153,22 +153,22 @@ module _ (segments : PathSegments) (path : List ℕ) (as_many : length segments.
   pub enough_at_stop : (rest : List ℕ) → IsReadTo segments path rest
       → HasSegmentCount false (length segments.are_fixed.items) (length (segment_hashes 0 path))
   enough_at_stop rest is =
-      let some = some_segment is.own rest in
-      let count : length (segment_hashes 0 path) ≡ length is.done + length (segment_hashes is.own rest) =
-      ap length is.cut ∙ length-append is.done (segment_hashes is.own rest) in
+      let some = some_segment is.actual rest in
+      let count : length (segment_hashes 0 path) ≡ length is.done + length (segment_hashes is.actual rest) =
+      ap length is.cut ∙ length-append is.done (segment_hashes is.actual rest) in
       omega (arith, is.as_many)
 
   pub alike_at_stop : (rest : List ℕ) → IsReadTo segments path rest
       → HaveEqualKeys segments.are_fixed.items segments.hashes.items (segment_hashes 0 path)
   alike_at_stop rest is = λ hash.
       ap (mixed_segments hash segments.are_fixed.items) is.cut
-      ∙ mixed_segments-append hash segments.are_fixed.items is.done (segment_hashes is.own rest) is.as_many ∙ is.alike hash
+      ∙ mixed_segments-append hash segments.are_fixed.items is.done (segment_hashes is.actual rest) is.as_many ∙ is.alike hash
 
   -- Where the path ends, it has exactly the segments that were read.
   pub enough_at_end : (more : PathSegments) → AddsSegment segments more → IsReadTo segments path []
       → HasSegmentCount true (length more.are_fixed.items) (length (segment_hashes 0 path))
   enough_at_end more adds is =
-      ap length is.cut ∙ length_push is.done is.own ∙ ap (λ n. n + 1) is.as_many
+      ap length is.cut ∙ length_push is.done is.actual ∙ ap (λ n. n + 1) is.as_many
       ∙ sym (length_push segments.are_fixed.items (is_some segments.current)) ∙ sym (ap length adds.texts)
 
   pub alike_at_end : (more : PathSegments) → AddsSegment segments more → IsReadTo segments path []
@@ -176,17 +176,17 @@ module _ (segments : PathSegments) (path : List ℕ) (as_many : length segments.
   alike_at_end more adds is = λ hash.
       ap (mixed_segments hash more.are_fixed.items) is.cut ∙ rw (adds.texts, adds.hashes) (alike-push [] is hash)
 
-goes_on : (current : Option ℕ) (own c : ℕ) → IsCurrent current own → IsCurrent (option_map (λ hash. mixed hash c) current) (mixed own c)
-goes_on (Some hash) own c is = ap (λ h. mixed h c) is
-goes_on None own c is = tt
+goes_on : (current : Option ℕ) (actual c : ℕ) → IsCurrent current actual → IsCurrent (option_map (λ hash. mixed hash c) current) (mixed actual c)
+goes_on (Some hash) actual c is = ap (λ h. mixed h c) is
+goes_on None actual c is = tt
 
 -- Reading a run without a slash.
 pub read_run : (segments : PathSegments) (path run rest : List ℕ) → IsTrue (lacks 47 run) → IsReadTo segments path (run ++ rest)
     → IsReadTo (record segments { current = None }) path rest
 read_run segments path run rest without is = record {
   done = is.done;
-  own = fold mixed is.own run;
-  cut = is.cut ∙ ap (λ h. is.done ++ h) (within_segment is.own run rest without);
+  actual = fold mixed is.actual run;
+  cut = is.cut ∙ ap (λ h. is.done ++ h) (within_segment is.actual run rest without);
   as_many = is.as_many;
   alike = is.alike;
   is_current = tt;
@@ -197,11 +197,11 @@ pub read_other : (segments : PathSegments) (path : List ℕ) (c : ℕ) (rest : L
     → IsReadTo (record segments { current = option_map (λ hash. mixed hash c) segments.current }) path rest
 read_other segments path c rest other is = record {
   done = is.done;
-  own = mixed is.own c;
-  cut = is.cut ∙ ap (λ h. is.done ++ h) (same_segment is.own c rest other);
+  actual = mixed is.actual c;
+  cut = is.cut ∙ ap (λ h. is.done ++ h) (same_segment is.actual c rest other);
   as_many = is.as_many;
   alike = is.alike;
-  is_current = goes_on segments.current is.own c is.is_current;
+  is_current = goes_on segments.current is.actual c is.is_current;
 }
 
 -- What is read to the end is read up to some rest.

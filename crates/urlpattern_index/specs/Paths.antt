@@ -4,8 +4,9 @@ use Rattle.urlpattern_syntax.specs.declared.parser.{PartModifier.PartModifier, P
 use Rattle.urlpattern_syntax.specs.Parts.{PartView}
 use Rattle.urlpattern_syntax.specs.Text.{lacks}
 
--- The text fits a part of this kind without a modifier: it is the fixed text; it is prefix, a run
--- without delimiter and suffix; or it begins with the prefix.
+-- `text` fits a part of this kind without a modifier: it is the fixed text; for a segment wildcard
+-- with a delimiter, the prefix, a run without the delimiter, and the suffix; for any other part, it
+-- begins with the prefix.
 abbrev pub FitsUnmodified : PartType → (delimiter : Option ℕ) → PartView → List ℕ → Type 0
 FitsUnmodified PartType.FixedText delimiter part text = text ≡ part.value
 FitsUnmodified PartType.SegmentWildcard (Some end) part text =
@@ -21,14 +22,15 @@ FitsModified modifier delimiter part text = Unit {0}
 abbrev pub FitsPart : (delimiter : Option ℕ) → PartView → List ℕ → Type 0
 FitsPart delimiter part text = FitsModified part.modifier delimiter part text
 
--- What is known of a pathname: parts, the character that ends a segment, and whether nothing
--- follows the parts.
+-- What is known of a pathname: parts, the character that a segment wildcard does not match, if
+-- there is one, and whether nothing follows the parts.
 pub record PathView : Type 0 where
   pub parts : List PartView
   pub delimiter : Option ℕ
   pub is_exact : Bool
 
--- The text is made up of texts that fit the parts, and of more unless the path is whole.
+-- `text` is a concatenation of texts that fit the parts, one text for each part, and of any text
+-- after them unless `is_exact`.
 abbrev pub FitsParts : (is_exact : Bool) → (delimiter : Option ℕ) → List PartView → List ℕ
     → Type 0
 FitsParts is_exact delimiter [] text = IsTrue is_exact → text ≡ []

@@ -42,7 +42,8 @@ impl AddressHashes {
     }
 }
 
-/// Appends the hashes of a path's first segments to an empty list.
+/// Appends the hashes of the first 13 segments of a path, or of all if there are fewer, to an empty
+/// list.
 fn push_segments(hashes: &mut ArrayVec<u64, SEGMENTS>, path: &str)
     requires { hashes.old.items ≡ [] }
     ensures { hashes.new.items ≡ take 13 (segment_hashes 0 (chars path.now)) }

@@ -3,7 +3,7 @@ ghost use Rattle.urlpattern_index.specs.FixedTexts.{AddressTexts, HasTexts, fixe
 
 use urlpattern_syntax::parser::Part;
 
-/// The fixed texts of the inputs that a pattern matches.
+/// What is known of each input that a pattern matches: its fixed texts.
 #[derive(Debug, Clone, Copy, Drop)]
 pub struct Fixed<'a> {
     /// The protocol. `None`: any protocol.
@@ -15,7 +15,8 @@ pub struct Fixed<'a> {
 }
 
 impl Fixed<'_> {
-    /// Fixes nothing.
+    /// Creates fixed texts that every input has: no text is fixed, and nothing is known of the
+    /// pathname.
     pub fn nothing() -> Self
         ensures { (address : AddressTexts) → HasTexts (fixed_texts result) address }
     {
@@ -31,12 +32,13 @@ impl Fixed<'_> {
     }
 }
 
-/// The parts of a pathname, or of its beginning.
+/// What is known of a pathname: the parts of all of it or of its beginning.
 #[derive(Debug, Clone, Copy, Drop)]
 pub struct KnownPath<'a> {
     /// The parts.
     pub parts: &'a [Part],
-    /// The character that ends a segment.
+    /// The character that a segment wildcard does not match. `None`: the wildcard may match any
+    /// text.
     pub delimiter: Option<char>,
     /// Whether nothing follows the parts; otherwise any text may follow.
     pub is_exact: bool,

@@ -1,9 +1,9 @@
-//! Forms of keys.
+//! Forms of keys: which texts of an address have a part in a key.
 ghost use Rattle.arrayvec.specs.ArrayVec.{array_vec_len};
 ghost use Rattle.std.specs.Prelude.{◌≡◌, ◌≤◌, ◌<◌, ◌↔◌, IsTrue, IfNone, IfSome, chars, option_map, length, if◌then◌else◌};
 ghost use Rattle.urlpattern_index.specs.FixedTexts.{fixed_texts, FixedTexts};
 ghost use Rattle.urlpattern_index.specs.Keys.{HasSegmentCount, Fits, IsKeyBy, form_key, form_view, group_of_form, hashes_view, option_hash};
-ghost use Rattle.urlpattern_index.specs.Segments.{IsPlaceFor};
+ghost use Rattle.urlpattern_index.specs.Segments.{IsFormKeyFor};
 
 use crate::address::AddressHashes;
 use crate::fixed::Fixed;
@@ -18,10 +18,10 @@ pub(crate) const DEPTH: usize = 12;
 /// paths with more segments than the form.
 pub(crate) const GROUPS: usize = 13;
 
-/// The part in a key of an arbitrary segment.
+/// The number that has a part in a key for an arbitrary segment, in place of a hash.
 const ANY: u64 = 1;
 
-/// Which texts of an address have a part in a key.
+/// The form of a key: which texts of an address have a part in the key.
 #[derive(Debug, Drop)]
 pub(crate) struct Form {
     /// Whether the protocol has a part.
@@ -42,7 +42,8 @@ pub(crate) struct FormKey {
 }
 
 impl Form {
-    /// The key of an address. `None`: its path has too few or too many segments.
+    /// Returns the key of an address in this form. `None`: the path of the address has fewer or
+    /// more segments than the form requires.
     pub(crate) fn key(&self, hashes: &AddressHashes) -> Option<u64>
         ensures some { IfSome result (IsKeyBy (form_view self.now) (hashes_view hashes.now)) }
         ensures none { IfNone result (¬ Fits (form_view self.now) (hashes_view hashes.now)) }
@@ -54,7 +55,8 @@ impl Form {
         }
     }
 
-    /// Whether a path with `count` segments has as many as the form requires.
+    /// Whether a path with `count` segments fits the form: with as many segments as the form if the
+    /// form is exact, and with more otherwise.
     fn fits(&self, count: usize) -> bool
         ensures { IsTrue result
             ↔ HasSegmentCount self.now.is_exact (array_vec_len self.now.segments) count }
@@ -66,7 +68,8 @@ impl Form {
         }
     }
 
-    /// The group of the form: for whole paths that of their number of segments, else the first.
+    /// Returns the number of the form's group: its number of segments if the form is exact, and 0
+    /// otherwise.
     pub(crate) fn group(&self) -> usize
         ensures group { result ≡ group_of_form (form_view self.now) }
         ensures bound { result < 13 }
@@ -78,7 +81,8 @@ impl Form {
         }
     }
 
-    /// The key of hashes that fit the form.
+    /// Returns the key in this form of an address with these hashes, which has at least as many
+    /// segments as the form.
     fn key_of(&self, hashes: &AddressHashes) -> u64
         requires { length self.now.segments.items ≤ length hashes.now.segments.items }
         ensures { result ≡ form_key (form_view self.now) (hashes_view hashes.now) }
@@ -86,10 +90,10 @@ impl Form {
         let protocol = part(self.uses_protocol, hashes.protocol, 0);
         let hostname = part(self.uses_hostname, hashes.hostname, 0);
         let segments = self.segments.as_slice();
-        let own = hashes.segments.as_slice();
+        let actual = hashes.segments.as_slice();
         let mut key = mixed(protocol, hostname);
         for index in 0..segments.len() {
-            key = mixed(key, part(segments[index], own[index], ANY));
+            key = mixed(key, part(segments[index], actual[index], ANY));
         }
         mixed(key, u64::from(self.is_exact))
     }
@@ -112,9 +116,9 @@ impl Form {
 }
 
 impl FormKey {
-    /// The place of a pattern, by all of its fixed texts.
+    /// Returns where a pattern is listed by all of its fixed texts.
     pub(crate) fn of(fixed: Fixed<'_>) -> FormKey
-        ensures { IsPlaceFor (fixed_texts fixed.entry) result }
+        ensures { IsFormKeyFor (fixed_texts fixed.entry) result }
     {
         let segments = read_segments(fixed.pathname);
         let hashes = AddressHashes {
@@ -132,9 +136,10 @@ impl FormKey {
         FormKey { form, key }
     }
 
-    /// The place of a pattern of which nothing is known.
+    /// Returns where a pattern is listed of which nothing is known: under a key that every address
+    /// has.
     pub(crate) fn of_any() -> FormKey
-        ensures { (fixed : FixedTexts) → IsPlaceFor fixed result }
+        ensures { (fixed : FixedTexts) → IsFormKeyFor fixed result }
     {
         let form = Form {
             uses_protocol: false,
@@ -152,14 +157,15 @@ impl FormKey {
     }
 }
 
-/// The hash of a text that has a part in a key, or else `other`.
+/// Returns what is mixed into a key for a text: its `hash` if `has_part` says that the text has a
+/// part in the key, else `other`.
 fn part(has_part: bool, hash: u64, other: u64) -> u64
     ensures { result ≡ (if has_part then hash else other) }
 {
     if has_part { hash } else { other }
 }
 
-/// The hash of a text; 0 if there is none.
+/// Returns the hash of a text; 0 for `None`.
 fn option_hash(text: Option<&str>) -> u64
     ensures { result ≡ option_hash (option_map (λ text. chars text.now) text.entry) }
 {

@@ -4,8 +4,8 @@ ghost use Rattle.std.specs.List.{remove};
 ghost use Rattle.std.specs.Prelude.{◌≡◌, ◌≤◌, ◌<◌, ◌++◌, ◌∷◌, [], if◌then◌else◌, Some, length, map, replicate, vec_capacity, vec_len, IsTrue, Contains, OnErr, OnOk};
 ghost use Rattle.urlpattern_index.specs.FixedTexts.{fixed_texts};
 ghost use Rattle.urlpattern_index.specs.Keys.{form_view, group, group_of_form, hashes_view};
-ghost use Rattle.urlpattern_index.specs.Listed.{Finds, FindsByFrom, FindsFrom, GetsPattern, IsFirstFrom, IsLeast, lesser};
-ghost use Rattle.urlpattern_index.specs.Segments.{IsPlaceFor};
+ghost use Rattle.urlpattern_index.specs.Listed.{AppendsPattern, Finds, FindsByFrom, FindsFrom, IsFirstFrom, IsLeast, lesser};
+ghost use Rattle.urlpattern_index.specs.Segments.{IsFormKeyFor};
 
 use crate::address::AddressHashes;
 use crate::fixed::Fixed;
@@ -17,9 +17,9 @@ use std::marker::Model;
 
 /// The maximum number of forms in a group, apart from the form of patterns of which nothing is
 /// known.
-const FORMS: usize = 32;
+const MOST_FORMS: usize = 32;
 
-/// The keys of patterns. Each pattern has a number, from 0 on.
+/// An index of patterns by their keys. Each pattern has a number, from 0 on.
 #[derive(Debug, Drop)]
 pub struct Index {
     /// The key of each pattern.
@@ -61,14 +61,15 @@ impl Index {
         }
     }
 
-    /// Appends a pattern, by its fixed texts. The pattern gets the next number.
+    /// Appends a pattern with these fixed texts. The pattern gets the next number.
     ///
     /// If memory runs out, the index is unchanged.
     pub fn push(&mut self, fixed: Fixed<'_>) -> Result<(), AllocError>
-        ensures appended { OnOk result (GetsPattern self.old self.new (fixed_texts fixed.entry)) }
+        ensures appended { OnOk result
+            (AppendsPattern self.old self.new (fixed_texts fixed.entry)) }
         ensures unchanged { OnErr result (self.new ≡ self.old) }
     {
-        let FormKey { form, key } = self.place_for(fixed);
+        let FormKey { form, key } = self.form_key_for(fixed);
         let is_new = !self.has_form(&form);
         let group = form.group();
         let number = self.keys.len();
@@ -91,10 +92,11 @@ impl Index {
         self.keys.remove(number);
     }
 
-    /// Returns the least number, at or above `from`, of a pattern whose fixed texts an address has.
-    /// Some other patterns may be found.
+    /// Returns the least number, at or above `from`, of a pattern that has one of the keys of an
+    /// address with these hashes. `None`: no pattern from there on has one.
     ///
-    /// Does not allocate.
+    /// Each pattern whose fixed texts the address has also has one of its keys. Since keys are
+    /// hashes, other patterns may have one too. Does not allocate.
     pub fn first_from(&self, hashes: &AddressHashes, from: usize) -> Option<usize>
         ensures { IsLeast
             (λ number. (from ≤ number) × Finds self.now (hashes_view hashes.now) number) result }
@@ -104,7 +106,8 @@ impl Index {
         lesser(least, self.first_by_forms(whole, hashes, from))
     }
 
-    /// Returns the least number, at or above `from`, of a pattern found by one of the forms.
+    /// Returns the least number, at or above `from`, of a pattern that has the address's key in one
+    /// of the forms. `None`: no pattern from there on has one.
     fn first_by_forms(&self, forms: &[Form], hashes: &AddressHashes, from: usize) -> Option<usize>
         ensures { IsLeast (FindsByFrom (map (λ form. form_view form) forms.now) self.now.keys
             (hashes_view hashes.now) from) result }
@@ -116,7 +119,8 @@ impl Index {
         least
     }
 
-    /// Returns the least number, at or above `from`, of a pattern found by the form.
+    /// Returns the least number, at or above `from`, of a pattern that has the address's key in the
+    /// form. `None`: no pattern from there on has it, or the address does not fit the form.
     fn first_by(&self, form: &Form, hashes: &AddressHashes, from: usize) -> Option<usize>
         ensures { IsLeast
             (FindsFrom (form_view form.now) self.now.keys (hashes_view hashes.now) from) result }
@@ -125,7 +129,7 @@ impl Index {
         first_from(self.numbers.get(key), from)
     }
 
-    /// The forms of a group, none if there is no such group.
+    /// Returns the forms of the group with this number; empty if there is no such group.
     fn forms_of(&self, number: usize) -> &[Form]
         ensures { map (λ form. form_view form) result.now ≡ group self.now.forms number }
     {
@@ -135,20 +139,20 @@ impl Index {
         }
     }
 
-    /// Where to list a pattern: by its fixed texts, or, if their group has too many forms already,
-    /// as a pattern of which nothing is known.
-    fn place_for(&self, fixed: Fixed<'_>) -> FormKey
-        ensures { IsPlaceFor (fixed_texts fixed.entry) result }
+    /// Returns where to list a pattern: by its fixed texts, or, if their form is new and its group
+    /// is full, as a pattern of which nothing is known.
+    fn form_key_for(&self, fixed: Fixed<'_>) -> FormKey
+        ensures { IsFormKeyFor (fixed_texts fixed.entry) result }
     {
         let place = FormKey::of(fixed);
-        if self.forms[place.form.group()].len() < FORMS || self.has_form(&place.form) {
+        if self.forms[place.form.group()].len() < MOST_FORMS || self.has_form(&place.form) {
             place
         } else {
             FormKey::of_any()
         }
     }
 
-    /// Whether the index has the form.
+    /// Whether the form is among the forms of the index.
     fn has_form(&self, form: &Form) -> bool
         ensures { IsTrue result
             → Contains (group self.now.forms (group_of_form (form_view form.now)))
@@ -163,7 +167,8 @@ impl Index {
     }
 }
 
-/// Appends a form if it is new. The list has room for it.
+/// Appends `form` to the forms of its group, if `is_new` says that the index lacks the form. The
+/// list has room for it.
 fn add_form(forms: &mut Vec<Form>, form: Form, is_new: bool)
     requires { vec_len forms.old < vec_capacity forms.old }
     ensures { forms.new.items ≡ forms.old.items ++ (if is_new then form ∷ [] else []) }
@@ -177,7 +182,7 @@ fn add_form(forms: &mut Vec<Form>, form: Form, is_new: bool)
     }
 }
 
-/// The first number of an ascending list that is at or above `from`.
+/// Returns the first number of an ascending list that is at or above `from`. `None`: each is below.
 fn first_from(list: &[usize], from: usize) -> Option<usize>
     requires { IsNonDecreasing list.now }
     ensures { IsFirstFrom from list.now result }
@@ -186,7 +191,7 @@ fn first_from(list: &[usize], from: usize) -> Option<usize>
     list.get(first).copied()
 }
 
-/// The lesser of two optional numbers.
+/// Returns the lesser of two optional numbers, where `None` counts as larger than any number.
 fn lesser(a: Option<usize>, b: Option<usize>) -> Option<usize>
     ensures { result ≡ lesser a b }
 {

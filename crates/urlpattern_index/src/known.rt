@@ -14,7 +14,8 @@ use urlpattern_matcher::regexp::RegExp;
 use urlpattern_syntax::ComponentParts;
 use urlpattern_syntax::parser::Part;
 
-/// The only text that a component matches, by its parts. `None`: the component may match others.
+/// Returns the only text that a component can match, by the parts in `kept`, of which it is made.
+/// `None`: no such text is known.
 pub fn fixed_text<'a, R: RegExp>(
     kept: &'a ComponentParts,
     component: &Component<R>,
@@ -32,7 +33,8 @@ pub fn fixed_text<'a, R: RegExp>(
     }
 }
 
-/// What is known of the paths that a component matches, by its parts.
+/// Returns what is known of each path that a component matches, by `kept`, the parts of which it is
+/// made: all parts, or else a fixed text with which the path begins, or nothing.
 pub fn known_path<'a, R: RegExp>(
     kept: &'a ComponentParts,
     component: &Component<R>,
@@ -55,7 +57,8 @@ pub fn known_path<'a, R: RegExp>(
     }
 }
 
-/// Whether each text that a component matches is known to fit its parts.
+/// Whether each text that a component matches is known to fit the parts in `kept`, of which it is
+/// made.
 fn matches_parts<R: RegExp>(kept: &ComponentParts, component: &Component<R>) -> bool
     requires { IsOfParts R.RegExp kept.now component.now }
     ensures { IsTrue result → MatchesOnly R.answer component.now (FitsKept kept.now) }
@@ -69,8 +72,8 @@ fn matches_parts<R: RegExp>(kept: &ComponentParts, component: &Component<R>) -> 
     }
 }
 
-/// The plain fixed text that the parts begin with, if there is one and case is kept; otherwise none
-/// of the parts.
+/// Returns the first part alone, if it is a fixed text without modifier and case is not ignored;
+/// otherwise no parts.
 fn first_text(kept: &ComponentParts) -> &[Part]
     ensures { IsFirstText (kept_options kept.now) (kept_parts kept.now) (parts_view result.now) }
 {

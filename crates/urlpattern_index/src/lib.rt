@@ -3,9 +3,9 @@
 //!
 //! Each pattern has a number, and is listed under a key: a hash of the protocol and the hostname,
 //! where they are fixed, and of the first segments of the pathname, each of which is fixed or
-//! arbitrary. An input is looked up by one key for each [`Form`](form::Form) that a path with its
-//! number of segments can have. Hashes are compared, so a lookup may find other patterns too, but
-//! it misses none.
+//! arbitrary. An input is looked up by one key for each [`Form`](form::Form) of the index that a
+//! path with its number of segments can have. Hashes are compared, so a lookup may find other
+//! patterns too, but it misses none.
 #![tactic(auto)]
 
 mod address;

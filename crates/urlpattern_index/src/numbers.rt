@@ -5,10 +5,10 @@ ghost use Rattle.urlpattern_index.specs.Listed.{AreMarked, HaveSameNumbers, Gain
 use std::alloc::{AllocError, Global};
 use std::collections::HashMap;
 
-/// The number of marks.
+/// The number of marks: keys are marked by their remainders modulo this number.
 const MARKS: u64 = 1024;
 
-/// The numbers of the patterns with a key, in ascending order.
+/// For each key, the numbers of the patterns that have it, in ascending order.
 ///
 /// Marks rule out most keys without numbers, without a lookup in the map.
 #[derive(Debug, Drop)]
@@ -30,7 +30,7 @@ impl Numbers {
         }
     }
 
-    /// Appends a number to those of a key.
+    /// Appends a number to the numbers of a key.
     ///
     /// If memory runs out, the numbers are unchanged.
     pub(crate) fn push(&mut self, key: u64, number: usize) -> Result<(), AllocError>
@@ -44,7 +44,7 @@ impl Numbers {
         Ok(())
     }
 
-    /// The numbers of a key.
+    /// Returns the numbers of a key; empty if the key has no numbers.
     pub(crate) fn get(&self, key: u64) -> &[usize]
         ensures { result.now ≡ numbers_at self.now.by_key key }
     {
@@ -57,8 +57,8 @@ impl Numbers {
         }
     }
 
-    /// Removes a number from those of each key, and lowers each number above it by one. Does not
-    /// allocate.
+    /// Removes a number from the numbers of each key, and lowers each larger number by one. Does
+    /// not allocate.
     pub(crate) fn remove(&mut self, number: usize)
         ensures { LosesNumber (numbers_at self.old.by_key) (numbers_at self.new.by_key) number }
     {
@@ -69,7 +69,7 @@ impl Numbers {
     }
 }
 
-/// Removes a number from a list, and lowers each number above it by one.
+/// Removes a number from a list, and lowers each larger number by one.
 fn take_out(list: &mut Vec<usize>, number: usize)
     ensures { list.new.items ≡ without number list.old.items }
 {
@@ -79,7 +79,7 @@ fn take_out(list: &mut Vec<usize>, number: usize)
     }
 }
 
-/// Lowers `other` by one if it is above the number.
+/// Returns `other`, lowered by one if it is larger than `number`.
 fn lowered(number: usize, other: usize) -> usize
     ensures { result ≡ lowered number other }
 {

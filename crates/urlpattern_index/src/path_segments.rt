@@ -14,7 +14,7 @@ use crate::hashes::mixed;
 use arrayvec::ArrayVec;
 use urlpattern_syntax::parser::{Part, PartModifier, PartType};
 
-/// The first segments of a path.
+/// The first segments of a path, read from its parts.
 #[derive(Drop)]
 pub(crate) struct PathSegments {
     /// For each segment, whether it has a fixed text; otherwise it is arbitrary.
@@ -40,7 +40,8 @@ impl PathSegments {
         }
     }
 
-    /// Ends the segment being read. Returns whether there was room for it.
+    /// Adds the segment being read to the list, and begins an empty one. Returns whether there was
+    /// room; if not, nothing changes.
     fn push(&mut self) -> bool
         requires { AreOpen self.old }
         ensures added { IsTrue result → AddsSegment self.old self.new }
@@ -55,8 +56,8 @@ impl PathSegments {
         true
     }
 
-    /// Reads a text. Returns whether it was read to its end, since there may be no room for its
-    /// segments.
+    /// Reads a fixed text, in which `/` ends a segment. Returns whether the text was read to its
+    /// end; `false` if there is no room for a segment.
     fn read_text(&mut self, text: &str) -> bool
         requires { AreOpen self.old }
         ensures open { AreOpen self.new }
@@ -75,7 +76,9 @@ impl PathSegments {
         true
     }
 
-    /// Reads a part. Returns whether it was read to its end, since the end may be unknown.
+    /// Reads a part of a path, where a segment wildcard matches no `delimiter`. Returns whether the
+    /// part was read to its end; `false` if the number of segments that it spans is unknown, or if
+    /// there is no room for a segment.
     fn read_part(&mut self, part: &Part, delimiter: Option<char>) -> bool
         requires { AreOpen self.old }
         ensures open { AreOpen self.new }
@@ -99,7 +102,8 @@ impl PathSegments {
     }
 }
 
-/// Reads the first segments of a path, up to the first whose end is unknown.
+/// Reads the first segments of a path from its parts, at most 12, up to the first segment whose end
+/// is unknown.
 pub(crate) fn read_segments(path: KnownPath<'_>) -> PathSegments
     ensures { AreSegmentsOf (path_view path.entry) result }
 {
@@ -115,7 +119,7 @@ pub(crate) fn read_segments(path: KnownPath<'_>) -> PathSegments
     segments
 }
 
-/// Mixes another character into the hash of a segment, if the segment has a fixed text.
+/// Mixes a character into the hash of a segment. `None`: the segment is arbitrary, and stays so.
 fn mixed_in(hash: Option<u64>, c: char) -> Option<u64>
     ensures { result ≡ option_map (λ hash. mixed hash c) hash }
 {

@@ -5,7 +5,7 @@ use Rattle.std.specs.Prelude.{codes, IsSomeAnd, IsTrue}
 use Rattle.urlpattern_init.specs.ConstructorString.{SplitsAs}
 use Rattle.urlpattern_constructor.specs.Split.{AuthorityFrom, EndsAt, HashAt, HashFrom, HostnameFrom, IsAbsoluteSplit, IsRelativeSplit, PathnameAt, PathnameFrom, PortAt, SearchAt, SearchFrom, IsComponentBetween, UserinfoFrom, depth_before, ends_at, has_slashes, implied_pathname, is_at_sign, is_balanced, is_colon_sign, is_hash_sign, is_search_prefix, is_slash_sign, may_end}
 use Rattle.urlpattern_constructor.proofs.ClosedTokens.{IsClosed}
-use Rattle.urlpattern_constructor.specs.Splitting.{may_follow}
+use Rattle.urlpattern_constructor.specs.Splitting.{may_end_before}
 use Rattle.urlpattern_constructor.specs.declared.sections.Section.{Section}
 use Rattle.urlpattern_constructor.specs.declared.sections.Section.TheVariants.{Authority, Hash, Hostname, Pathname, Port, Protocol, Search, Username}
 use Rattle.urlpattern_constructor.proofs.SplitLemmas.{may_end_parts, port_sign, sign_goes_on, stops_cases, username_before}
@@ -123,7 +123,7 @@ module _ (text : List ℕ) (tokens : List TokenView) (are_tokens : AreLenientTok
       ]) in
       (t.0, h.0, λ c. (ends.0, ends.1, t.1, h.1 (record c { search = t.0 })))
 
-  search_at : (place : ℕ) → place < length tokens → IsTrue (may_follow Pathname tokens place) → SearchFor (SearchAt text tokens place)
+  search_at : (place : ℕ) → place < length tokens → IsTrue (may_end_before Pathname tokens place) → SearchFor (SearchAt text tokens place)
   search_at place within some = elim (or_cases (is_search_prefix tokens place || is_hash_sign tokens place) (ends_at tokens place) some) [
     | inl signs ↦ elim (or_cases (is_search_prefix tokens place) (is_hash_sign tokens place) signs) [
       | inl sign ↦

@@ -10,29 +10,31 @@ use Rattle.urlpattern_components.specs.Eight.{Values}
 use Rattle.urlpattern_syntax.specs.Errors.{ErrorView}
 use Rattle.urlpattern_syntax.specs.Tokens.{AreLenientTokens, TokenView}
 
--- The text is split into these components, by its lenient tokens.
+-- `text` is split into `components` by its lenient tokens. `IsSpecial` relates the text of a
+-- protocol to whether it is special.
 abbrev pub SplitsInto : (IsSpecial : List ℕ → Bool → Type 0) → (text : List ℕ) → Values → Type 0
 SplitsInto IsSpecial text components =
     (tokens : List TokenView) × AreLenientTokens text tokens
     × IsSplit IsSpecial text tokens components
 
--- A source's text is split into the components of a `Split`, by the tokens of the source.
+-- The text of `source` is split into the components of `split` by the tokens of `source`.
+-- `IsSpecial` relates the text of a protocol to whether it is special.
 abbrev pub IsSplitOf : (IsSpecial : List ℕ → Bool → Type 0) → Source → Split → Type 0
 IsSplitOf IsSpecial source split =
     IsSplit IsSpecial (text_of_source source) (tokens_of source) (split_values split)
 
--- The text is split into these components if its protocol, where it has one, is special or not as
--- given.
+-- `text` is split into `components` if its protocol, where it has one, counts as special exactly if
+-- `special` is true.
 abbrev pub SplitsAs : (text : List ℕ) → (special : Bool) → Values → Type 0
 SplitsAs text special components = SplitsInto (λ protocol answer. answer ≡ special) text components
 
--- The turns are at most two for each lenient token of the text.
+-- `turns`, the number of looks at a token, is at most twice the number of lenient tokens of `text`.
 abbrev pub AreFewTurns : (text : List ℕ) → (turns : ℕ) → Type 0
 AreFewTurns text turns =
     (tokens : List TokenView) × AreLenientTokens text tokens × (turns ≤ 2 * length tokens)
 
--- The text is rejected with this error: that of its protocol, or `BaseUrlRequired` if it has
--- neither a protocol nor a base URL.
+-- The constructor string `text` is rejected with `error`: with the error of its protocol's pattern,
+-- or with `BaseUrlRequired` if it has no protocol and `base_url` is None.
 abbrev pub RejectsString : (text : List ℕ) → (base_url : Option Url) → ErrorView → Type 0
 RejectsString text base_url error =
     HasProtocol text (λ protocol. RejectsProtocol protocol error)
@@ -44,9 +46,10 @@ HasProtocolOrBase init = ¬ ((init.protocol ≡ None) × (init.base_url ≡ None
 
 -- ---- uniqueness of splits
 
--- A text has at most one split, unless its protocol is both special and not by `IsSpecial`.
-abbrev pub SplitsAreOneOrInDoubt : (IsSpecial : List ℕ → Bool → Type 0) → Type 0
-SplitsAreOneOrInDoubt IsSpecial = (text : List ℕ) (components others : Values) →
+-- Two splits of a text are equal, unless `IsSpecial` relates its protocol both to true and to
+-- false.
+abbrev pub SplitsAreOneUnlessAmbiguous : (IsSpecial : List ℕ → Bool → Type 0) → Type 0
+SplitsAreOneUnlessAmbiguous IsSpecial = (text : List ℕ) (components others : Values) →
     SplitsInto IsSpecial text components → SplitsInto IsSpecial text others →
     (components ≡ others)
     ⊎ HasProtocol text (λ protocol. IsSpecial protocol true × IsSpecial protocol false)

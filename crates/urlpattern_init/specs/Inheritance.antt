@@ -19,7 +19,7 @@ use Rattle.urlpattern_components.specs.declared.eight.Eight.{Eight}
 use Rattle.urlpattern_components.specs.Eight.{Texts, Values, at, components, each}
 use Rattle.urlpattern_syntax.specs.Text.{begins_with, byte_len, chars, text_of}
 
--- The texts of an init's components.
+-- The texts of an init by component; None for a component that it lacks.
 abbrev pub given_texts : UrlPatternInit → Eight (Option (String Global))
 given_texts given = record {
   protocol = given.protocol;
@@ -32,17 +32,18 @@ given_texts given = record {
   hash = given.hash;
 }
 
--- Optional texts as values.
+-- Eight optional strings as lists of characters.
 abbrev pub values_of : Eight (Option (String Global)) → Values
 values_of texts = each (λ name. option_map text_of (at texts name))
 
--- The values of an init's components.
+-- The texts of an init by component, as lists of characters; None for a component that it lacks.
 abbrev pub values_view : UrlPatternInit → Values
 values_view init = values_of (given_texts init)
 
 -- ---- the table of inheritance
 
--- The components that an init must lack, along with the component itself, to inherit it.
+-- The components that an init must lack, along with the component itself, to inherit it from the
+-- base URL.
 abbrev pub must_lack : ComponentName → List ComponentName
 must_lack Protocol = []
 must_lack Username = Protocol ∷ Hostname ∷ Port ∷ []
@@ -53,7 +54,7 @@ must_lack Pathname = Protocol ∷ Hostname ∷ Port ∷ []
 must_lack Search = Protocol ∷ Hostname ∷ Port ∷ Pathname ∷ []
 must_lack Hash = Protocol ∷ Hostname ∷ Port ∷ Pathname ∷ Search ∷ []
 
--- The text of a URL's component, by the URL's accessors.
+-- The text of a URL's component, as `url`'s accessors return it; empty if the URL lacks it.
 abbrev pub url_text : ComponentName → Parts → List ℕ
 url_text Protocol url = chars url.scheme
 url_text Username url = chars url.username
@@ -70,7 +71,8 @@ is_inheritable ProcessType.Pattern Username = false
 is_inheritable ProcessType.Pattern Password = false
 is_inheritable mode component = true
 
--- The processed text of a component; port and pathname depend on the processed protocol.
+-- The processed value of a component's `text`, or the error of `url`. Port and pathname depend on
+-- `protocol`, the processed value of the protocol.
 abbrev pub processed_text : ProcessType → (protocol : Option (List ℕ)) → ComponentName → List ℕ
     → Parsed (List ℕ)
 processed_text mode protocol Protocol text = processed_protocol mode text
@@ -84,6 +86,7 @@ processed_text mode protocol Hash text = processed_hash mode text
 
 -- ---- a relative pathname
 
+-- Whether the character is a slash.
 abbrev pub is_slash : ℕ → Bool
 is_slash c = c == slash
 
@@ -95,13 +98,13 @@ is_absolute ProcessType.Pattern text =
     || begins_with is_slash (without_first left_brace text)
 is_absolute ProcessType.Url text = begins_with is_slash text
 
--- A path up to its last slash, the slash included.
+-- A path up to its last slash, the slash included; empty if the path has no slash.
 abbrev pub up_to_last_slash : List ℕ → List ℕ
 up_to_last_slash [] = []
 up_to_last_slash (c ∷ path) = if list_any is_slash (c ∷ path) then c ∷ up_to_last_slash path else []
 
--- What is put before a relative pathname: the base's path up to its last slash, unless the path is
--- opaque.
+-- What is put before the pathname `text`: if it is relative, the path of `base` up to its last
+-- slash, escaped for a pattern, unless that path is opaque; else nothing.
 abbrev pub path_prefix : ProcessType → Option Parts → List ℕ → List ℕ
 path_prefix mode None text = []
 path_prefix mode (Some base) text =
@@ -110,7 +113,8 @@ path_prefix mode (Some base) text =
 
 -- ---- processed values
 
--- The given text of a component, after what is put before it.
+-- The text that is processed for `text`, the text of a component in the init: a pathname after its
+-- `path_prefix`, a text of any other component unchanged.
 abbrev pub given_text : ProcessType → Option Parts → ComponentName → List ℕ → List ℕ
 given_text mode base Pathname text = path_prefix mode base text ++ text
 given_text mode base component text = text
@@ -119,19 +123,21 @@ given_text mode base component text = text
 abbrev pub lacks_all : Values → List ComponentName → Bool
 lacks_all values components = list_all (λ component. is_none (at values component)) components
 
--- The value that an init inherits for a component that it lacks.
+-- The value that an init inherits for a component that it lacks. None if it has no base URL or may
+-- not inherit the component.
 abbrev pub inherited : ProcessType → Values → Option Parts → ComponentName → Option (List ℕ)
 inherited mode values base component =
     if is_inheritable mode component && lacks_all values (must_lack component)
     then option_map (λ url. processed_base mode (url_text component url)) base
     else None
 
--- The value of a component that is neither given nor inherited: none in a pattern, empty in a URL.
+-- The value of a component that is neither given nor inherited: None in a pattern, empty in a URL.
 abbrev pub missing : ProcessType → Option (List ℕ)
 missing ProcessType.Pattern = None
 missing ProcessType.Url = Some []
 
--- The processed value of a component, given its text in the init, if there is one.
+-- The processed value of a component, or its error, by the component's text in the init. For None
+-- the value is inherited, or else `missing`.
 abbrev pub value_given : ProcessType → Values → Option Parts
     → (protocol : Option (List ℕ)) → ComponentName → Option (List ℕ)
     → Parsed (Option (List ℕ))
@@ -141,39 +147,41 @@ value_given mode values base protocol component (Some text) =
     and_then (processed_text mode protocol component (given_text mode base component text))
     (λ value. Ok (Some value))
 
--- The processed value of a component.
+-- The processed value of a component in an init with these values and this base URL, or its error.
+-- `protocol` is the processed value of the protocol.
 abbrev pub processed_value : ProcessType → Values → Option Parts
     → (protocol : Option (List ℕ)) → ComponentName → Parsed (Option (List ℕ))
 processed_value mode values base protocol component =
     value_given mode values base protocol component (at values component)
 
--- The error of a result, or else the later error.
+-- The error of a result that has one, else `later`.
 abbrev pub error_or : {A : Type 0} → Parsed A → Option ParseError → Option ParseError
 error_or (Err reason) later = Some reason
 error_or (Ok value) later = later
 
--- The first error among the results for these components.
+-- The first error among the results `answers` of the listed components; None if each has a value.
 abbrev pub first_error : {A : Type 0} → (ComponentName → Parsed A) → List ComponentName
     → Option ParseError
 first_error answers [] = None
 first_error answers (name ∷ others) = error_or (answers name) (first_error answers others)
 
--- The value of a result, none for an error.
+-- The value of a result; None for an error.
 abbrev pub value_or_none : Parsed (Option (List ℕ)) → Option (List ℕ)
 value_or_none (Ok value) = value
 value_or_none (Err reason) = None
 
--- The values, unless there is an error.
+-- The error if there is one, else the values.
 abbrev pub unless_error : Option ParseError → Values → Parsed Values
 unless_error (Some reason) values = Err reason
 unless_error None values = Ok values
 
--- The values that are the results for the components, or the first error.
+-- The values of the results `answers` for all components, or the first error among them.
 abbrev pub all_values : (ComponentName → Parsed (Option (List ℕ))) → Parsed Values
 all_values answers =
     unless_error (first_error answers components) (each (λ name. value_or_none (answers name)))
 
--- The processed values of an init with this base, or the first error.
+-- The processed values of an init with these values and this base URL, or the first error. The
+-- protocol is processed first.
 unfoldable pub processed_values : ProcessType → Values → Option Parts → Parsed Values
 processed_values mode values base =
     and_then (processed_value mode values base None Protocol) (λ protocol.
@@ -181,22 +189,23 @@ processed_values mode values base =
 
 -- ---- lengths of texts that `url` receives
 
--- The length in bytes of an optional text.
+-- The length in bytes of an optional text; 0 for None.
 abbrev pub bytes_of : Option (List ℕ) → ℕ
 bytes_of text = byte_len (unwrap_or text [])
 
--- The length in bytes of a component's given text: of a relative pathname, with what is put before
--- it from the base.
+-- The length in bytes of the text that is processed for a component's text in the init: of a
+-- relative pathname, with the path of the base before it. 0 if the init lacks the component.
 abbrev pub given_bytes : ProcessType → Values → Option Parts → ComponentName → ℕ
 given_bytes mode values base component =
     bytes_of (option_map (given_text mode base component) (at values component))
 
--- The length in bytes of the processed protocol, 0 for an error.
+-- The length in bytes of the processed protocol; 0 for None or an error.
 abbrev pub protocol_bytes : Parsed (Option (List ℕ)) → ℕ
 protocol_bytes (Ok protocol) = bytes_of protocol
 protocol_bytes (Err reason) = 0
 
--- The length in bytes of the longest text that `url` receives; for a pattern it receives none.
+-- The length in bytes of the longest text that `url` receives when an init with these values and
+-- this base URL is processed; 0 for a pattern, of which `url` receives nothing.
 unfoldable pub longest_bytes : ProcessType → Values → Option Parts → ℕ
 longest_bytes mode values base =
     bytes_passed mode (fold max (protocol_bytes (processed_value mode values base None Protocol))
@@ -206,16 +215,16 @@ longest_bytes mode values base =
 abbrev pub init_values : ProcessType → UrlPatternInit → Parsed Values
 init_values mode init = processed_values mode (values_view init) init.base_url
 
--- The length in bytes of the longest text of an init that `url` receives.
+-- The length in bytes of the longest text of an init that `url` receives; 0 for a pattern.
 abbrev pub longest_init_bytes : ProcessType → UrlPatternInit → ℕ
 longest_init_bytes mode init = longest_bytes mode (values_view init) init.base_url
 
 -- ---- eight texts
 
--- The texts of a URL.
+-- The eight texts of a URL; empty for a component that it lacks.
 abbrev pub texts_of_url : Parts → Texts
 texts_of_url url = each (λ name. url_text name url)
 
--- The values of an init for a URL as texts, a missing one empty.
+-- The values as texts; an empty text for None.
 abbrev pub texts_of_values : Values → Texts
 texts_of_values values = each (λ name. unwrap_or (at values name) [])

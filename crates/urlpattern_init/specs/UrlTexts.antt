@@ -7,15 +7,15 @@ use Rattle.urlpattern_components.specs.declared.eight.ComponentName.{ComponentNa
 use Rattle.urlpattern_components.specs.Eight.{Texts, at}
 use Rattle.urlpattern_syntax.specs.Text.{lacks, line_feed}
 
--- A line: characters, none of them a line feed.
+-- The text is a line: it consists of characters, none of them a line feed.
 pub record IsLine (text : List ℕ) : Type 0 where
   pub characters : IsTrue (all_scalars text)
   pub no_line_feed : IsTrue (lacks line_feed text)
 
--- Each of eight texts is a line.
+-- Each of the eight texts is a line.
 abbrev pub EachIsLine : Texts → Type 0
 EachIsLine texts = (component : ComponentName) → IsLine (at texts component)
 
--- Each text of a valid URL is a line.
+-- Each of the eight texts of a valid URL is a line.
 abbrev pub TextsOfUrlsAreLines : Type 0
 TextsOfUrlsAreLines = (url : Parts) → IsValid url → EachIsLine (texts_of_url url)

@@ -4,7 +4,7 @@
 
 ghost use Rattle.std.specs.Prelude.{ℕ, Bool, List};
 ghost use Rattle.url.specs.Parts.{IsValid};
-ghost use Rattle.urlpattern_init.specs.ConstructorString.{SplitsAreOneOrInDoubt, SplitsAs};
+ghost use Rattle.urlpattern_init.specs.ConstructorString.{SplitsAreOneUnlessAmbiguous, SplitsAs};
 ghost use Rattle.urlpattern_init.specs.Inheritance.{texts_of_url};
 ghost use Rattle.urlpattern_init.specs.SpecialProtocol.{IsSpecialTo};
 ghost use Rattle.urlpattern_init.specs.UrlTexts.{EachIsLine, TextsOfUrlsAreLines};
@@ -14,16 +14,17 @@ ghost use Rattle.urlpattern_components.specs.Eight.{Values};
 use url::Url;
 use urlpattern_matcher::regexp::RegExp;
 
-/// A constructor string has exactly one split once it is decided whether its protocol is special.
-/// With engines of one type it has at most one, unless they permit both decisions.
+/// A constructor string has exactly one split for either decision whether its protocol is special.
+/// With engines of one type a string has at most one split, unless they permit both decisions.
 pub fn splits_are_one<R: RegExp>()
     ensures exist { (text : List ℕ) (special : Bool)
         → (components : Values) × SplitsAs text special components }
     ensures given { (text : List ℕ) (special : Bool) → AtMostOne (SplitsAs text special) }
-    ensures computed { SplitsAreOneOrInDoubt (IsSpecialTo R.RegExp) }
+    ensures computed { SplitsAreOneUnlessAmbiguous (IsSpecialTo R.RegExp) }
 {}
 
-/// The eight texts of a valid URL are lines: of characters, none of them a line feed.
+/// Each of the eight texts of a valid URL is a line: it consists of characters, none of them a line
+/// feed.
 pub fn texts_of_urls_are_lines()
     ensures { TextsOfUrlsAreLines }
 {}

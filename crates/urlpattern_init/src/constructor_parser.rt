@@ -29,10 +29,10 @@ use urlpattern_syntax::Error;
 
 impl UrlPatternInit {
     /// Splits a constructor string, the pattern of a whole URL, into the patterns of its
-    /// components.
+    /// components, and puts `base_url` beside them in the init.
     ///
-    /// The error is that of the protocol's pattern, `BaseUrlRequired` if there is neither a
-    /// protocol nor a base URL, or `OutOfMemory`.
+    /// Fails with the error of the protocol's pattern, with `BaseUrlRequired` if the string has no
+    /// protocol and `base_url` is `None`, or with `OutOfMemory`.
     ///
     /// <https://urlpattern.spec.whatwg.org/#parse-a-constructor-string>
     pub fn parse_constructor_string<R: RegExp>(
@@ -70,8 +70,10 @@ impl UrlPatternInit {
         Ok((init, turns))
     }
 
-    /// Splits a constructor string like `parse_constructor_string_counted`; if `keeps`, also
-    /// returns the text of the protocol and its component, compiled under the default options.
+    /// Splits a constructor string like `parse_constructor_string_counted`. If `keeps`, the third
+    /// value is the text of the protocol and its component, compiled under the default options,
+    /// which a caller need not compile again. `None`: `keeps` is `false`, or the string has no
+    /// protocol.
     pub fn parse_constructor_string_keeping<'a, R: RegExp>(
         alloc: Global,
         pattern: &'a str,
@@ -107,7 +109,8 @@ impl UrlPatternInit {
     }
 }
 
-/// The pattern of the protocol in a constructor string, if it has one.
+/// Returns the pattern of the protocol in a constructor string: the text before the colon that ends
+/// the protocol. `None`: the string has no protocol.
 pub fn protocol_of(alloc: Global, pattern: &str) -> Result<Option<&str>, Error>
     ensures protocol { IfOk result (λ found. IfSome found (λ protocol.
         HasProtocol (chars pattern.now) (λ text. text ≡ chars protocol.now))) }
@@ -131,11 +134,13 @@ pub fn protocol_of(alloc: Global, pattern: &str) -> Result<Option<&str>, Error>
     }
 }
 
-/// Splits a constructor string, after finding its protocol and whether that is special.
+/// Splits a constructor string, given with its tokens: finds the protocol, decides whether a
+/// protocol that is found is special, and cuts the components accordingly.
 ///
-/// If `keeps`, also returns the text of the protocol and its compiled component.
+/// If `keeps`, the second value is the text of the protocol and its compiled component. `None`:
+/// `keeps` is `false`, or the string has no protocol.
 ///
-/// The error is that of the protocol's pattern, or `OutOfMemory`.
+/// Fails with the error of the protocol's pattern, or with `OutOfMemory`.
 fn split<'a, R: RegExp>(
     alloc: Global,
     source: &Source<'_, 'a>,
@@ -164,7 +169,7 @@ fn split<'a, R: RegExp>(
     Ok((source.absolute(colon, protocol, special), known))
 }
 
-/// An init with these components and a base URL.
+/// Creates an init from owned copies of the components of a split, and a base URL.
 fn to_init(alloc: Global, split: &Split<'_>, base_url: Option<Url>) -> Result<UrlPatternInit, Error>
     ensures components { IfOk result (λ init. values_view init ≡ split_values split.now) }
     ensures base { IfOk result (λ init. init.base_url ≡ base_url) }
@@ -177,7 +182,7 @@ fn to_init(alloc: Global, split: &Split<'_>, base_url: Option<Url>) -> Result<Ur
     Ok(UrlPatternInit::from_eight(values, base_url))
 }
 
-/// An owned copy of a text, if there is one.
+/// Returns an owned copy of a text, and `None` for `None`.
 fn owned(alloc: Global, text: Option<&str>) -> Result<Option<String>, Error>
     ensures { IsOwned (option_text text.entry) result }
 {

@@ -1,4 +1,5 @@
-//! The values of an init, and what it inherits from its base URL.
+//! Inits, and what a pattern is matched against. In `processing`: the values of an init, and what
+//! it inherits from its base URL.
 //!
 //! <https://urlpattern.spec.whatwg.org/#process-a-urlpatterninit>
 mod processing;
@@ -26,7 +27,7 @@ use urlpattern_components::{ComponentName, Eight, field_of, with_fields};
 /// <https://urlpattern.spec.whatwg.org/#dictdef-urlpatterninit>
 #[derive(Debug, Default, PartialEq, Eq, Drop)]
 pub struct UrlPatternInit {
-    /// The scheme, without a colon.
+    /// The scheme, with or without the colon after it.
     pub protocol: Option<String>,
     /// The user name.
     pub username: Option<String>,
@@ -38,9 +39,9 @@ pub struct UrlPatternInit {
     pub port: Option<String>,
     /// The path.
     pub pathname: Option<String>,
-    /// The query, without a question mark.
+    /// The query, with or without the question mark before it.
     pub search: Option<String>,
-    /// The fragment, without a number sign.
+    /// The fragment, with or without the number sign before it.
     pub hash: Option<String>,
     /// The URL from which components are inherited.
     pub base_url: Option<Url>,
@@ -59,14 +60,14 @@ impl Clone for UrlPatternInit {
 }
 
 impl UrlPatternInit {
-    /// The text of a component, if it is given.
+    /// Returns the text of a component. `None`: the init lacks the component.
     pub fn get(&self, name: ComponentName) -> Option<&str>
         ensures { option_text result ≡ at (values_view self.now) name }
     {
         field_of!(self, name).as_deref()
     }
 
-    /// A copy of the text of a component, if it is given.
+    /// Returns a copy of the text of a component. `None`: the init lacks the component.
     #[tactic(auto, using(crate::proofs::InheritanceLemmas::same_texts))]
     fn copied(&self, name: ComponentName) -> Result<Option<String>, AllocError>
         ensures { IfOk result (λ copy. option_map text_of copy ≡ at (values_view self.now) name) }

@@ -1,4 +1,4 @@
-//! The patterns of a URL's components, as a caller passes them.
+//! An init as a caller passes it: texts for the components of a URL, and that of a base URL.
 
 ghost use Rattle.std.specs.Prelude.{◌≡◌, IfOk, option_copied, option_map, string_bytes};
 ghost use Rattle.serde_json.specs.Data.{object};
@@ -17,8 +17,8 @@ use std::alloc::{AllocError, Global};
 use urlpattern_components::{ComponentName, Eight, field_of, with_fields};
 use urlpattern_syntax::Error;
 
-/// The patterns of a URL's components, or its texts, and the text of a base URL. `None`: the text
-/// is not given.
+/// The pattern of each component of a URL, or the component's text to match, and the text of a base
+/// URL. `None`: it is not given.
 ///
 /// ```rust plain_init
 /// let mut init = UrlPatternInit::default();
@@ -78,6 +78,7 @@ impl UrlPatternInit {
         Ok(Value::Object(self.members(alloc)?))
     }
 
+    /// Returns the members of the object that is the JSON of the init.
     fn members(&self, alloc: Global) -> Result<Map<String, Value>, AllocError>
         ensures { IfOk result (λ members.
             object (members_view members.entries) ≡ init_tree (init_view self.now)) }
@@ -100,6 +101,7 @@ impl UrlPatternInit {
         read_or_none(Self::read(alloc, value))
     }
 
+    /// Reads an init from JSON, or returns why there is none.
     #[tactic(auto, unfolding(crate::specs::InputJson::init_read))]
     pub(crate) fn read(alloc: Global, value: &Value) -> Result<Self, Unread>
         ensures { ReturnsRead init_view result (init_read (view value.now)) }
@@ -127,7 +129,7 @@ impl UrlPatternInit {
         with_fields!(Eight, self)
     }
 
-    /// The text of a component, if it is given.
+    /// Returns the text of a component. `None`: the text is not given.
     pub fn get(&self, name: ComponentName) -> Option<&str>
         ensures { option_copied result
             ≡ option_map string_bytes (at (plain_init_texts self.now) name) }

@@ -50,6 +50,7 @@ impl<'a> StringOrInit<'a> {
         read_or_none(Self::read(alloc, value))
     }
 
+    /// Reads an input from JSON, or returns why there is none.
     fn read(alloc: Global, value: &Value) -> Result<Self, Unread>
         ensures { ReturnsRead input_view result (input_read (view value.now)) }
     {

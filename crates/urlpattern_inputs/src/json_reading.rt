@@ -36,7 +36,8 @@ impl<T: Drop> From<AllocFailed<T>> for Unread {
     }
 }
 
-/// Returns what a public call returns for what was read: `None` for JSON of another shape.
+/// Converts the result of a reading step to that of a public call: `None` for JSON of another
+/// shape, an error only if memory ran out.
 pub fn read_or_none<T>(read: Result<T, Unread>) -> Result<Option<T>, Error>
     ensures { result ≡ read_or_none read }
 {
@@ -47,7 +48,7 @@ pub fn read_or_none<T>(read: Result<T, Unread>) -> Result<Option<T>, Error>
     }
 }
 
-/// Returns the member with this name. The error is `Unread::Shape` if it is missing.
+/// Returns the member `name` of an object. The error is `Unread::Shape` if there is no such member.
 pub fn member<'v>(tree: &'v Value, name: &str) -> Result<&'v Value, Unread>
     ensures { ReturnsRead (λ found. view found.now) result (get name.now (view tree.now)) }
 {
@@ -57,7 +58,8 @@ pub fn member<'v>(tree: &'v Value, name: &str) -> Result<&'v Value, Unread>
     }
 }
 
-/// Returns the text of a member, borrowed.
+/// Returns the text of the member `name`, borrowed. The error is `Unread::Shape` if there is no
+/// such member, or no string in it.
 pub fn text_of<'v>(tree: &'v Value, name: &str) -> Result<&'v str, Unread>
     ensures { ReturnsRead (λ text. text.now) result (text_read name.now (view tree.now)) }
 {
@@ -67,7 +69,8 @@ pub fn text_of<'v>(tree: &'v Value, name: &str) -> Result<&'v str, Unread>
     }
 }
 
-/// Returns a copy of the text of a member.
+/// Returns a copy of the text of the member `name`. The error is `Unread::Shape` if there is no
+/// such member, or no string in it.
 pub fn text_field(alloc: Global, tree: &Value, name: &str) -> Result<String, Unread>
     ensures { ReturnsRead string_bytes result (text_read name.now (view tree.now)) }
 {
@@ -75,7 +78,9 @@ pub fn text_field(alloc: Global, tree: &Value, name: &str) -> Result<String, Unr
     Ok(String::from_str(alloc, text)?)
 }
 
-/// Returns a copy of the text of an optional member. `None`: the member is missing or null.
+/// Returns a copy of the text of the member `name`. `None`: the member is missing or null.
+///
+/// The error is `Unread::Shape` if the member is anything but a string or null.
 pub fn optional_text_field(
     alloc: Global,
     tree: &Value,
@@ -96,7 +101,8 @@ pub fn optional_text_field(
     }
 }
 
-/// Returns the Boolean of a member.
+/// Returns the Boolean of the member `name`. The error is `Unread::Shape` if there is no such
+/// member, or no Boolean in it.
 pub fn flag_field(tree: &Value, name: &str) -> Result<bool, Unread>
     ensures { ReturnsRead (λ flag. flag) result (flag_read name.now (view tree.now)) }
 {

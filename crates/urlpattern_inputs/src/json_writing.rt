@@ -7,7 +7,7 @@ ghost use Rattle.urlpattern_inputs.specs.Trees.{Gain};
 use serde_json::{Map, Value};
 use std::alloc::{AllocError, Global};
 
-/// Puts a text member into an object.
+/// Puts the string `text`, under `name`, into the members of an object.
 pub fn put_text(
     members: &mut Map<String, Value>,
     alloc: Global,
@@ -20,7 +20,7 @@ pub fn put_text(
     serde_json::put(members, alloc, name, Value::try_from_str(alloc, text)?)
 }
 
-/// Puts a text member into an object, if there is a text.
+/// Puts the string `text`, under `name`, into the members of an object, if there is a text.
 pub fn put_optional(
     members: &mut Map<String, Value>,
     alloc: Global,

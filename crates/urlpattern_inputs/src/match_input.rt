@@ -54,7 +54,7 @@ impl Clone for MatchInput {
 }
 
 impl MatchInput {
-    /// Creates eight empty texts.
+    /// Creates an input of eight empty texts.
     pub fn default(alloc: Global) -> Self
         ensures { match_input_view result ≡ each (λ name. []) }
     {
@@ -70,6 +70,7 @@ impl MatchInput {
         Ok(self.tree(alloc)?)
     }
 
+    /// Returns the JSON of the input, or that memory ran out.
     fn tree(&self, alloc: Global) -> Result<Value, AllocError>
         ensures { IfOk result (λ tree. view tree ≡ match_input_tree (match_input_view self.now)) }
     {
@@ -90,6 +91,7 @@ impl MatchInput {
         read_or_none(Self::read(alloc, value))
     }
 
+    /// Reads an input from JSON, or returns why there is none.
     fn read(alloc: Global, value: &Value) -> Result<Self, Unread>
         ensures { ReturnsRead match_input_view result (match_input_read (view value.now)) }
     {
@@ -104,7 +106,7 @@ impl MatchInput {
         with_fields!(Self, texts)
     }
 
-    /// The text of a component.
+    /// Returns the text of a component.
     pub fn get(&self, name: ComponentName) -> &str
         ensures { result.now ≡ string_bytes (at (matched_texts self.now) name) }
     {

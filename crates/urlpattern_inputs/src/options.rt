@@ -26,7 +26,8 @@ pub struct UrlPatternOptions {
     /// The syntax of the generated regular expressions. In JSON it may be missing.
     #[serde(default)]
     pub regex_syntax: RegexSyntax,
-    /// Whether pathname, search and hash are matched without regard to the case of ASCII letters.
+    /// Whether the case of ASCII letters is ignored in pathname, search and hash: by a matcher
+    /// itself, and by its engine if that honours the flag `i`.
     pub ignore_case: bool,
 }
 
@@ -40,8 +41,9 @@ impl UrlPatternOptions {
         Ok(json!(in alloc; {"regexSyntax": syntax, "ignoreCase": self.ignore_case})?)
     }
 
-    /// Reads options from JSON: an object with `ignoreCase`, and `regexSyntax` if it is not the
-    /// default. Other keys are ignored. `None`: the JSON has another shape.
+    /// Reads options from JSON: an object with `ignoreCase`, and with `regexSyntax`, of which the
+    /// default is read if it is missing. Other keys are ignored. `None`: the JSON has another
+    /// shape.
     ///
     /// Does not allocate, and never returns an error.
     pub fn from_json_value(_alloc: Global, value: &Value) -> Result<Option<Self>, Error>
@@ -50,6 +52,7 @@ impl UrlPatternOptions {
         Ok(Self::read(value))
     }
 
+    /// Reads options from JSON. `None`: the JSON has another shape.
     #[tactic(auto, unfolding(crate::specs::InputJson::options_read))]
     fn read(value: &Value) -> Option<Self>
         ensures { result ≡ options_read (view value.now) }
@@ -63,7 +66,7 @@ impl UrlPatternOptions {
     }
 }
 
-/// The name of a syntax in JSON.
+/// Returns the name of a syntax in JSON.
 fn syntax_name(syntax: RegexSyntax) -> &'static str
     ensures { result.now ≡ syntax_name syntax }
 {
@@ -73,7 +76,7 @@ fn syntax_name(syntax: RegexSyntax) -> &'static str
     }
 }
 
-/// The syntax with this name, if there is one.
+/// Returns the syntax with this name in JSON. `None`: no syntax has the name.
 fn syntax_of(name: &str) -> Option<RegexSyntax>
     ensures { result ≡ syntax_of name.now }
 {
@@ -86,7 +89,8 @@ fn syntax_of(name: &str) -> Option<RegexSyntax>
     }
 }
 
-/// The syntax of a member; the default if the member is missing.
+/// Reads a syntax from the member `name` of an object; the default if the member is missing.
+/// `None`: the member is not the name of a syntax.
 fn syntax_field(tree: &Value, name: &str) -> Option<RegexSyntax>
     ensures { result ≡ syntax_read (get name.now (view tree.now)) }
 {

@@ -22,7 +22,7 @@ use Rattle.urlpattern_meaning.proofs.WayLists.{every-append, every-cond, every-c
 use Rattle.urlpattern_meaning.proofs.WaysSound.{IsSound, AreSound, nil_of_zero, taken-count, taken-sound}
 use Rattle.urlpattern_meaning.specs.Dialect.{AllowsGroups, IsQuantified, Quantifier, Once, Optional, ZeroOrMore, OneOrMore, LazyOneOrMore}
 use Rattle.urlpattern_meaning.specs.PartMeaning.{Captures}
-use Rattle.urlpattern_meaning.specs.Ways.{Way, Choice, capturing, empty_way, looped, one_that, quantified_ways}
+use Rattle.urlpattern_meaning.specs.Ways.{Way, WaysByText, capturing, empty_way, looped, one_that, quantified_ways}
 use Rattle.urlpattern_engine.proofs.GroupSlots.{Shown, shown-append, shown-capturing, shown-empty_way}
 use Rattle.urlpattern_engine.proofs.ItemsRead.{repeated_as}
 use Rattle.urlpattern_engine.proofs.LoopAttempts.{Suits, leaf, looped-suits}
@@ -36,7 +36,7 @@ abbrev pub HasCaptures : (count : ℕ) → List ℕ → Captures → Type 0
 HasCaptures count taken captures = length captures ≡ count
 
 -- Each way splits the text in two, with `count` captures.
-abbrev pub Cuts : Choice → (count : ℕ) → Type 0
+abbrev pub Cuts : WaysByText → (count : ℕ) → Type 0
 Cuts choice count = AreSound choice (HasCaptures count)
 
 pub cuts_idle : (groups : ℕ) → Cuts (λ text. empty_way groups text ∷ []) groups
@@ -46,7 +46,7 @@ pub cuts_one : (passes : ℕ → Bool) → Cuts (one_that passes) 0
 cuts_one passes [] = tt
 cuts_one passes (c ∷ text) = every-cond (IsSound (c ∷ text) (HasCaptures 0)) (passes c) _ _ ((refl, refl), tt) tt
 
-pub cuts_followed : (first next : Choice) (m n : ℕ) → Cuts first m → Cuts next n → Cuts (followed_by first next) (m + n)
+pub cuts_followed : (first next : WaysByText) (m n : ℕ) → Cuts first m → Cuts next n → Cuts (followed_by first next) (m + n)
 cuts_followed first next m n cuts also text =
     every-continued (IsSound text (HasCaptures m)) (IsSound text (HasCaptures (m + n))) next (first text) (cuts text)
     (λ way p. every-weaker (IsSound way.rest (HasCaptures n)) _ (next way.rest)
@@ -56,14 +56,14 @@ cuts_followed first next m n cuts also text =
     ))
     (also way.rest))
 
-pub cuts_either : (first other : Choice) (n : ℕ) → Cuts first n → Cuts other n → Cuts (λ text. first text ++ other text) n
+pub cuts_either : (first other : WaysByText) (n : ℕ) → Cuts first n → Cuts other n → Cuts (λ text. first text ++ other text) n
 cuts_either first other n cuts also text = every-append _ (first text) (other text) (cuts text) (also text)
 
-pub cuts_captured : (choice : Choice) (n : ℕ) → Cuts choice n → Cuts (captured_whole choice) (suc n)
+pub cuts_captured : (choice : WaysByText) (n : ℕ) → Cuts choice n → Cuts (captured_whole choice) (suc n)
 cuts_captured choice n cuts text =
     every-map _ capturing (choice text) (every-weaker (IsSound text (HasCaptures n)) _ (choice text) (λ way p. (p.0, ap (λ k. suc k) p.1)) (cuts text))
 
-pub cuts_quantified : (quantifier : Quantifier) (groups : ℕ) (choice : Choice) → AllowsGroups quantifier groups → Cuts choice groups → Cuts (quantified_ways quantifier groups choice) groups
+pub cuts_quantified : (quantifier : Quantifier) (groups : ℕ) (choice : WaysByText) → AllowsGroups quantifier groups → Cuts choice groups → Cuts (quantified_ways quantifier groups choice) groups
 cuts_quantified quantifier groups choice allowed cuts text =
     every-weaker (IsSound text (IsQuantified quantifier groups (HasCaptures groups))) _ (quantified_ways quantifier groups choice text)
     (λ way p. (p.0, taken-count quantifier groups (HasCaptures groups) allowed (λ t c e. e) way.taken way.captures p.1))
@@ -75,7 +75,7 @@ allows_none Once = tt
 allows_none Optional = tt
 allows_none quantifier = refl
 
-pub cuts_looped : (greedy : Bool) (choice : Choice) → Cuts choice 0 → Cuts (looped greedy choice) 0
+pub cuts_looped : (greedy : Bool) (choice : WaysByText) → Cuts choice 0 → Cuts (looped greedy choice) 0
 cuts_looped true choice cuts = cuts_quantified OneOrMore 0 choice refl cuts
 cuts_looped false choice cuts = cuts_quantified LazyOneOrMore 0 choice refl cuts
 
@@ -111,14 +111,14 @@ module _ (whole : List ℕ) (good : scalars whole ≡ true) where
 
   -- At each place of the text, the attempt tries the ways of the choice in order. Its groups are
   -- numbered from g on.
-  abbrev pub Fits : (g : ℕ) → Choice → (Rest → Rest) → Type 0
+  abbrev pub Fits : (g : ℕ) → WaysByText → (Rest → Rest) → Type 0
   Fits = Suits (Shown hay) (shown-append hay) (shown-empty_way hay) whole good
 
   fits_idle : (g groups : ℕ) → Fits g (λ text. empty_way groups text ∷ []) (attempt hay empty)
   unfolding attempt
   fits_idle g groups before text e k = gave-empty_way (Shown hay) (shown-append hay) (shown-empty_way hay) g groups before text k
 
-  fits_followed : (g m : ℕ) (first next : Choice) (a b : Re) → Cuts first m → Fits g first (attempt hay a) → Fits (g + m) next (attempt hay b) → Fits g (followed_by first next) (attempt hay (cat a b))
+  fits_followed : (g m : ℕ) (first next : WaysByText) (a b : Re) → Cuts first m → Fits g first (attempt hay a) → Fits (g + m) next (attempt hay b) → Fits g (followed_by first next) (attempt hay (cat a b))
   unfolding attempt
   fits_followed g m first next a b cuts fits also before text e k =
       gave-continued (Shown hay) (shown-append hay) (shown-empty_way hay) g before k (attempt hay b k) next (first text) (attempt hay a (attempt hay b k) (at before))
@@ -128,13 +128,13 @@ module _ (whole : List ℕ) (good : scalars whole ≡ true) where
       (cuts text))
       (fits before text e (attempt hay b k))
 
-  fits_either : (g : ℕ) (first other : Choice) (a b : Re) → Fits g first (attempt hay a) → Fits g other (attempt hay b) → Fits g (λ text. first text ++ other text) (attempt hay (alt a b))
+  fits_either : (g : ℕ) (first other : WaysByText) (a b : Re) → Fits g first (attempt hay a) → Fits g other (attempt hay b) → Fits g (λ text. first text ++ other text) (attempt hay (alt a b))
   unfolding attempt
   fits_either g first other a b fits also before text e k =
       gave-append (Shown hay) (shown-append hay) (shown-empty_way hay) g before k (first text) (other text) (attempt hay a k (at before)) (attempt hay b k (at before))
       (fits before text e k) (also before text e k)
 
-  fits_captured : (g n : ℕ) (choice : Choice) (a : Re) → Cuts choice n → Fits (suc g) choice (attempt hay a) → Fits g (captured_whole choice) (attempt hay (group g a))
+  fits_captured : (g n : ℕ) (choice : WaysByText) (a : Re) → Cuts choice n → Fits (suc g) choice (attempt hay a) → Fits g (captured_whole choice) (attempt hay (group g a))
   unfolding attempt
   fits_captured g n choice a cuts fits before text e k =
       gave-capturing (Shown hay) (shown-append hay) (shown-empty_way hay) g before (λ way. (before ++ way.taken) ++ way.rest ≡ whole) (shown-capturing whole good g before) k (choice text)
@@ -142,12 +142,12 @@ module _ (whole : List ℕ) (good : scalars whole ≡ true) where
       (every-weaker (IsSound text (HasCaptures n)) _ (choice text) (λ way p. append_assoc before way.taken way.rest ∙ ap (λ t. before ++ t) (sym p.0) ∙ e) (cuts text))
       (fits before text e (λ j. write (2 * g + 1) j (k j)))
 
-  fits_looped : (g : ℕ) (greedy : Bool) (choice : Choice) (a : Re) → Cuts choice 0 → Fits g choice (attempt hay a) → Fits g (looped greedy choice) (attempt hay (plus greedy a))
+  fits_looped : (g : ℕ) (greedy : Bool) (choice : WaysByText) (a : Re) → Cuts choice 0 → Fits g choice (attempt hay a) → Fits g (looped greedy choice) (attempt hay (plus greedy a))
   fits_looped g greedy choice a cuts fits before text e k =
       looped-suits (Shown hay) (shown-append hay) (shown-empty_way hay) whole good g greedy choice a fits
       (λ t. every-weaker (IsSound t (HasCaptures 0)) (λ (way : Way). (t ≡ way.taken ++ way.rest) × (way.captures ≡ [])) (choice t) (λ way p. (p.0, nil_of_zero way.captures p.1)) (cuts t)) k before text e
 
-  fits_quantified : (g : ℕ) (quantifier : Quantifier) (groups : ℕ) (choice : Choice) (a : Re) → AllowsGroups quantifier groups → Cuts choice groups → Fits g choice (attempt hay a)
+  fits_quantified : (g : ℕ) (quantifier : Quantifier) (groups : ℕ) (choice : WaysByText) (a : Re) → AllowsGroups quantifier groups → Cuts choice groups → Fits g choice (attempt hay a)
       → Fits g (quantified_ways quantifier groups choice) (attempt hay (re_taken quantifier a))
   unfolding attempt
   fits_quantified g Once groups choice a allowed cuts fits before text e k = fits before text e k
@@ -240,16 +240,16 @@ module _ (whole : List ℕ) (good : scalars whole ≡ true) where
 -- ---- any text
 
 -- In any text of characters, the pattern tries the ways of the choice in order.
-abbrev pub Tries : (g : ℕ) → Choice → Re → Type 0
+abbrev pub Tries : (g : ℕ) → WaysByText → Re → Type 0
 Tries g choice re = (whole : List ℕ) (good : scalars whole ≡ true) → Fits whole good g choice (attempt (encodes whole) re)
 
 pub tries_idle : (g groups : ℕ) → Tries g (λ text. empty_way groups text ∷ []) empty
 tries_idle g groups whole good = fits_idle whole good g groups
 
-pub tries_followed : (g m : ℕ) (first next : Choice) (a b : Re) → Cuts first m → Tries g first a → Tries (g + m) next b → Tries g (followed_by first next) (cat a b)
+pub tries_followed : (g m : ℕ) (first next : WaysByText) (a b : Re) → Cuts first m → Tries g first a → Tries (g + m) next b → Tries g (followed_by first next) (cat a b)
 tries_followed g m first next a b cuts tries also whole good = fits_followed whole good g m first next a b cuts (tries whole good) (also whole good)
 
-pub tries_captured : (g n : ℕ) (choice : Choice) (a : Re) → Cuts choice n → Tries (suc g) choice a → Tries g (captured_whole choice) (group g a)
+pub tries_captured : (g n : ℕ) (choice : WaysByText) (a : Re) → Cuts choice n → Tries (suc g) choice a → Tries g (captured_whole choice) (group g a)
 tries_captured g n choice a cuts tries whole good = fits_captured whole good g n choice a cuts (tries whole good)
 
 pub tries_literal : (g : ℕ) (bytes : List ℕ) (c : ℕ) → IsScalar c → bytes ≡ encode_utf8 c → Tries g (one_that (λ d. d == c)) (literal bytes)
@@ -268,19 +268,19 @@ repeated_value ZeroOrMore sub = refl
 repeated_value OneOrMore sub = refl
 repeated_value LazyOneOrMore sub = refl
 
-pub tries_quantified : (g : ℕ) (quantifier : Quantifier) (groups : ℕ) (choice : Choice) (sub : Nested Re) → AllowsGroups quantifier groups → Cuts choice groups → Tries g choice sub.value
+pub tries_quantified : (g : ℕ) (quantifier : Quantifier) (groups : ℕ) (choice : WaysByText) (sub : Nested Re) → AllowsGroups quantifier groups → Cuts choice groups → Tries g choice sub.value
     → Tries g (quantified_ways quantifier groups choice) (repeated_as quantifier sub).value
 tries_quantified g quantifier groups choice sub allowed cuts tries =
     subst (Tries g (quantified_ways quantifier groups choice)) (repeated_value quantifier sub) (λ whole good. fits_quantified whole good g quantifier groups choice sub.value allowed cuts (tries whole good))
 
 -- A pattern by itself, as the grammar builds it.
-pub tries_alone : (g : ℕ) (choice : Choice) (a : Re) → Tries g choice a → Tries g choice (alt a (byte_in []))
+pub tries_alone : (g : ℕ) (choice : WaysByText) (a : Re) → Tries g choice a → Tries g choice (alt a (byte_in []))
 tries_alone g choice a tries whole good before text e k =
     subst (λ ways. Gave (Shown (encodes whole)) (shown-append (encodes whole)) (shown-empty_way (encodes whole)) g before k ways (attempt (encodes whole) (alt a (byte_in [])) k (at before))) (append-nil (choice text))
     (fits_either whole good g choice (λ t. []) a (byte_in []) (tries whole good) (fits_nothing whole good g) before text e k)
 
 -- A pattern with nothing after it.
-pub tries_last : (g : ℕ) (choice : Choice) (a : Re) → Tries g choice a → Tries g choice (cat a empty)
+pub tries_last : (g : ℕ) (choice : WaysByText) (a : Re) → Tries g choice a → Tries g choice (cat a empty)
 unfolding attempt
 tries_last g choice a tries whole good before text e k = tries whole good before text e k
 
@@ -292,7 +292,7 @@ attempt_append bytes [] others k i = refl
 attempt_append bytes (tree ∷ trees) others k i =
     attempt_cong bytes tree (attempt bytes (cat_all (trees ++ others)) k) (attempt bytes (cat_all trees) (attempt bytes (cat_all others) k)) i (λ j m. attempt_append bytes trees others k j)
 
-pub tries_append : (g m : ℕ) (first next : Choice) (trees others : List Re) → Cuts first m → Tries g first (cat_all trees) → Tries (g + m) next (cat_all others) → Tries g (followed_by first next) (cat_all (trees ++ others))
+pub tries_append : (g m : ℕ) (first next : WaysByText) (trees others : List Re) → Cuts first m → Tries g first (cat_all trees) → Tries (g + m) next (cat_all others) → Tries g (followed_by first next) (cat_all (trees ++ others))
 unfolding attempt
 tries_append g m first next trees others cuts tries also whole good before text e k =
     subst (Gave (Shown (encodes whole)) (shown-append (encodes whole)) (shown-empty_way (encodes whole)) g before k (followed_by first next text)) (sym (attempt_append (encodes whole) trees others k (at before)))
@@ -302,10 +302,10 @@ tries_append g m first next trees others cuts tries also whole good before text 
 
 -- The ways of a pattern do not depend on the numbers of its groups.
 pub ways_bare : (a : Re) → pattern_ways (bare a) ≡ pattern_ways a
-ways_bare (cat a b) = ap₂ (λ (first next : Choice). followed_by first next) (ways_bare a) (ways_bare b)
+ways_bare (cat a b) = ap₂ (λ (first next : WaysByText). followed_by first next) (ways_bare a) (ways_bare b)
 ways_bare (alt a b) =
-    let either : Choice → Choice → Choice = λ first other text. first text ++ other text in
+    let either : WaysByText → WaysByText → WaysByText = λ first other text. first text ++ other text in
     ap₂ either (ways_bare a) (ways_bare b)
 ways_bare (group n a) = ways_bare a
-ways_bare (plus greedy a) = ap (λ (choice : Choice). looped greedy choice) (ways_bare a)
+ways_bare (plus greedy a) = ap (λ (choice : WaysByText). looped greedy choice) (ways_bare a)
 ways_bare a = refl

@@ -19,7 +19,7 @@ use Rattle.urlpattern_laws.proofs.MatchersFirst.{matchers_first}
 use Rattle.urlpattern_laws.proofs.MatchersTaken.{matchers_taken, shorter_room}
 use Rattle.urlpattern_laws.proofs.ValuesTaken.{first_captured, pattern_values_capture, pattern_values_first, pattern_values_taken, regex_values_capture, regex_values_first, regex_values_taken}
 use Rattle.urlpattern_laws.specs.Expressions.{ExpressionMatches, MatchesWhole}
-use Rattle.urlpattern_laws.specs.LawsOfTexts.{ComponentsCapture, HasNumbers, IsCapturedByParts, IsTakenAlone, MatchersReturnIfMatched, MatchersCapture, ReadsInGroups, Room, AcceptedAlone}
+use Rattle.urlpattern_laws.specs.LawsOfTexts.{ComponentsCapture, HasNumbers, IsCapturedByParts, HasMatcherPremises, MatchersReturnIfMatched, MatchersCapture, ReadsInGroups, RegexpCondition, AcceptedAlone}
 use Rattle.urlpattern_laws.specs.LawsOfWays.{ComponentsReturnFirstOfParts, MatchersReturnFirstOfParts}
 use Rattle.urlpattern_laws.specs.MatchedPartTexts.{AllCaptureNothing, AllStandAlone}
 use Rattle.urlpattern_laws.specs.PartWays.{parts_first_way}
@@ -81,9 +81,9 @@ abbrev AreFirst : OptionsView → List PartView → List ℕ → Option Captures
 AreFirst options parts text result = result ≡ parts_first_way options parts text
 
 -- A law on the results of each matcher of an engine holds of the matchers of components.
-components_answer : {E : Type 0} (engine : Engine E) (Fits : Room) (Accepted : Acceptance E) (Are : OptionsView → List PartView → List ℕ → Option Captures → Type 0)
+components_answer : {E : Type 0} (engine : Engine E) (Fits : RegexpCondition) (Accepted : Acceptance E) (Are : OptionsView → List PartView → List ℕ → Option Captures → Type 0)
     → ((options : OptionsView) (inner : InnerView E) → AcceptedText (λ value. ⊤) inner → Accepted options (engine_flags options) inner)
-    → ((options : OptionsView) (flags : List ℕ) (parts : List PartView) (matcher : MatcherView E) → IsTakenAlone engine Fits Accepted options flags parts matcher → AllCaptureNothing parts → EachResultIs engine.answer matcher (Are options parts))
+    → ((options : OptionsView) (flags : List ℕ) (parts : List PartView) (matcher : MatcherView E) → HasMatcherPremises engine Fits Accepted options flags parts matcher → AllCaptureNothing parts → EachResultIs engine.answer matcher (Are options parts))
     → (options : OptionsView) (parts : List PartView) (component : ComponentView E) → IsComponentOf engine options parts component → AllStandAlone parts → AllCaptureNothing parts → Fits (regexp_text options parts)
     → options.ignore_case ≡ false → AcceptedText (λ value. ⊤) component.matcher.inner → EachResultIs engine.answer component.matcher (Are options parts)
 components_answer engine Fits Accepted Are given answer options parts component is alone silent fits kept took =

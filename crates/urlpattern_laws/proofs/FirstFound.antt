@@ -17,11 +17,11 @@ use Rattle.urlpattern_laws.proofs.Choices.{HasCaptures, Cuts, Tries, attempt_app
 use Rattle.urlpattern_laws.proofs.ItemsOf.{values, values_append}
 use Rattle.urlpattern_laws.proofs.WholeRead.{between_lines}
 use Rattle.urlpattern_meaning.proofs.WaysJoined.{first_of}
-use Rattle.urlpattern_meaning.specs.Ways.{Choice}
+use Rattle.urlpattern_meaning.specs.Ways.{WaysByText}
 use Rattle.urlpattern_engine.proofs.TreeSearch.{first_shown, found_at_start, not_start, starts, texts_from, to_end}
 use Rattle.urlpattern_engine.proofs.TreeTextsRead.{last_line}
 
-module _ (own : List (Nested Re)) (ways : Choice) (count : ℕ) (cuts : Cuts ways count) (tries : Tries 1 ways (cat_all (values own))) (text : List ℕ) (good : scalars text ≡ true) where
+module _ (own : List (Nested Re)) (ways : WaysByText) (count : ℕ) (cuts : Cuts ways count) (tries : Tries 1 ways (cat_all (values own))) (text : List ℕ) (good : scalars text ≡ true) where
   abbrev hay : List ℕ
   hay = encodes text
 

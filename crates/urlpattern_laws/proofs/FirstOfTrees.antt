@@ -12,7 +12,7 @@ use Rattle.urlpattern_meaning.proofs.PartTrees.{IsNotCustom, alone, between, cha
 use Rattle.urlpattern_meaning.proofs.TreeMeaning.{character_same}
 use Rattle.urlpattern_meaning.proofs.WaysJoined.{both_put, both_ways, continued-twice, first_of}
 use Rattle.urlpattern_meaning.specs.Dialect.{Quantifier, Once, Optional, ZeroOrMore, OneOrMore, LazyOneOrMore, Items, Nothing, Item, Atom, AnyBut, Captured, Dot, Grouped, atom_group_count, group_count}
-use Rattle.urlpattern_meaning.specs.Ways.{Choice, atom_ways, first_way_by, one_that, quantified_ways, ways}
+use Rattle.urlpattern_meaning.specs.Ways.{WaysByText, atom_ways, first_way_by, one_that, quantified_ways, ways}
 use Rattle.urlpattern_syntax.specs.Options.{OptionsView}
 use Rattle.urlpattern_syntax.specs.Parts.{PartView}
 use Rattle.urlpattern_syntax.specs.RegexpText.{escaped_marks, is_empty, regexp_text}
@@ -24,7 +24,7 @@ use Rattle.urlpattern_syntax.specs.declared.parser.PartType.TheVariants.{FixedTe
 
 -- ---- items
 
-followed_assoc : (first next last : Choice) → followed_by first (followed_by next last) ≡ followed_by (followed_by first next) last
+followed_assoc : (first next last : WaysByText) → followed_by first (followed_by next last) ≡ followed_by (followed_by first next) last
 followed_assoc first next last = fun_ext (λ text. continued-twice next last (first text))
 
 alone_ways : (atom : Atom) (quantifier : Quantifier) → ways (alone atom quantifier) ≡ quantified_ways quantifier (atom_group_count atom) (atom_ways atom)
@@ -34,7 +34,7 @@ alone_ways atom quantifier = fun_ext (λ text. continued_idle (quantified_ways q
 text_ways : (marks text : List ℕ) (items : Items) → ways (put marks text items) ≡ followed_by (exactly text) (ways items)
 text_ways marks text items =
     ap ways (both_put marks text Nothing items) ∙ fun_ext (both_ways (put marks text Nothing) items)
-    ∙ ap (λ (first : Choice). followed_by first (ways items)) (sym (exactly_put marks text))
+    ∙ ap (λ (first : WaysByText). followed_by first (ways items)) (sym (exactly_put marks text))
 
 put_count : (marks text : List ℕ) (items : Items) → group_count (put marks text items) ≡ group_count items
 put_count marks [] items = refl
@@ -55,25 +55,25 @@ segment_count marks (Some c) = refl
 
 -- ---- groups
 
-module _ (marks prefix suffix : List ℕ) (items : Items) (piece : Choice) (none : group_count items ≡ 0) (same : ways items ≡ piece) where
+module _ (marks prefix suffix : List ℕ) (items : Items) (piece : WaysByText) (none : group_count items ≡ 0) (same : ways items ≡ piece) where
   -- An atom with its quantifier.
-  abbrev quantified : Atom → Quantifier → Choice
+  abbrev quantified : Atom → Quantifier → WaysByText
   quantified atom quantifier = quantified_ways quantifier (atom_group_count atom) (atom_ways atom)
 
   repeated_ways : (quantifier : Quantifier) → ways (alone (Grouped items) quantifier) ≡ quantified_ways quantifier 0 piece
-  repeated_ways quantifier = alone_ways (Grouped items) quantifier ∙ ap₂ (λ (n : ℕ) (choice : Choice). quantified_ways quantifier n choice) none same
+  repeated_ways quantifier = alone_ways (Grouped items) quantifier ∙ ap₂ (λ (n : ℕ) (choice : WaysByText). quantified_ways quantifier n choice) none same
 
   bare_same : (modifier : PartModifier) → quantified (group_atom true modifier marks prefix items suffix) (group_quantifier true modifier) ≡ bare_ways modifier piece
   bare_same modifiers.None = ap captured_whole same
-  bare_same modifiers.Optional = ap₂ (λ (n : ℕ) (choice : Choice). quantified_ways Optional n (captured_whole choice)) (ap (λ n. suc n) none) same
+  bare_same modifiers.Optional = ap₂ (λ (n : ℕ) (choice : WaysByText). quantified_ways Optional n (captured_whole choice)) (ap (λ n. suc n) none) same
   bare_same modifiers.ZeroOrMore = ap captured_whole (repeated_ways ZeroOrMore)
   bare_same modifiers.OneOrMore = ap captured_whole (repeated_ways OneOrMore)
 
   -- A capture between prefix and suffix.
-  between_same : (core : Items) (choice : Choice) → ways core ≡ choice → ways (between marks prefix core suffix) ≡ between_ways prefix suffix choice
+  between_same : (core : Items) (choice : WaysByText) → ways core ≡ choice → ways (between marks prefix core suffix) ≡ between_ways prefix suffix choice
   between_same core choice e =
       text_ways marks prefix (Item (Captured core) Once (put marks suffix Nothing))
-      ∙ ap₂ (λ (first next : Choice). followed_by (exactly prefix) (followed_by (captured_whole first) next)) e (sym (exactly_put marks suffix))
+      ∙ ap₂ (λ (first next : WaysByText). followed_by (exactly prefix) (followed_by (captured_whole first) next)) e (sym (exactly_put marks suffix))
       ∙ followed_assoc (exactly prefix) (captured_whole choice) (exactly suffix)
 
   between_count : (core : Items) → group_count core ≡ 0 → group_count (between marks prefix core suffix) ≡ 1
@@ -93,13 +93,13 @@ module _ (marks prefix suffix : List ℕ) (items : Items) (piece : Choice) (none
 
   several_same : ways (copies marks prefix items suffix) ≡ several_ways prefix suffix piece
   several_same =
-      ap₂ (λ (first next : Choice). followed_by first next) same
-      (alone_ways (Grouped one_further) ZeroOrMore ∙ ap₂ (λ (n : ℕ) (choice : Choice). quantified_ways ZeroOrMore n choice) further_count further_same)
+      ap₂ (λ (first next : WaysByText). followed_by first next) same
+      (alone_ways (Grouped one_further) ZeroOrMore ∙ ap₂ (λ (n : ℕ) (choice : WaysByText). quantified_ways ZeroOrMore n choice) further_count further_same)
 
   several_count : group_count (copies marks prefix items suffix) ≡ 0
   several_count = omega (arith, none, further_count)
 
-  abbrev optional : (n : ℕ) → Choice → Choice
+  abbrev optional : (n : ℕ) → WaysByText → WaysByText
   optional n choice = quantified_ways Optional n choice
 
   affixed_same : (modifier : PartModifier) → quantified (group_atom false modifier marks prefix items suffix) (group_quantifier false modifier) ≡ affixed_ways modifier prefix suffix piece
@@ -118,7 +118,7 @@ module _ (marks prefix suffix : List ℕ) (items : Items) (piece : Choice) (none
 repeated_text : (quantifier : Quantifier) (marks value : List ℕ) (items : Items)
     → ways (Item (Grouped (put marks value Nothing)) quantifier items) ≡ followed_by (quantified_ways quantifier 0 (exactly value)) (ways items)
 repeated_text quantifier marks value items =
-    ap₂ (λ (n : ℕ) (choice : Choice). followed_by (quantified_ways quantifier n choice) (ways items)) (put_count marks value Nothing) (sym (exactly_put marks value))
+    ap₂ (λ (n : ℕ) (choice : WaysByText). followed_by (quantified_ways quantifier n choice) (ways items)) (put_count marks value Nothing) (sym (exactly_put marks value))
 
 fixed_same : (modifier : PartModifier) (marks value : List ℕ) (items : Items) → ways (fixed_tree modifier marks value items) ≡ followed_by (fixed_ways modifier value) (ways items)
 fixed_same modifiers.None marks value items = text_ways marks value items
@@ -132,7 +132,7 @@ group_same : (options : OptionsView) (kind : PartType) (part : PartView) (items 
     (atom_ways (group_atom (is_empty part.prefix && is_empty part.suffix) part.modifier (escaped_marks options.syntax) part.prefix (wildcard_items options kind) part.suffix))) (ways items)
     ≡ followed_by (copies_ways (is_empty part.prefix && is_empty part.suffix) part.modifier part.prefix part.suffix (piece_ways options kind part.value)) (ways items)
 group_same options kind part items none same =
-    ap (λ (first : Choice). followed_by first (ways items))
+    ap (λ (first : WaysByText). followed_by first (ways items))
     (copies_same (escaped_marks options.syntax) part.prefix part.suffix (wildcard_items options kind) (piece_ways options kind part.value) none same (is_empty part.prefix && is_empty part.suffix) part.modifier)
 
 part_same : (options : OptionsView) (kind : PartType) (part : PartView) (items : Items) → kind ≢ Regexp → ways (part_tree_by kind options part items) ≡ followed_by (part_ways_by kind options part) (ways items)
@@ -151,5 +151,5 @@ ways_of_tree options (part ∷ parts) plain =
 pub first_of_tree : FirstWaysAreOfTrees
 unfolding parts_first_way first_way_by
 first_of_tree options parts tree text plain is =
-    ap (λ (choice : Choice). first_of (choice text)) (sym (ways_of_tree options parts plain))
+    ap (λ (choice : WaysByText). first_of (choice text)) (sym (ways_of_tree options parts plain))
     ∙ ap (λ (t : Items). first_of (ways t text)) (trees_are_one (regexp_text options parts) (tree_of options parts) tree (is_tree_of options parts plain) is)

@@ -135,7 +135,7 @@ module _ {E : Type 0} (IsEngine : List ℕ → Result E ErrorView → Type 0) (o
     front = option_map folded_part made.front;
     middle = folded_parts made.middle;
     back = option_map folded_part made.back;
-    are_peeled = peeled_folded parts made.front made.middle made.back made.are_peeled;
+    are_stripped = peeled_folded parts made.front made.middle made.back made.are_stripped;
     is_made =
         subst (λ (begin : List ℕ). IsMadeBetween AnyEngine (folded_options options) begin (folded_parts made.middle) (end_text (option_map folded_part made.back)) (folded_matcher matcher)) (end_folded made.front)
         (subst (λ (end : List ℕ). IsMadeBetween AnyEngine (folded_options options) (folded true (end_text made.front)) (folded_parts made.middle) end (folded_matcher matcher)) (end_folded made.back)

@@ -25,7 +25,7 @@ use Rattle.urlpattern_meaning.specs.Matching.{Accepts, Agrees, Returns, BeginsPl
 use Rattle.urlpattern_meaning.specs.PartMeaning.{AreGenerated, Captures, PartsMean}
 use Rattle.urlpattern_laws.proofs.FoldedMatchers.{AnswersFolding, AnyEngine, FoldsAnswer, answers_folded, between_ignores, cut_unfolded, end_folded, folded_inner, folded_matcher, lower, lower_lacks, lower_scalars, made_folded, no_engine, peeled_folded}
 use Rattle.urlpattern_laws.proofs.FoldedTreeLaws.{tree_folds}
-use Rattle.urlpattern_laws.specs.Folded.{AreInPlace, FoldedFirstsAreReturned, FoldedMean, FoldedWaysAreReturned, HoldsNoEngine, IsFoldedFirst, IsFoldedMatch, IsWithinCopy, folded_options, folded_part, folded_parts}
+use Rattle.urlpattern_laws.specs.Folded.{AreInPlace, FoldedFirstsAreReturned, FoldedWaysAreReturned, HoldsNoEngine, IsFoldedFirst, IsFoldedMatch, IsWithinCopy, PartsMeanFolded, folded_options, folded_part, folded_parts}
 use Rattle.urlpattern_syntax.specs.declared.parser.PartModifier.{PartModifier}
 use Rattle.urlpattern_syntax.specs.declared.parser.PartModifier.TheVariants as modifiers
 use Rattle.urlpattern_syntax.specs.declared.parser.PartType.{PartType}
@@ -46,11 +46,11 @@ none_folded [] same = refl
 none_folded (capture ∷ captures) same = absurd cc
 
 module _ (options : OptionsView) where
-  folded-append : (parts others : List PartView) (text rest : List ℕ) (captures more : Captures) → FoldedMean options parts text captures → FoldedMean options others rest more →
-      FoldedMean options (parts ++ others) (text ++ rest) (captures ++ more)
+  folded-append : (parts others : List PartView) (text rest : List ℕ) (captures more : Captures) → PartsMeanFolded options parts text captures → PartsMeanFolded options others rest more →
+      PartsMeanFolded options (parts ++ others) (text ++ rest) (captures ++ more)
   folded-append [] others text rest captures more (empty, nothing) means =
-      subst (λ (t : List ℕ). FoldedMean options others t (captures ++ more)) (ap (λ (t : List ℕ). t ++ rest) (sym empty))
-      (subst (λ (c : Captures). FoldedMean options others rest c) (ap (λ (c : Captures). c ++ more) (sym nothing)) means)
+      subst (λ (t : List ℕ). PartsMeanFolded options others t (captures ++ more)) (ap (λ (t : List ℕ). t ++ rest) (sym empty))
+      (subst (λ (c : Captures). PartsMeanFolded options others rest c) (ap (λ (c : Captures). c ++ more) (sym nothing)) means)
   folded-append (part ∷ parts) others text rest captures more (first, after, own, behind, cut, is, substring, mean) means = (
     first,
     after ++ rest,
@@ -62,11 +62,11 @@ module _ (options : OptionsView) where
     folded-append parts others after rest behind more mean means,
   )
 
-  alone : (part : PartView) (substring : List ℕ) (captures : Captures) → IsFoldedMatch options part substring captures → FoldedMean options (part ∷ []) substring captures
+  alone : (part : PartView) (substring : List ℕ) (captures : Captures) → IsFoldedMatch options part substring captures → PartsMeanFolded options (part ∷ []) substring captures
   alone part substring captures is = (substring, [], captures, [], sym (append-nil substring), sym (append-nil captures), is, (refl, refl))
 
   -- A plain fixed text that is removed.
-  end_means : (end : Option PartView) (IsThere : Type 0) (text : List ℕ) → IsRemoved end IsThere → lower text ≡ folded true (end_text end) → FoldedMean options (option_to_list end) text []
+  end_means : (end : Option PartView) (IsThere : Type 0) (text : List ℕ) → IsRemoved end IsThere → lower text ≡ folded true (end_text end) → PartsMeanFolded options (option_to_list end) text []
   end_means None IsThere text removed same = (nothing_folded text same, refl)
   end_means (Some part) IsThere text plain same = alone part text [] (record {
     means = (plain_means {options = folded_options options} {text = lower text} {captures = []} (folded_part part) plain).1 (same, refl);
@@ -127,7 +127,7 @@ module _ {E : Type 0} (answer : E → List ℕ → Option Captures) (IsEngine : 
   between_means : (front : List ℕ) (middle : List PartView) (back : List ℕ) (matcher : MatcherView E) (text begin substring end : List ℕ) (captures : Captures) →
       HoldsNoEngine matcher.inner → IsMadeBetween IsEngine options front middle back matcher → Matches answer matcher text captures →
       text ≡ begin ++ substring ++ end → length begin ≡ length front → length end ≡ length back →
-      PartsMean (folded_options options) (folded_parts middle) (lower substring) (folded_captures captures) → FoldedMean options middle substring captures
+      PartsMean (folded_options options) (folded_parts middle) (lower substring) (folded_captures captures) → PartsMeanFolded options middle substring captures
   between_means front [] back matcher text begin substring end captures none made matches cut begins ends (empty, nothing) = (nothing_folded substring empty, none_folded captures nothing)
   between_means front (part ∷ []) back matcher text begin substring end captures none made matches cut begins ends means = alone options part substring captures (record {
     means = part_alone {options = folded_options options} {part = folded_part part} {text = lower substring} {captures = folded_captures captures} means;
@@ -137,28 +137,28 @@ module _ {E : Type 0} (answer : E → List ℕ → Option Captures) (IsEngine : 
       absurd (no_engine IsEngine options matcher _ engine none made refl)
 
   matched_means : (parts : List PartView) (matcher : MatcherView E) (text : List ℕ) (captures : Captures) → HoldsNoEngine matcher.inner → IsMadeOf IsEngine options parts matcher → Matches answer matcher text captures →
-      PartsMean (folded_options options) (folded_parts parts) (lower text) (folded_captures captures) → FoldedMean options parts text captures
+      PartsMean (folded_options options) (folded_parts parts) (lower text) (folded_captures captures) → PartsMeanFolded options parts text captures
   matched_means parts matcher text captures none made matches means =
       let front = made.front in
       let middle = made.middle in
       let back = made.back in
-      let peeled = peeled_folded parts front middle back made.are_peeled in
+      let peeled = peeled_folded parts front middle back made.are_stripped in
       let (inner, cut, inside) =
       (peeled_means (folded_options options) (folded_parts parts) (option_map folded_part front) (folded_parts middle) (option_map folded_part back) (lower text) (folded_captures captures) peeled).0 means in
       let (begin, substring, end, is_cut, is_begin, is_stretch, is_end) = cut_unfolded text (end_text (option_map folded_part front)) inner (end_text (option_map folded_part back)) cut in
       let begins : lower begin ≡ folded true (end_text front) = is_begin ∙ sym (end_folded front) in
       let ends : lower end ≡ folded true (end_text back) = is_end ∙ sym (end_folded back) in
-      let between : FoldedMean options middle substring captures =
+      let between : PartsMeanFolded options middle substring captures =
       between_means (end_text front) middle (end_text back) matcher text begin substring end captures none made.is_made matches is_cut
       (same-length true begin (end_text front) begins) (same-length true end (end_text back) ends)
       (subst (λ (t : List ℕ). PartsMean (folded_options options) (folded_parts middle) t (folded_captures captures)) (sym is_stretch) inside) in
-      let first : FoldedMean options (option_to_list front ++ middle) (begin ++ substring) captures =
-      folded-append options (option_to_list front) middle begin substring [] captures (end_means options front (BeginsPlain parts) begin made.are_peeled.front_removed begins) between in
-      let whole : FoldedMean options (option_to_list front ++ middle ++ option_to_list back) (begin ++ substring ++ end) (captures ++ []) =
-      folded-append options (option_to_list front ++ middle) (option_to_list back) (begin ++ substring) end captures [] first (end_means options back (EndsPlain middle) end made.are_peeled.back_removed ends) in
-      subst (λ (c : Captures). FoldedMean options parts text c) (append-nil captures)
-      (subst (λ (t : List ℕ). FoldedMean options parts t (captures ++ [])) (sym is_cut)
-      (subst (λ (ps : List PartView). FoldedMean options ps (begin ++ substring ++ end) (captures ++ [])) (sym made.are_peeled.cut) whole))
+      let first : PartsMeanFolded options (option_to_list front ++ middle) (begin ++ substring) captures =
+      folded-append options (option_to_list front) middle begin substring [] captures (end_means options front (BeginsPlain parts) begin made.are_stripped.front_removed begins) between in
+      let whole : PartsMeanFolded options (option_to_list front ++ middle ++ option_to_list back) (begin ++ substring ++ end) (captures ++ []) =
+      folded-append options (option_to_list front ++ middle) (option_to_list back) (begin ++ substring) end captures [] first (end_means options back (EndsPlain middle) end made.are_stripped.back_removed ends) in
+      subst (λ (c : Captures). PartsMeanFolded options parts text c) (append-nil captures)
+      (subst (λ (t : List ℕ). PartsMeanFolded options parts t (captures ++ [])) (sym is_cut)
+      (subst (λ (ps : List PartView). PartsMeanFolded options ps (begin ++ substring ++ end) (captures ++ [])) (sym made.are_stripped.cut) whole))
 
   -- The folded result of a matcher is the first way of the folded parts, if the values of its
   -- engine return first ways.
@@ -223,13 +223,13 @@ module _ {E : Type 0} (answer : E → List ℕ → Option Captures) (IsEngine : 
           let (inner, (head, tail, cut, begins, ends), accepts) = matches in
           let has = ends_of IsEngine options (end_text made.front) made.middle (end_text made.back) matcher (Ok engine) made.is_made is in
           let ignores : matcher.ignore_case ≡ true = has.2 ∙ ignored in
-          let same : middle ≡ made.middle = middle_one parts front made.front middle made.middle back made.back peeled made.are_peeled in
+          let same : middle ≡ made.middle = middle_one parts front made.front middle made.middle back made.back peeled made.are_stripped in
           let found : answer engine inner ≡ Some captures = subst (λ (i : InnerView E). Accepts answer matcher.ignore_case i inner captures) is accepts in
           inr (record {
             front = made.front;
             middle = made.middle;
             back = made.back;
-            are_peeled = made.are_peeled;
+            are_stripped = made.are_stripped;
             head = head;
             inner = inner;
             tail = tail;
@@ -255,7 +255,7 @@ module _ {E : Type 0} (answer : E → List ℕ → Option Captures) (IsEngine : 
       first = matcher_folded_first parts matcher text result made generated ignored (no_value matcher.inner parts _ none) no_feed scalars answers
 
       pieces : (found : Option Captures) → Returns answer matcher text found → Agrees (folded_options options) (folded_parts parts) (lower text) (option_map folded_captures found) →
-          IfSome found (FoldedMean options parts text)
+          IfSome found (PartsMeanFolded options parts text)
       pieces None never agrees = tt
       pieces (Some captures) matches means = matched_means parts matcher text captures none made matches means
 

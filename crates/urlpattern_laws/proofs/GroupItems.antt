@@ -9,7 +9,7 @@ use Rattle.urlpattern_laws.proofs.ItemsOf.{AreItemsOf, IsItemOf, append_items, s
 use Rattle.urlpattern_laws.proofs.PieceItems.{fixed_items}
 use Rattle.urlpattern_laws.proofs.Senses.{Sense, SameSense, joined, joined_quiet, perhaps, quiet, quiet_same, whole}
 use Rattle.urlpattern_laws.specs.PartWays.{between_ways, copies_ways, exactly, fixed_ways, followed_by, several_ways}
-use Rattle.urlpattern_meaning.specs.Ways.{Choice, quantified_ways}
+use Rattle.urlpattern_meaning.specs.Ways.{WaysByText, quantified_ways}
 use Rattle.urlpattern_meaning.specs.Dialect.{Optional, ZeroOrMore, OneOrMore}
 use Rattle.urlpattern_meaning.specs.PartMeaning.{Allows, Captures}
 use Rattle.urlpattern_meaning.proofs.Copies.{GroupMeans, IsBetween, IsCore, IsFurther, copies_core, core_copies, core_one, repeated_map}
@@ -55,7 +55,7 @@ counted_same modifiers.OneOrMore Is text good = (λ (n, are). (suc n, omega arit
 
 -- ---- fixed texts
 
-counted_quiet : (modifier : PartModifier) (K : Type 0) (Is : Texts) (ways : Choice) → SameSense (quiet K (Quantified (quantifier_of modifier) Is) ways) (quiet K (Counted modifier Is) ways)
+counted_quiet : (modifier : PartModifier) (K : Type 0) (Is : Texts) (ways : WaysByText) → SameSense (quiet K (Quantified (quantifier_of modifier) Is) ways) (quiet K (Counted modifier Is) ways)
 counted_quiet modifier K Is ways = quiet_same K K _ _ ways (counted_same modifier Is) (λ k. k)
 
 pub fixed_part : (modifier : PartModifier) (text value : List ℕ) (K : Type 0) (Is : Texts) → AreItemsOf text (quiet K Is (exactly value)) → AreItemsOf (fixed_regexp modifier text) (quiet K (Counted modifier Is) (fixed_ways modifier value))
@@ -70,7 +70,7 @@ fixed_part modifiers.OneOrMore text value K Is a =
 -- ---- groups
 
 -- The sense of copies of a piece between prefix and suffix, with their capture.
-abbrev pub group_sense : (is_bare : Bool) → PartModifier → (prefix suffix : List ℕ) → (K : Type 0) → Texts → Choice → Sense
+abbrev pub group_sense : (is_bare : Bool) → PartModifier → (prefix suffix : List ℕ) → (K : Type 0) → Texts → WaysByText → Sense
 group_sense is_bare modifier prefix suffix K Is piece = record {
   Is = Counted modifier (IsBetween Is prefix suffix);
   count = 1;
@@ -79,7 +79,7 @@ group_sense is_bare modifier prefix suffix K Is piece = record {
   ways = copies_ways is_bare modifier prefix suffix piece;
 }
 
-one_more : (K : Type 0) (modifier : PartModifier) (is_bare : Bool) (prefix suffix : List ℕ) (s : Sense) (Is : Texts) (piece : Choice) → AreSameTexts s.Is (Counted modifier (IsBetween Is prefix suffix)) → 1 ≡ s.count
+one_more : (K : Type 0) (modifier : PartModifier) (is_bare : Bool) (prefix suffix : List ℕ) (s : Sense) (Is : Texts) (piece : WaysByText) → AreSameTexts s.Is (Counted modifier (IsBetween Is prefix suffix)) → 1 ≡ s.count
     → ((text : List ℕ) (captures : Captures) → scalars text ≡ true → s.Cap text captures → GroupMeans Is is_bare modifier prefix suffix text captures) → (K → s.Known)
     → s.ways ≡ copies_ways is_bare modifier prefix suffix piece → SameSense s (group_sense is_bare modifier prefix suffix K Is piece)
 one_more K modifier is_bare prefix suffix s Is piece texts count caps known ways = record { texts = texts; count = count; caps = caps; known = known; ways = ways }
@@ -113,7 +113,7 @@ one_whole Is modifier allowed text captures (inner, all, (is, none)) =
 all_whole : (Is : Texts) (modifier : PartModifier) (n : ℕ) → Allows modifier (suc n) → (text : List ℕ) (captures : Captures) → IsRepeated Is (suc n) text → captures ≡ Some text ∷ [] → GroupMeans Is true modifier [] [] text captures
 all_whole Is modifier n allowed text captures are all = inr (n, text, allowed, sym (append-nil text), pieces_core Is n text are, all)
 
-pub bare_group : (modifier : PartModifier) (text : List ℕ) (K : Type 0) (Is : Texts) (piece : Choice) → IsInside text (quiet K Is piece) → AreItemsOf (bare_regexp modifier text) (group_sense true modifier [] [] K Is piece)
+pub bare_group : (modifier : PartModifier) (text : List ℕ) (K : Type 0) (Is : Texts) (piece : WaysByText) → IsInside text (quiet K Is piece) → AreItemsOf (bare_regexp modifier text) (group_sense true modifier [] [] K Is piece)
 bare_group modifiers.None text K Is piece a =
     same_items _ (whole (quiet K Is piece)) _ (one_more K modifiers.None true [] [] (whole (quiet K Is piece)) Is piece (bare_counted modifiers.None Is) refl (λ t c good is. one_whole Is modifiers.None refl t c is) (λ k. k) refl)
     (once_items _ _ (captured_item text _ a))
@@ -187,7 +187,7 @@ some_or_none Is text good = (
 abbrev Between : Texts → (prefix suffix : List ℕ) → Captures → Texts
 Between Is prefix suffix captures text = (core : List ℕ) × (text ≡ prefix ++ core ++ suffix) × Is core × (captures ≡ Some core ∷ [])
 
-abbrev between_sense : (K : Type 0) → Texts → Choice → (prefix suffix : List ℕ) → Sense
+abbrev between_sense : (K : Type 0) → Texts → WaysByText → (prefix suffix : List ℕ) → Sense
 between_sense K Is core prefix suffix = record {
   Is = IsBetween Is prefix suffix;
   count = 1;
@@ -212,7 +212,7 @@ module _ (options : OptionsView) (prefix suffix : List ℕ) (good_prefix : scala
   after = escaped_regexp options suffix
 
   -- A group between prefix and suffix.
-  between_item : (text : List ℕ) (K : Type 0) (Is : Texts) (core : Choice) → IsInside text (quiet K Is core) → IsItemOf (grouped (before ++ captured text ++ after)) (between_sense K Is core prefix suffix)
+  between_item : (text : List ℕ) (K : Type 0) (Is : Texts) (core : WaysByText) → IsInside text (quiet K Is core) → IsItemOf (grouped (before ++ captured text ++ after)) (between_sense K Is core prefix suffix)
   between_item text K Is core a =
       grouped_item _ _ (items_inside _ _ (same_items _ _ (between_sense K Is core prefix suffix)
       (record { texts = between_same Is prefix suffix; count = omega arith; caps = λ t c good is. between_caps Is prefix suffix t c is; known = λ k. ((tt, k), tt); ways = refl })
@@ -221,10 +221,10 @@ module _ (options : OptionsView) (prefix suffix : List ℕ) (good_prefix : scala
       (fixed_items options suffix good_suffix))))
 
   -- Suffix and prefix, and then a piece.
-  abbrev further_ways : Choice → Choice
+  abbrev further_ways : WaysByText → WaysByText
   further_ways piece = followed_by (followed_by (exactly suffix) (exactly prefix)) piece
 
-  further_item : (text : List ℕ) (K : Type 0) (Is : Texts) (piece : Choice) → IsInside text (quiet K Is piece) → IsItemOf (grouped (after ++ before ++ grouped text)) (quiet K (IsFurther Is prefix suffix) (further_ways piece))
+  further_item : (text : List ℕ) (K : Type 0) (Is : Texts) (piece : WaysByText) → IsInside text (quiet K Is piece) → IsItemOf (grouped (after ++ before ++ grouped text)) (quiet K (IsFurther Is prefix suffix) (further_ways piece))
   further_item text K Is piece a =
       grouped_item _ _ (items_inside _ _
       (same_items _ _ _ (joined_quiet (Unit {0}) K K (Joined (Exactly suffix) (Exactly prefix)) Is (IsFurther Is prefix suffix) (followed_by (exactly suffix) (exactly prefix)) piece (further_same Is prefix suffix) (λ k. (tt, k)))
@@ -233,16 +233,16 @@ module _ (options : OptionsView) (prefix suffix : List ℕ) (good_prefix : scala
       (append_items after before _ _ (fixed_items options suffix good_suffix) (fixed_items options prefix good_prefix)))
       (once_items _ _ (grouped_item text _ a)))))
 
-  several_inside : (text : List ℕ) (K : Type 0) (Is : Texts) (piece : Choice) → IsInside text (quiet K Is piece)
+  several_inside : (text : List ℕ) (K : Type 0) (Is : Texts) (piece : WaysByText) → IsInside text (quiet K Is piece)
       → IsInside (grouped text ++ grouped (after ++ before ++ grouped text) ++ codes "*") (quiet K (Several Is prefix suffix) (several_ways prefix suffix piece))
   several_inside text K Is piece a =
-      let more : Choice = quantified_ways ZeroOrMore 0 (further_ways piece) in
+      let more : WaysByText = quantified_ways ZeroOrMore 0 (further_ways piece) in
       items_inside _ _ (same_items _ _ _ (joined_quiet K K K Is (Quantified ZeroOrMore (IsFurther Is prefix suffix)) (Several Is prefix suffix) piece more (several_same Is prefix suffix) (λ k. (k, k)))
       (subst (λ t. AreItemsOf t (joined (quiet K Is piece) (quiet K (Quantified ZeroOrMore (IsFurther Is prefix suffix)) more))) (sym (append_assoc (grouped text) (grouped (after ++ before ++ grouped text)) (codes "*")))
       (append_items (grouped text) (grouped (after ++ before ++ grouped text) ++ codes "*") _ _ (once_items _ _ (grouped_item text _ a))
       (quantified_items _ K (IsFurther Is prefix suffix) (further_ways piece) ZeroOrMore (further_item text K Is piece a)))))
 
-  repeated_item : (text : List ℕ) (K : Type 0) (Is : Texts) (piece : Choice) → IsInside text (quiet K Is piece) → IsItemOf (repeated_regexp before text after) (between_sense K (Several Is prefix suffix) (several_ways prefix suffix piece) prefix suffix)
+  repeated_item : (text : List ℕ) (K : Type 0) (Is : Texts) (piece : WaysByText) → IsInside text (quiet K Is piece) → IsItemOf (repeated_regexp before text after) (between_sense K (Several Is prefix suffix) (several_ways prefix suffix piece) prefix suffix)
   repeated_item text K Is piece a = between_item _ K (Several Is prefix suffix) (several_ways prefix suffix piece) (several_inside text K Is piece a)
 
   -- A single piece between prefix and suffix.
@@ -253,7 +253,7 @@ module _ (options : OptionsView) (prefix suffix : List ℕ) (good_prefix : scala
   several_between : (Is : Texts) (modifier : PartModifier) → ((n : ℕ) → Allows modifier (suc n)) → (text : List ℕ) (captures : Captures) → Between (Several Is prefix suffix) prefix suffix captures text → GroupMeans Is false modifier prefix suffix text captures
   several_between Is modifier allowed text captures (core, cut, (n, is), all) = inr (n, core, allowed n, cut, is, all)
 
-  pub affixed_group : (modifier : PartModifier) (text : List ℕ) (K : Type 0) (Is : Texts) (piece : Choice) → IsInside text (quiet K Is piece) → AreItemsOf (affixed_regexp modifier before text after) (group_sense false modifier prefix suffix K Is piece)
+  pub affixed_group : (modifier : PartModifier) (text : List ℕ) (K : Type 0) (Is : Texts) (piece : WaysByText) → IsInside text (quiet K Is piece) → AreItemsOf (affixed_regexp modifier before text after) (group_sense false modifier prefix suffix K Is piece)
   affixed_group modifiers.None text K Is piece a =
       same_items _ (between_sense K Is piece prefix suffix) _ (one_more K modifiers.None false prefix suffix (between_sense K Is piece prefix suffix) Is piece (counted_same modifiers.None _) refl (λ t c good is. one_between Is modifiers.None refl t c is) (λ k. k) refl)
       (once_items _ _ (between_item text K Is piece a))

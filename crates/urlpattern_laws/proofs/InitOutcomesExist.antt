@@ -99,9 +99,9 @@ module _ {E : Type 0} (IsEngine : List ℕ → Result E ErrorView → Type 0) (o
 
   matcher_exists : (parts : List PartView) → ((before middle after : List PartView) → parts ≡ before ++ middle ++ after → Makes middle) → (matcher : MatcherView E) × IsMadeOf IsEngine options parts matcher
   matcher_exists parts makes =
-      let (front, middle, back, are_peeled) = peeled parts in
-      let (matcher, is_made) = between (end_text front) middle (end_text back) (makes (option_to_list front) middle (option_to_list back) are_peeled.cut) in
-      (matcher, record { front = front; middle = middle; back = back; are_peeled = are_peeled; is_made = is_made })
+      let (front, middle, back, are_stripped) = peeled parts in
+      let (matcher, is_made) = between (end_text front) middle (end_text back) (makes (option_to_list front) middle (option_to_list back) are_stripped.cut) in
+      (matcher, record { front = front; middle = middle; back = back; are_stripped = are_stripped; is_made = is_made })
 
 -- ---- rejected texts
 

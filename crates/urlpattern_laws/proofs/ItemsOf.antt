@@ -17,7 +17,7 @@ use Rattle.urlpattern_laws.proofs.Catching.{Catches, Then, catches_append}
 use Rattle.urlpattern_laws.proofs.Choices.{Cuts, Tries, cuts_followed, tries_append}
 use Rattle.urlpattern_laws.proofs.Senses.{Sense, SameSense, Fulfils, fulfils_empty, fulfils_last, fulfils_perhaps, fulfils_quantified, fulfils_quiet, fulfils_same, joined, no_text, perhaps, quiet}
 use Rattle.urlpattern_laws.specs.PartWays.{followed_by}
-use Rattle.urlpattern_meaning.specs.Ways.{Choice, quantified_ways}
+use Rattle.urlpattern_meaning.specs.Ways.{WaysByText, quantified_ways}
 use Rattle.urlpattern_meaning.specs.Dialect.{Quantifier, Once, Optional, quantifier_text}
 use Rattle.urlpattern_engine.proofs.ItemsRead.{Free, OpensItem, at_text, quantified, repeated_as}
 
@@ -234,7 +234,7 @@ repeated_items t s u q count known conv a = record {
       };
 }
 
-pub quantified_items : (t : Text) (K : Type 0) (Is : Texts) (ways : Choice) (q : Quantifier) → IsItemOf t (quiet K Is ways) → AreItemsOf (t ++ quantifier_text q) (quiet K (Quantified q Is) (quantified_ways q 0 ways))
+pub quantified_items : (t : Text) (K : Type 0) (Is : Texts) (ways : WaysByText) (q : Quantifier) → IsItemOf t (quiet K Is ways) → AreItemsOf (t ++ quantifier_text q) (quiet K (Quantified q Is) (quantified_ways q 0 ways))
 quantified_items t K Is ways q a = repeated_items t (quiet K Is ways) (quiet K (Quantified q Is) (quantified_ways q 0 ways)) q refl (λ k. k) (λ g sub f. fulfils_quantified K Is ways q g sub f) a
 
 pub once_items : (t : Text) (s : Sense) → IsItemOf t s → AreItemsOf t s
@@ -244,7 +244,7 @@ pub perhaps_items : (t : Text) (s : Sense) → IsItemOf t s → AreItemsOf (t ++
 perhaps_items t s a = repeated_items t s (perhaps s) Optional refl (λ k. k) (λ g sub f. fulfils_perhaps s g sub f) a
 
 -- An item that is not a group.
-pub atom_item : (t : Text) (sub : Nested Re) (Is : Texts) (ways : Choice) → ((rest : Text) → OpensItem (t ++ rest)) → ((rest : Text) → is_at "(" (t ++ rest) ≡ false) → ((rest : Text) → atom default_config (t ++ rest) ≡ Some (sub, rest))
+pub atom_item : (t : Text) (sub : Nested Re) (Is : Texts) (ways : WaysByText) → ((rest : Text) → OpensItem (t ++ rest)) → ((rest : Text) → is_at "(" (t ++ rest) ≡ false) → ((rest : Text) → atom default_config (t ++ rest) ≡ Some (sub, rest))
     → Denotes sub.value Is → is_groupless sub.value ≡ true → Cuts ways 0 → ((g : ℕ) → Tries g ways sub.value) → IsItemOf t (quiet (Unit {0}) Is ways)
 unfolding item
 atom_item t sub Is ways begins no_group reads d groupless cuts tries = record {

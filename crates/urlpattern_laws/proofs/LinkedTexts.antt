@@ -10,7 +10,7 @@ use Rattle.urlpattern_generate.specs.WriteSettings.{GivenView, WriteSettings}
 use Rattle.urlpattern_generate.specs.WrittenTexts.{IsWritten}
 use Rattle.urlpattern_init.specs.Inheritance.{texts_of_url}
 use Rattle.urlpattern_laws.proofs.RequestedCaptures.{asked_one, given_again}
-use Rattle.urlpattern_laws.specs.LinkLaws.{IsWrittenBack, LinksAreOne, LinksDiffer, LinksOfCapturesAreTheTexts}
+use Rattle.urlpattern_laws.specs.LinkLaws.{IsWritableFromCaptures, LinksAreOne, LinksDiffer, LinksOfCapturesAreTheTexts}
 use Rattle.urlpattern_generate.proofs.LinkLaws.{meant_captured, text_same}
 use Rattle.urlpattern_generate.specs.Links.{text_of_parts}
 use Rattle.urlpattern_meaning.specs.Matching.{Returns, MatcherView}
@@ -32,7 +32,7 @@ text_once settings parts text other is also =
 
 -- The text with the captures of a match is the text that was matched.
 text_again : {E : Type 0} (answer : E → List ℕ → Option Captures) (matcher : MatcherView E) (settings : WriteSettings) (parts : List PartView) (text other : List ℕ) (captures : Captures) → IsWritten settings parts text →
-    Returns answer matcher other (Some captures) → IsWrittenBack answer matcher settings parts other captures → text ≡ other
+    Returns answer matcher other (Some captures) → IsWritableFromCaptures answer matcher settings parts other captures → text ≡ other
 text_again answer matcher settings parts text other captures is answered it =
     let means = it.means answered in
     let asked = given_again settings settings.options parts captures it.are_given (meant_captured settings.options parts other captures means) it.are_canonical in

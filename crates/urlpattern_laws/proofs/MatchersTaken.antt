@@ -12,7 +12,7 @@ use Rattle.urlpattern_laws.proofs.Denoting.{Joined, AreSameTexts, joined_same}
 use Rattle.urlpattern_laws.proofs.ItemsOf.{joined_assoc, nothing_joined, same_then, same_texts}
 use Rattle.urlpattern_laws.proofs.GroupItems.{one_copy}
 use Rattle.urlpattern_laws.proofs.TakenMeanings.{means_takes, parts_take_meanings}
-use Rattle.urlpattern_laws.specs.LawsOfTexts.{HasNumbers, IsSomeIfMatched, IsTakenAlone, MatchersReturnIfMatched, Room, ValuesReturnIfMatched}
+use Rattle.urlpattern_laws.specs.LawsOfTexts.{HasMatcherPremises, HasNumbers, IsSomeIfMatched, MatchersReturnIfMatched, RegexpCondition, ValuesReturnIfMatched}
 use Rattle.urlpattern_laws.specs.MatchedPartTexts.{AllStandAlone, PartMatches, PartsMatch, IsSelfContained}
 use Rattle.urlpattern_meaning.proofs.MatcherMeaning.{HasEnds, ends_of, not_fast, scalars_middle}
 use Rattle.urlpattern_meaning.proofs.MatchingLaws.{IsFast, fast_means, middle_kept, part_of}
@@ -228,7 +228,7 @@ pub record IsOfMiddle {E : Type 0} (engine : Engine E) (Fits : (regexp : List �
   pub is_made : engine.IsMade value (regexp_text options middle) flags
 
 -- An expression of some of the parts is short enough if that of all parts is.
-abbrev pub HasRoomForFewer : Room → Type 0
+abbrev pub HasRoomForFewer : RegexpCondition → Type 0
 HasRoomForFewer Fits =
     (options : OptionsView) (parts middle : List PartView) → length (written options middle) ≤ length (written options parts) → Fits (regexp_text options parts) → Fits (regexp_text options middle)
 
@@ -237,8 +237,8 @@ abbrev pub TookAsKept : {E : Type 0} → Acceptance E → Keeping → Type 0
 TookAsKept {E} Accepted Keeps = (options : OptionsView) (flags : List ℕ) (inner : InnerView E) → options.ignore_case ≡ false → Accepted options flags inner → AcceptedText (λ value. Keeps flags) inner
 
 -- A matcher has no engine, or a value that was made of the text of the middle parts.
-pub matcher_asks : {E : Type 0} (engine : Engine E) (Keeps : Keeping) (Fits : Room) (Accepted : Acceptance E) → HasRoomForFewer Fits → TookAsKept Accepted Keeps
-    → (options : OptionsView) (flags : List ℕ) (parts : List PartView) (matcher : MatcherView E) (made : IsTakenAlone engine Fits Accepted options flags parts matcher)
+pub matcher_asks : {E : Type 0} (engine : Engine E) (Keeps : Keeping) (Fits : RegexpCondition) (Accepted : Acceptance E) → HasRoomForFewer Fits → TookAsKept Accepted Keeps
+    → (options : OptionsView) (flags : List ℕ) (parts : List PartView) (matcher : MatcherView E) (made : HasMatcherPremises engine Fits Accepted options flags parts matcher)
     → (Is : Type 0) → (IsFast matcher.inner → Is)
     → ((value : E) → matcher.inner ≡ RegExp (Ok value) → Keeps flags → HasEnds options matcher (end_text made.is_made.front) (end_text made.is_made.back)
     → IsOfMiddle engine Fits options flags made.is_made.middle value → Is)
@@ -253,19 +253,19 @@ matcher_asks {E} engine Keeps Fits Accepted shorter took options flags parts mat
         let m = made.is_made in
         asks value e keeps (ends_of (IsEngineOf engine false flags) options (end_text m.front) m.middle (end_text m.back) matcher (Ok value) m.is_made e)
         (record {
-          alone = middle_all (λ part. IsSelfContained part.kind part.value) parts m.front m.middle m.back m.are_peeled made.alone;
-          fits = shorter options parts m.middle (middle_length options parts m.front m.middle m.back m.are_peeled) made.fits;
+          alone = middle_all (λ part. IsSelfContained part.kind part.value) parts m.front m.middle m.back m.are_stripped made.alone;
+          fits = shorter options parts m.middle (middle_length options parts m.front m.middle m.back m.are_stripped) made.fits;
           is_made = made_between (IsEngineOf engine false flags) options (end_text m.front) m.middle (end_text m.back) matcher (Ok value) m.is_made e;
         })
 
 -- If the values of an engine return captures for the texts that the parts match, the matchers with
 -- accepted expressions do too.
-pub matchers_taken : {E : Type 0} (engine : Engine E) (Keeps : Keeping) (Fits : Room) (Accepted : Acceptance E) → ValuesReturnIfMatched engine Keeps Fits → HasRoomForFewer Fits → TookAsKept Accepted Keeps
+pub matchers_taken : {E : Type 0} (engine : Engine E) (Keeps : Keeping) (Fits : RegexpCondition) (Accepted : Acceptance E) → ValuesReturnIfMatched engine Keeps Fits → HasRoomForFewer Fits → TookAsKept Accepted Keeps
     → MatchersReturnIfMatched engine Fits Accepted
 matchers_taken engine Keeps Fits Accepted values shorter took options flags parts matcher made text result no_feed fine answers =
     let m = made.is_made in
     matcher_asks engine Keeps Fits Accepted shorter took options flags parts matcher made (IsSomeIfMatched options parts text result)
-    (λ is. fast_taken engine.answer options parts matcher text result (all_plain parts m.front m.middle m.back m.are_peeled (fast_plain (IsEngineOf engine false flags) options (end_text m.front) m.middle (end_text m.back) matcher m.is_made is))
+    (λ is. fast_taken engine.answer options parts matcher text result (all_plain parts m.front m.middle m.back m.are_stripped (fast_plain (IsEngineOf engine false flags) options (end_text m.front) m.middle (end_text m.back) matcher m.is_made is))
     (λ captures. fast_means engine.answer (IsEngineOf engine false flags) options parts matcher text captures m made.case_kept no_feed is) answers)
-    (λ value e keeps ends of. engine_taken engine.answer options parts m.front m.middle m.back matcher value text result m.are_peeled ends e made.case_kept
+    (λ value e keeps ends of. engine_taken engine.answer options parts m.front m.middle m.back matcher value text result m.are_stripped ends e made.case_kept
     (values options flags m.middle value keeps of.alone of.fits of.is_made) fine answers)

@@ -105,7 +105,7 @@ module _ {E : Type 0} (engine : Engine E) (settings : ParseSettings) where
     of_matcher =
         let made = is.has_matcher in
         took_too (IsEngineOf engine false (engine_flags settings.options)) settings.options parts compiled.matcher other.matcher made is_other.has_matcher
-        (either.of_matcher parts (option_to_list made.front) made.middle (option_to_list made.back) reads made.are_peeled.cut) has.of_matcher;
+        (either.of_matcher parts (option_to_list made.front) made.middle (option_to_list made.back) reads made.are_stripped.cut) has.of_matcher;
   }
 
   -- A component is not both compiled and rejected.

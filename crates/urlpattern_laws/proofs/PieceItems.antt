@@ -25,7 +25,7 @@ use Rattle.urlpattern_laws.proofs.ItemsOf.{AreItemsOf, IsItemOf, no_items, appen
 use Rattle.urlpattern_laws.proofs.Senses.{Sense, joined_quiet, quiet, quiet_same}
 use Rattle.urlpattern_laws.specs.MatchedPartTexts.{CapturesNothing, IsMatchedPiece, IsSelfContained}
 use Rattle.urlpattern_laws.specs.PartWays.{exactly, piece_ways}
-use Rattle.urlpattern_meaning.specs.Ways.{Choice, one_that, quantified_ways}
+use Rattle.urlpattern_meaning.specs.Ways.{WaysByText, one_that, quantified_ways}
 use Rattle.urlpattern_meaning.specs.Dialect.{Character, Plain, Escaped, character_of, character_text, ZeroOrMore, LazyOneOrMore, Dot, AnyBut, Literal, AtomMeans, IsCharacter, IsClassCharacter, IsOneBut, atom_text}
 use Rattle.urlpattern_meaning.specs.PartMeaning.{IsWildcardText}
 use Rattle.urlpattern_meaning.proofs.PartTreeAllowed.{text_allowed, wildcard_allowed}
@@ -60,7 +60,7 @@ not_open (Plain c) h rest = differs regexp_marks c 40 h refl
 not_open (Escaped c) h rest = refl
 
 -- The character `c`.
-abbrev one_of_text : ℕ → Choice
+abbrev one_of_text : ℕ → WaysByText
 one_of_text c = one_that (λ other. other == c)
 
 character_item : (ch : Character) → IsCharacter ch → IsScalar (character_of ch) → IsItemOf (character_text ch) (quiet (Unit {0}) (λ text. text ≡ character_of ch ∷ []) (one_of_text (character_of ch)))
@@ -134,7 +134,7 @@ unfolding one_of negate
 but_same c d scalar = below d scalar (not ((d == c) || false)) ∙ ap not (or-false (d == c))
 
 -- Any character except `c`.
-abbrev one_but : ℕ → Choice
+abbrev one_but : ℕ → WaysByText
 one_but c = one_that (λ other. not (other == c))
 
 tries_dot : (g : ℕ) → Tries g (one_but line_feed) any_character.value
@@ -213,11 +213,11 @@ piece_inside options FixedText value h stands = absurd (h refl)
 piece_inside options Regexp value h stands = custom_inside value stands
 piece_inside options SegmentWildcard value h stands =
     let Atoms : List ℕ → Type 0 = λ text. AtomMeans (segment_atom (escaped_marks options.syntax) options.delimiter) text [] in
-    let one : Choice = one_but (unwrap_or options.delimiter line_feed) in
-    let segment : Choice = quantified_ways LazyOneOrMore 0 one in
+    let one : WaysByText = one_but (unwrap_or options.delimiter line_feed) in
+    let segment : WaysByText = quantified_ways LazyOneOrMore 0 one in
     items_inside _ _ (same_items _ (quiet (Unit {0}) (Quantified LazyOneOrMore Atoms) segment) _ (quiet_same (Unit {0}) (Unit {0}) _ _ segment (segments_same options) (λ k. k))
     (subst (λ t. AreItemsOf t (quiet (Unit {0}) (Quantified LazyOneOrMore Atoms) segment)) (segment_text options.syntax options.delimiter)
     (quantified_items _ (Unit {0}) Atoms one LazyOneOrMore (segment_item options options.delimiter refl))))
 piece_inside options FullWildcard value h stands =
-    let full : Choice = quantified_ways ZeroOrMore 0 (one_but line_feed) in
+    let full : WaysByText = quantified_ways ZeroOrMore 0 (one_but line_feed) in
     items_inside _ _ (same_items _ _ _ (quiet_same (Unit {0}) (Unit {0}) _ _ full (full_same options) (λ k. k)) (quantified_items _ (Unit {0}) (λ text. AtomMeans Dot text []) (one_but line_feed) ZeroOrMore dot_item))

@@ -75,7 +75,7 @@ module _ {E : Type 0} (IsEngine : List ℕ → Result E ErrorView → Type 0) (o
     front = option_map nameless made.front;
     middle = all_nameless made.middle;
     back = option_map nameless made.back;
-    are_peeled = peeled_changed nameless (λ part. refl) parts made.front made.middle made.back made.are_peeled;
+    are_stripped = peeled_changed nameless (λ part. refl) parts made.front made.middle made.back made.are_stripped;
     is_made =
         subst (λ (begin : List ℕ). IsMadeBetween IsEngine options begin (all_nameless made.middle) (end_text (option_map nameless made.back)) matcher) (end_nameless made.front)
         (subst (λ (end : List ℕ). IsMadeBetween IsEngine options (end_text made.front) (all_nameless made.middle) end matcher) (end_nameless made.back)
@@ -120,7 +120,7 @@ module _ {E : Type 0} (engine : Engine E) (alike : ExpressionsReturnAlike engine
     where
       settled_middle : Settled parts → Settled made.middle
       settled_middle (inl kept) = inl kept
-      settled_middle (inr generated) = inr (middle_generated parts made.front made.middle made.back made.are_peeled generated)
+      settled_middle (inr generated) = inr (middle_generated parts made.front made.middle made.back made.are_stripped generated)
 
       by : AreAlike IsEngine options (end_text made.front) made.middle (end_text made.back) matcher other → IsMatched engine.answer matcher text
       by (inl same) = subst (λ (m : MatcherView E). IsMatched engine.answer m text) (sym same) matched
@@ -144,5 +144,5 @@ made_matched {E} engine alike pattern asked parts asked_parts made also name unk
     let others_nameless : IsMadeOf (IsEngineOf engine false (engine_flags options)) options (all_nameless own) (asked name).matcher =
     subst (λ (ps : List PartView). IsMadeOf (IsEngineOf engine false (engine_flags options)) options ps (asked name).matcher) (sym (same_nameless component other same))
     (made_nameless (IsEngineOf engine false (engine_flags options)) options (parts_view other.parts.items) (asked name).matcher others) in
-    same_matched engine alike options (all_nameless own) (pattern name).matcher (asked name).matcher (settled_nameless options own same.settled)
+    same_matched engine alike options (all_nameless own) (pattern name).matcher (asked name).matcher (settled_nameless options own same.kept_or_generated)
     (made_nameless (IsEngineOf engine false (engine_flags options)) options own (pattern name).matcher one.is_component.has_matcher) others_nameless one.has_engine.of_matcher

@@ -12,7 +12,7 @@ use Rattle.urlpattern_laws.specs.Expressions.{is_groupless}
 use Rattle.urlpattern_laws.specs.PartWays.{captured_whole, followed_by}
 use Rattle.urlpattern_meaning.specs.Dialect.{Quantifier, Optional, ZeroOrMore}
 use Rattle.urlpattern_meaning.specs.PartMeaning.{Captures}
-use Rattle.urlpattern_meaning.specs.Ways.{Choice, empty_way, quantified_ways}
+use Rattle.urlpattern_meaning.specs.Ways.{WaysByText, empty_way, quantified_ways}
 use Rattle.urlpattern_engine.proofs.ItemsRead.{repeated_as}
 
 -- The texts of a pattern, and, if `Known` holds: the number of captures, the captures and the ways,
@@ -22,10 +22,10 @@ pub record Sense : Type 1 where
   pub count : ℕ
   pub Cap : List ℕ → Captures → Type 0
   pub Known : Type 0
-  pub ways : Choice
+  pub ways : WaysByText
 
 -- A sense without captures.
-abbrev pub quiet : Type 0 → Texts → Choice → Sense
+abbrev pub quiet : Type 0 → Texts → WaysByText → Sense
 quiet Known Is ways = record { Is = Is; count = 0; Cap = Only Is; Known = Known; ways = ways }
 
 abbrev pub joined : Sense → Sense → Sense
@@ -45,10 +45,10 @@ pub record SameSense (s u : Sense) : Type 0 where
   pub known : u.Known → s.Known
   pub ways : s.ways ≡ u.ways
 
-pub quiet_same : (K L : Type 0) (A B : Texts) (ways : Choice) → AreSameTexts A B → (L → K) → SameSense (quiet K A ways) (quiet L B ways)
+pub quiet_same : (K L : Type 0) (A B : Texts) (ways : WaysByText) → AreSameTexts A B → (L → K) → SameSense (quiet K A ways) (quiet L B ways)
 quiet_same K L A B ways p known = record { texts = p; count = refl; caps = λ text captures good is. ((p text good).0 is.0, is.1); known = known; ways = refl }
 
-pub joined_quiet : (K L M : Type 0) (A B C : Texts) (first next : Choice) → AreSameTexts (Joined A B) C → (M → K × L) → SameSense (joined (quiet K A first) (quiet L B next)) (quiet M C (followed_by first next))
+pub joined_quiet : (K L M : Type 0) (A B C : Texts) (first next : WaysByText) → AreSameTexts (Joined A B) C → (M → K × L) → SameSense (joined (quiet K A first) (quiet L B next)) (quiet M C (followed_by first next))
 joined_quiet K L M A B C first next p known = record {
   texts = p;
   count = omega arith;
@@ -86,12 +86,12 @@ fulfils_same s u g re p f = record {
   tries = λ k. subst (λ choice. Tries g choice re) p.ways (f.tries (p.known k));
 }
 
-pub fulfils_quiet : (K : Type 0) (Is : Texts) (ways : Choice) (g : ℕ) (re : Re) → Denotes re Is → (K → is_groupless re ≡ true) → (K → Cuts ways 0) → (K → Tries g ways re) → Fulfils (quiet K Is ways) g re
+pub fulfils_quiet : (K : Type 0) (Is : Texts) (ways : WaysByText) (g : ℕ) (re : Re) → Denotes re Is → (K → is_groupless re ≡ true) → (K → Cuts ways 0) → (K → Tries g ways re) → Fulfils (quiet K Is ways) g re
 fulfils_quiet K Is ways g re d h cuts tries =
     record { denotes = d; catches = λ k. catches_silent g re Is d (h k); groupless = λ k none. h k; numbered = λ k. omega (arith, groupless_count re (h k)); cuts = cuts; tries = tries }
 
 -- The empty text, in a single way.
-abbrev pub no_text : Choice
+abbrev pub no_text : WaysByText
 no_text text = empty_way 0 text ∷ []
 
 pub fulfils_empty : (g : ℕ) → Fulfils (quiet (Unit {0}) Nothing no_text) g empty
@@ -138,7 +138,7 @@ groupless_repeated Optional sub h = and_from _ _ (and_from _ _ h refl) refl
 groupless_repeated ZeroOrMore sub h = and_from _ _ h refl
 groupless_repeated quantifier sub h = h
 
-pub fulfils_quantified : (K : Type 0) (Is : Texts) (ways : Choice) (q : Quantifier) (g : ℕ) (sub : Nested Re) → Fulfils (quiet K Is ways) g sub.value → Fulfils (quiet K (Quantified q Is) (quantified_ways q 0 ways)) g (repeated_as q sub).value
+pub fulfils_quantified : (K : Type 0) (Is : Texts) (ways : WaysByText) (q : Quantifier) (g : ℕ) (sub : Nested Re) → Fulfils (quiet K Is ways) g sub.value → Fulfils (quiet K (Quantified q Is) (quantified_ways q 0 ways)) g (repeated_as q sub).value
 fulfils_quantified K Is ways q g sub f =
     fulfils_quiet K (Quantified q Is) (quantified_ways q 0 ways) g (repeated_as q sub).value (denotes_quantified q sub Is f.denotes) (λ k. groupless_repeated q sub (f.groupless k refl))
     (λ k. cuts_quantified q 0 ways (allows_none q) (f.cuts k)) (λ k. tries_quantified g q 0 ways sub (allows_none q) (f.cuts k) (f.tries k))

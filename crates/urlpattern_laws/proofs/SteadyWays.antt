@@ -14,7 +14,7 @@ use Rattle.urlpattern_meaning.proofs.WayLists.{every-weaker}
 use Rattle.urlpattern_meaning.proofs.WaysCut.{Falls, IsCut, cut-append, cut-continued, cut-empty_way, cut-map, one-cut, taken-cut}
 use Rattle.urlpattern_meaning.proofs.WaysSound.{IsSound}
 use Rattle.urlpattern_meaning.specs.Dialect.{AllowsGroups, Quantifier, Optional, ZeroOrMore, OneOrMore, LazyOneOrMore}
-use Rattle.urlpattern_meaning.specs.Ways.{Choice, capturing, looped, one_that, empty_way, quantified_ways}
+use Rattle.urlpattern_meaning.specs.Ways.{WaysByText, capturing, looped, one_that, empty_way, quantified_ways}
 use Rattle.urlpattern_syntax.specs.Options.{OptionsView}
 use Rattle.urlpattern_syntax.specs.Parts.{PartView}
 use Rattle.urlpattern_syntax.specs.RegexpText.{is_empty}
@@ -24,13 +24,13 @@ use Rattle.urlpattern_syntax.specs.declared.parser.PartModifier.TheVariants as m
 use Rattle.urlpattern_syntax.specs.declared.parser.PartType.{PartType}
 use Rattle.urlpattern_syntax.specs.declared.parser.PartType.TheVariants.{FixedText, Regexp, SegmentWildcard, FullWildcard}
 
-falls_of : (choice : Choice) (n : ℕ) → Cuts choice n → Falls choice
+falls_of : (choice : WaysByText) (n : ℕ) → Cuts choice n → Falls choice
 falls_of choice n cuts text =
     every-weaker (IsSound text (HasCaptures n)) _ (choice text) (λ way p. omega (arith, ap length p.0, length-append way.taken way.rest)) (cuts text)
 
 -- Each way splits the text, with `count` captures, and the ways in a longer text that leave its end
 -- whole are those in the shorter one.
-pub record Steady (choice : Choice) (count : ℕ) : Type 0 where
+pub record Steady (choice : WaysByText) (count : ℕ) : Type 0 where
   pub cuts : Cuts choice count
   pub same : (s : List ℕ) → IsCut s choice choice
 
@@ -45,31 +45,31 @@ steady_nothing = record { cuts = λ text. tt; same = λ s inner. refl }
 steady_one : (passes : ℕ → Bool) → Steady (one_that passes) 0
 steady_one passes = record { cuts = cuts_one passes; same = λ s inner. one-cut s passes inner }
 
-steady_followed : (first next : Choice) (m n : ℕ) → Steady first m → Steady next n → Steady (followed_by first next) (m + n)
+steady_followed : (first next : WaysByText) (m n : ℕ) → Steady first m → Steady next n → Steady (followed_by first next) (m + n)
 steady_followed first next m n p q = record {
   cuts = cuts_followed first next m n p.cuts q.cuts;
   same = λ s inner. cut-continued s next next (falls_of next n q.cuts) (q.same s) (first (inner ++ s)) (first inner) (p.same s inner);
 }
 
-steady_either : (first other : Choice) (n : ℕ) → Steady first n → Steady other n → Steady (λ text. first text ++ other text) n
+steady_either : (first other : WaysByText) (n : ℕ) → Steady first n → Steady other n → Steady (λ text. first text ++ other text) n
 steady_either first other n p q = record {
   cuts = cuts_either first other n p.cuts q.cuts;
   same = λ s inner. cut-append s (first (inner ++ s)) (other (inner ++ s)) (first inner) (other inner) (p.same s inner) (q.same s inner);
 }
 
-steady_captured : (choice : Choice) (n : ℕ) → Steady choice n → Steady (captured_whole choice) (suc n)
+steady_captured : (choice : WaysByText) (n : ℕ) → Steady choice n → Steady (captured_whole choice) (suc n)
 steady_captured choice n p = record {
   cuts = cuts_captured choice n p.cuts;
   same = λ s inner. cut-map s capturing capturing (λ way. refl) (λ way. refl) (choice (inner ++ s)) (choice inner) (p.same s inner);
 }
 
-steady_quantified : (quantifier : Quantifier) (groups : ℕ) (choice : Choice) → AllowsGroups quantifier groups → Steady choice groups → Steady (quantified_ways quantifier groups choice) groups
+steady_quantified : (quantifier : Quantifier) (groups : ℕ) (choice : WaysByText) → AllowsGroups quantifier groups → Steady choice groups → Steady (quantified_ways quantifier groups choice) groups
 steady_quantified quantifier groups choice allowed p = record {
   cuts = cuts_quantified quantifier groups choice allowed p.cuts;
   same = λ s. taken-cut s quantifier groups choice (falls_of choice groups p.cuts) (p.same s);
 }
 
-steady_looped : (greedy : Bool) (choice : Choice) → Steady choice 0 → Steady (looped greedy choice) 0
+steady_looped : (greedy : Bool) (choice : WaysByText) → Steady choice 0 → Steady (looped greedy choice) 0
 steady_looped true choice p = steady_quantified OneOrMore 0 choice refl p
 steady_looped false choice p = steady_quantified LazyOneOrMore 0 choice refl p
 
@@ -109,33 +109,33 @@ steady_fixed modifiers.Optional value = steady_quantified Optional 0 (exactly va
 steady_fixed modifiers.ZeroOrMore value = steady_quantified ZeroOrMore 0 (exactly value) refl (steady_exactly value)
 steady_fixed modifiers.OneOrMore value = steady_quantified OneOrMore 0 (exactly value) refl (steady_exactly value)
 
-steady_bare : (modifier : PartModifier) (piece : Choice) → Steady piece 0 → Steady (bare_ways modifier piece) 1
+steady_bare : (modifier : PartModifier) (piece : WaysByText) → Steady piece 0 → Steady (bare_ways modifier piece) 1
 steady_bare modifiers.None piece p = steady_captured piece 0 p
 steady_bare modifiers.Optional piece p = steady_quantified Optional 1 (captured_whole piece) tt (steady_captured piece 0 p)
 steady_bare modifiers.ZeroOrMore piece p = steady_captured (quantified_ways ZeroOrMore 0 piece) 0 (steady_quantified ZeroOrMore 0 piece refl p)
 steady_bare modifiers.OneOrMore piece p = steady_captured (quantified_ways OneOrMore 0 piece) 0 (steady_quantified OneOrMore 0 piece refl p)
 
 module _ (prefix suffix : List ℕ) where
-  steady_between : (core : Choice) → Steady core 0 → Steady (between_ways prefix suffix core) 1
+  steady_between : (core : WaysByText) → Steady core 0 → Steady (between_ways prefix suffix core) 1
   steady_between core p =
       steady_followed (followed_by (exactly prefix) (captured_whole core)) (exactly suffix) 1 0
       (steady_followed (exactly prefix) (captured_whole core) 0 1 (steady_exactly prefix) (steady_captured core 0 p)) (steady_exactly suffix)
 
-  steady_several : (piece : Choice) → Steady piece 0 → Steady (several_ways prefix suffix piece) 0
+  steady_several : (piece : WaysByText) → Steady piece 0 → Steady (several_ways prefix suffix piece) 0
   steady_several piece p =
-      let further : Choice = followed_by (followed_by (exactly suffix) (exactly prefix)) piece in
+      let further : WaysByText = followed_by (followed_by (exactly suffix) (exactly prefix)) piece in
       steady_followed piece (quantified_ways ZeroOrMore 0 further) 0 0 p
       (steady_quantified ZeroOrMore 0 further refl
       (steady_followed (followed_by (exactly suffix) (exactly prefix)) piece 0 0 (steady_followed (exactly suffix) (exactly prefix) 0 0 (steady_exactly suffix) (steady_exactly prefix)) p))
 
-  steady_affixed : (modifier : PartModifier) (piece : Choice) → Steady piece 0 → Steady (affixed_ways modifier prefix suffix piece) 1
+  steady_affixed : (modifier : PartModifier) (piece : WaysByText) → Steady piece 0 → Steady (affixed_ways modifier prefix suffix piece) 1
   steady_affixed modifiers.None piece p = steady_between piece p
   steady_affixed modifiers.Optional piece p = steady_quantified Optional 1 (between_ways prefix suffix piece) tt (steady_between piece p)
   steady_affixed modifiers.OneOrMore piece p = steady_between (several_ways prefix suffix piece) (steady_several piece p)
   steady_affixed modifiers.ZeroOrMore piece p =
       steady_quantified Optional 1 (between_ways prefix suffix (several_ways prefix suffix piece)) tt (steady_between (several_ways prefix suffix piece) (steady_several piece p))
 
-  steady_copies : (is_bare : Bool) (modifier : PartModifier) (piece : Choice) → Steady piece 0 → Steady (copies_ways is_bare modifier prefix suffix piece) 1
+  steady_copies : (is_bare : Bool) (modifier : PartModifier) (piece : WaysByText) → Steady piece 0 → Steady (copies_ways is_bare modifier prefix suffix piece) 1
   steady_copies true modifier piece p = steady_bare modifier piece p
   steady_copies false modifier piece p = steady_affixed modifier piece p
 

@@ -22,7 +22,7 @@ use Rattle.urlpattern_meaning.proofs.WaysSound.{IsSound, AreSound}
 use Rattle.urlpattern_meaning.specs.Dialect.{Nothing}
 use Rattle.urlpattern_meaning.specs.Matching.{AreStripped, IsRemoved, end_text}
 use Rattle.urlpattern_meaning.specs.PartMeaning.{Captures}
-use Rattle.urlpattern_meaning.specs.Ways.{Way, Choice, continued, empty_way, joined_way, one_that, ways}
+use Rattle.urlpattern_meaning.specs.Ways.{Way, WaysByText, continued, empty_way, joined_way, one_that, ways}
 use Rattle.urlpattern_syntax.specs.Options.{OptionsView}
 use Rattle.urlpattern_syntax.specs.Parts.{PartView}
 use Rattle.urlpattern_syntax.specs.RegexpText.{is_fixed_text, is_unmodified}
@@ -33,7 +33,7 @@ use Rattle.urlpattern_syntax.specs.declared.parser.PartType.TheVariants.{FixedTe
 
 -- ---- the meaning of ways
 
-sound_followed : (first next : Choice) (A B : Caps) → AreSound first A → AreSound next B → AreSound (followed_by first next) (Then A B)
+sound_followed : (first next : WaysByText) (A B : Caps) → AreSound first A → AreSound next B → AreSound (followed_by first next) (Then A B)
 sound_followed first next A B sound also text =
     every-continued (IsSound text A) (IsSound text (Then A B)) next (first text) (sound text)
     (λ way p. every-weaker (IsSound way.rest B) _ (next way.rest)
@@ -76,7 +76,7 @@ continued_idle (way ∷ xs) =
     ap₂ (λ (w : Way) (l : List Way). w ∷ l) same (continued_idle xs)
 
 -- No choice before a choice.
-idle_continued : (next : Choice) (text : List ℕ) → next text ≡ continued next (empty_way 0 text ∷ [])
+idle_continued : (next : WaysByText) (text : List ℕ) → next text ≡ continued next (empty_way 0 text ∷ [])
 idle_continued next text = sym (append-nil (map (joined_way (empty_way 0 text)) (next text)) ∙ map-id (next text))
 
 -- ---- a given text
@@ -94,7 +94,7 @@ seen_after given rest [] = refl
 seen_after given rest (way ∷ xs) = ap (λ l. seen_of way ∷ l) (seen_after given rest xs)
 
 -- A given text matches itself at the start of a text.
-first_after : (given rest : List ℕ) (next : Choice) → first_of (continued next (exactly given (given ++ rest))) ≡ first_of (next rest)
+first_after : (given rest : List ℕ) (next : WaysByText) → first_of (continued next (exactly given (given ++ rest))) ≡ first_of (next rest)
 first_after given rest next =
     let xs = map (joined_way (way_of given [] rest)) (next rest) in
     ap (λ all. first_of (continued next all)) (exactly_here given rest) ∙ ap first_of (append-nil xs) ∙ first_seen xs (next rest) (seen_after given rest (next rest))
@@ -103,7 +103,7 @@ first_after given rest next =
 pub exactly_put : (marks given : List ℕ) → exactly given ≡ ways (put marks given Nothing)
 exactly_put marks [] = refl
 exactly_put marks (c ∷ given) =
-    ap₂ (λ (next : Choice) (x : ℕ). followed_by (one_that (λ other. other == x)) next) (exactly_put marks given) (sym (character_same marks c))
+    ap₂ (λ (next : WaysByText) (x : ℕ). followed_by (one_that (λ other. other == x)) next) (exactly_put marks given) (sym (character_same marks c))
 
 -- ---- a given text at the end
 
@@ -166,7 +166,7 @@ module _ (options : OptionsView) where
   append_ways [] others text = idle_continued (parts_ways options others) text
   append_ways (part ∷ parts) others text =
       let front = part_ways_by part.kind options part text in
-      ap (λ (next : Choice). continued next front) (fun_ext (append_ways parts others)) ∙ continued-twice (parts_ways options parts) (parts_ways options others) front
+      ap (λ (next : WaysByText). continued next front) (fun_ext (append_ways parts others)) ∙ continued-twice (parts_ways options parts) (parts_ways options others) front
 
   plain_ways_by : (kind : PartType) (modifier : PartModifier) (value name prefix suffix text : List ℕ) → IsTrue (is_fixed_text kind && is_unmodified modifier) →
       parts_ways options (part_of kind modifier value name prefix suffix ∷ []) text ≡ exactly value text
@@ -180,21 +180,21 @@ module _ (options : OptionsView) where
 
   module _ (parts : List PartView) (front : Option PartView) (middle : List PartView) (back : Option PartView) (peeled : AreStripped parts front middle back) where
     -- The middle parts, and the text of the final end.
-    abbrev rest_ways : Choice
+    abbrev rest_ways : WaysByText
     rest_ways = followed_by (parts_ways options middle) (exactly (end_text back))
 
     peeled_ways : parts_ways options parts ≡ followed_by (exactly (end_text front)) rest_ways
     peeled_ways =
         ap (parts_ways options) (peeled.cut ∙ append_assoc (option_to_list front) middle (option_to_list back))
         ∙ fun_ext (append_ways (option_to_list front) (middle ++ option_to_list back))
-        ∙ ap₂ (λ (first next : Choice). followed_by first next) (end_ways front _ peeled.front_removed)
-        (fun_ext (append_ways middle (option_to_list back)) ∙ ap (λ (last : Choice). followed_by (parts_ways options middle) last) (end_ways back _ peeled.back_removed))
+        ∙ ap₂ (λ (first next : WaysByText). followed_by first next) (end_ways front _ peeled.front_removed)
+        (fun_ext (append_ways middle (option_to_list back)) ∙ ap (λ (last : WaysByText). followed_by (parts_ways options middle) last) (end_ways back _ peeled.back_removed))
 
     pub first_peeled : (inner : List ℕ) → parts_first_way options parts (end_text front ++ inner ++ end_text back) ≡ parts_first_way options middle inner
     unfolding parts_first_way
     first_peeled inner =
         let B = end_text back in
-        ap₂ (λ (choice : Choice) (text : List ℕ). first_of (choice text)) peeled_ways (append_assoc (end_text front) inner B)
+        ap₂ (λ (choice : WaysByText) (text : List ℕ). first_of (choice text)) peeled_ways (append_assoc (end_text front) inner B)
         ∙ first_after (end_text front) (inner ++ B) rest_ways
         ∙ first_before B (parts_ways options middle (inner ++ B)) (parts_ways options middle inner) ((steady_parts options middle).same B inner)
 
@@ -204,7 +204,7 @@ module _ (options : OptionsView) where
 
     between_sound : AreSound (parts_ways options parts) Between
     between_sound text =
-        subst (λ (choice : Choice). Every (IsSound text Between) (choice text)) (sym peeled_ways)
+        subst (λ (choice : WaysByText). Every (IsSound text Between) (choice text)) (sym peeled_ways)
         (every-weaker (IsSound text (Then (Given (end_text front)) (Then Any (Given (end_text back))))) _ (followed_by (exactly (end_text front)) rest_ways text)
         (λ way (cut, (first, rest, own, others, e, f, is_front, (inner, last, o, m, g, h, any, is_back))). (
           cut,

@@ -22,7 +22,7 @@ use Rattle.urlpattern_laws.proofs.PartItems.{parts_count, parts_items, parts_sen
 use Rattle.urlpattern_laws.proofs.ItemsOf.{values}
 use Rattle.urlpattern_laws.proofs.Senses.{Fulfils}
 use Rattle.urlpattern_laws.proofs.WholeRead.{between_lines, found_captures, search_is, whole_read}
-use Rattle.urlpattern_laws.specs.LawsOfTexts.{HasNumbers, IsCapturedByParts, IsSomeIfMatched, Room, ValuesReturnIfMatched, ValuesCapture}
+use Rattle.urlpattern_laws.specs.LawsOfTexts.{HasNumbers, IsCapturedByParts, IsSomeIfMatched, RegexpCondition, ValuesReturnIfMatched, ValuesCapture}
 use Rattle.urlpattern_laws.specs.LawsOfWays.{FirstWaysAreCaptured, ValuesReturnFirstOfParts}
 use Rattle.urlpattern_laws.specs.PartCaptures.{PartsCapture}
 use Rattle.urlpattern_laws.specs.MatchedPartTexts.{AllCaptureNothing, AllStandAlone, PartsMatch}
@@ -117,7 +117,7 @@ first_captured options parts text alone silent good fine =
     (captured_by options parts is.0 is.1 silent count refl text fine found refl (λ some. search.0 (sym same ∙ some), λ takes. same ∙ search.1 takes))
 
 -- A value that returns the first way returns what the parts capture.
-captured_as_first : {E : Type 0} (engine : Engine E) (Keeps : Keeping) (Fits : Room) → ValuesReturnFirstOfParts engine Keeps Fits
+captured_as_first : {E : Type 0} (engine : Engine E) (Keeps : Keeping) (Fits : RegexpCondition) → ValuesReturnFirstOfParts engine Keeps Fits
     → ((value : E) (regexp flags : List ℕ) → engine.IsMade value regexp flags → scalars regexp ≡ true) → ValuesCapture engine Keeps Fits
 captured_as_first engine Keeps Fits first good options flags parts value keeps alone silent fits made text fine =
     subst (IsCapturedByParts options parts text) (sym (first options flags parts value keeps alone silent fits made text fine))

@@ -11,11 +11,12 @@ use Rattle.regex_syntax.specs.Grammar.{branches, read}
 use Rattle.regex_syntax.specs.Verdict.{default_config}
 use Rattle.urlpattern_syntax.specs.Text.{lacks}
 
--- The pattern matches the whole text, from its first byte to its last.
+-- The pattern, which a grammar reads in an expression, matches the text from its first byte to its
+-- last.
 abbrev pub MatchesWhole : Re → (text : List ℕ) → Type 0
 MatchesWhole pattern text = Matches (encode_utf8_all text) pattern 0 (length (encode_utf8_all text))
 
--- The grammar reads the expression as a pattern that matches the whole text.
+-- The grammar of `regex` reads the expression by itself, as a pattern that matches the whole text.
 abbrev pub ExpressionMatches : (expression text : List ℕ) → Type 0
 ExpressionMatches expression text =
     IsSomeAnd (read default_config expression) (λ (pattern, names). MatchesWhole pattern.value text)
@@ -26,12 +27,13 @@ ExpressionMatches expression text =
 abbrev pub is_one_character : (bytes : List ℕ) → Bool
 is_one_character bytes = is_some_and (char_at bytes 0) (λ c. len_utf8 c == length bytes)
 
--- Whether there are no ranges.
+-- Whether the list of ranges is empty.
 abbrev pub is_nothing : List (ℕ × ℕ) → Bool
 is_nothing [] = true
 is_nothing ranges = false
 
--- Whether the pattern matches whole characters only: it has no byte classes and no assertions.
+-- Whether each step of the pattern matches a single character: each literal is a character, byte
+-- classes are empty, and there are no assertions.
 abbrev pub matches_characters : Re → Bool
 matches_characters empty = true
 matches_characters (literal bytes) = is_one_character bytes
@@ -47,8 +49,8 @@ matches_characters (plus greedy inner) = matches_characters inner
 abbrev pub comment_sign : ℕ
 comment_sign = 0x23
 
--- Whether the grammar reads the expression as steps that match characters, and no `#` can hide the
--- text after it in a comment.
+-- Whether the expression stands alone: the grammar reads it as steps that match characters, and it
+-- has no `#`, after which the text that follows could be a comment.
 unfoldable pub is_self_contained : (expression : List ℕ) → Bool
 is_self_contained expression =
     lacks comment_sign expression

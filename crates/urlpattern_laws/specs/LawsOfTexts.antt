@@ -34,13 +34,15 @@ ReadsInGroups =
     ((text : List ℕ) → IsTrue (all_scalars text)
     → MatchesWhole (join alt_all patterns).value text ↔ ExpressionMatches expression text))
 
--- Parts without a custom one match the texts that they mean.
+-- Parts without a custom one match a text, as `PartsMatch` says, exactly if they mean the text with
+-- some captures.
 abbrev pub PartsMatchMeanings : Type 0
 PartsMatchMeanings =
     (options : OptionsView) (parts : List PartView) (text : List ℕ) → AreGenerated parts →
     PartsMatch options parts text ↔ ((captures : Captures) × PartsMean options parts text captures)
 
--- Parts without a custom one capture what they mean.
+-- Parts without a custom one have captures in a text, as `PartsCapture` says, exactly if they mean
+-- the text with these captures.
 abbrev pub PartsCaptureMeanings : Type 0
 PartsCaptureMeanings =
     (options : OptionsView) (parts : List PartView) (text : List ℕ) (captures : Captures)
@@ -48,7 +50,7 @@ PartsCaptureMeanings =
     →
     PartsCapture options parts text captures ↔ PartsMean options parts text captures
 
--- Parts have a capture for each name.
+-- The captures that parts have in a text are as many as the names of their groups.
 abbrev pub CapturesAreAsNames : Type 0
 CapturesAreAsNames =
     (options : OptionsView) (parts : List PartView) (text : List ℕ) (captures : Captures)
@@ -56,28 +58,30 @@ CapturesAreAsNames =
     →
     length captures ≡ length (group_names parts)
 
--- The result has captures exactly if the parts match the text.
+-- `result` is captures, not `None`, exactly if the parts match the text.
 abbrev pub IsSomeIfMatched : OptionsView → List PartView → (text : List ℕ) → Option Captures
     → Type 0
 IsSomeIfMatched options parts text result = IsSome result ↔ PartsMatch options parts text
 
--- The result is the captures of the parts, or `None` if they do not match the text.
+-- The result is captures that the parts have in the text, or `None` if the parts do not match the
+-- text.
 abbrev pub IsCapturedByParts : OptionsView → List PartView → (text : List ℕ) → Option Captures
     → Type 0
 IsCapturedByParts options parts text (Some captures) = PartsCapture options parts text captures
 IsCapturedByParts options parts text None = ¬ PartsMatch options parts text
 
--- A limit on the length of a regular expression.
-abbrev pub Room : Type 1
-Room = (regexp : List ℕ) → Type 0
+-- A condition on regular expressions, such as a limit on their length.
+abbrev pub RegexpCondition : Type 1
+RegexpCondition = (regexp : List ℕ) → Type 0
 
--- The grammar has a number for each group of an expression of this length.
-abbrev pub HasNumbers : Room
+-- The regular expression is so short that the grammar has a number for each of its groups.
+abbrev pub HasNumbers : RegexpCondition
 HasNumbers regexp = length regexp ≤ 2 ^ 32
 
--- A value that the engine made of parts returns captures exactly if the parts match. Custom
--- expressions stand alone.
-abbrev pub ValuesReturnIfMatched : {E : Type 0} → Engine E → Keeping → Room → Type 0
+-- A value that the engine made of the regular expression of parts returns captures for a text
+-- exactly if the parts match the text. Premises: `Keeps` holds of the flags and `Fits` of the
+-- expression, and custom expressions stand alone.
+abbrev pub ValuesReturnIfMatched : {E : Type 0} → Engine E → Keeping → RegexpCondition → Type 0
 ValuesReturnIfMatched {E} engine Keeps Fits =
     (options : OptionsView) (flags : List ℕ) (parts : List PartView) (value : E) → Keeps flags →
     AllStandAlone parts → Fits (regexp_text options parts) →
@@ -85,9 +89,10 @@ ValuesReturnIfMatched {E} engine Keeps Fits =
     (text : List ℕ) → IsTrue (all_scalars text)
     → IsSomeIfMatched options parts text (engine.answer value text)
 
--- A value that the engine made of parts returns their captures. Custom expressions stand alone and
--- capture nothing themselves.
-abbrev pub ValuesCapture : {E : Type 0} → Engine E → Keeping → Room → Type 0
+-- A value that the engine made of the regular expression of parts returns captures that the parts
+-- have in the text, or `None` if they do not match. Premises: `Keeps` holds of the flags and `Fits`
+-- of the expression, and custom expressions stand alone and capture nothing themselves.
+abbrev pub ValuesCapture : {E : Type 0} → Engine E → Keeping → RegexpCondition → Type 0
 ValuesCapture {E} engine Keeps Fits =
     (options : OptionsView) (flags : List ℕ) (parts : List PartView) (value : E) → Keeps flags →
     AllStandAlone parts → AllCaptureNothing parts → Fits (regexp_text options parts) →
@@ -95,9 +100,10 @@ ValuesCapture {E} engine Keeps Fits =
     (text : List ℕ) → IsTrue (all_scalars text)
     → IsCapturedByParts options parts text (engine.answer value text)
 
--- The engine made the matcher of parts whose custom expressions stand alone, case is kept, and the
--- engine, where one is needed, accepted its text.
-pub record IsTakenAlone {E : Type 0} (engine : Engine E) (Fits : (regexp : List ℕ) → Type 0)
+-- The premises on a matcher: the engine made it of the parts, custom expressions stand alone,
+-- `Fits` holds of the regular expression, case is kept, and `Accepted` says that the engine, where
+-- one is needed, accepted its regular expression.
+pub record HasMatcherPremises {E : Type 0} (engine : Engine E) (Fits : (regexp : List ℕ) → Type 0)
     (Accepted : Acceptance E)
     (options : OptionsView) (flags : List ℕ) (parts : List PartView) (matcher : MatcherView E) :
     Type 0 where
@@ -107,29 +113,34 @@ pub record IsTakenAlone {E : Type 0} (engine : Engine E) (Fits : (regexp : List 
   pub case_kept : options.ignore_case ≡ false
   pub took : Accepted options flags matcher.inner
 
--- A matcher made of parts returns captures for a text without line feeds exactly if the parts match
--- the text.
-abbrev pub MatchersReturnIfMatched : {E : Type 0} → Engine E → Room → Acceptance E → Type 0
+-- A matcher made of parts, under the premises of `HasMatcherPremises`, returns captures for a text
+-- without line feeds exactly if the parts match the text.
+abbrev pub MatchersReturnIfMatched : {E : Type 0} → Engine E → RegexpCondition → Acceptance E
+    → Type 0
 MatchersReturnIfMatched {E} engine Fits Accepted =
     (options : OptionsView) (flags : List ℕ) (parts : List PartView) (matcher : MatcherView E) →
-    IsTakenAlone engine Fits Accepted options flags parts matcher →
+    HasMatcherPremises engine Fits Accepted options flags parts matcher →
     EachResultIs engine.answer matcher (IsSomeIfMatched options parts)
 
--- A matcher made of parts returns their captures for a text without line feeds. Custom expressions
+-- A matcher made of parts, under the premises of `HasMatcherPremises`, returns captures that the
+-- parts have in a text without line feeds, or `None` if they do not match. Custom expressions
 -- capture nothing themselves.
-abbrev pub MatchersCapture : {E : Type 0} → Engine E → Room → Acceptance E → Type 0
+abbrev pub MatchersCapture : {E : Type 0} → Engine E → RegexpCondition → Acceptance E → Type 0
 MatchersCapture {E} engine Fits Accepted =
     (options : OptionsView) (flags : List ℕ) (parts : List PartView) (matcher : MatcherView E) →
-    IsTakenAlone engine Fits Accepted options flags parts matcher → AllCaptureNothing parts →
+    HasMatcherPremises engine Fits Accepted options flags parts matcher → AllCaptureNothing parts →
     EachResultIs engine.answer matcher (IsCapturedByParts options parts)
 
--- The flags ignore case as the options do, and the engine, where one is needed, accepted its text.
+-- The flags ignore case if and only if the options do, and the engine, where one is needed,
+-- accepted its regular expression.
 abbrev pub AcceptedAlone : {E : Type 0} → Acceptance E
 AcceptedAlone options flags inner = FlagsAgree options flags × AcceptedText (λ value. ⊤) inner
 
--- A component compiled to parts returns their captures, if case is kept and the engine, where one
--- is needed, accepted its text.
-abbrev pub ComponentsCapture : {E : Type 0} → Engine E → Room → Type 0
+-- The matcher of a component made of parts returns captures that the parts have in a text without
+-- line feeds, or `None` if they do not match. Premises: custom expressions stand alone and capture
+-- nothing themselves, `Fits` holds of the regular expression, case is kept, and the engine, where
+-- one is needed, accepted its regular expression.
+abbrev pub ComponentsCapture : {E : Type 0} → Engine E → RegexpCondition → Type 0
 ComponentsCapture {E} engine Fits =
     (options : OptionsView) (parts : List PartView) (component : ComponentView E)
     → IsComponentOf engine options parts component

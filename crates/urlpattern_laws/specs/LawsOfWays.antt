@@ -1,12 +1,12 @@
--- Statements of the laws on the captures that are returned for parts with custom expressions: those
--- of the first way.
+-- Statements of the laws on the captures that are returned for parts with custom expressions: the
+-- captures of the first way in which the parts match the whole text.
 use Rattle.std.specs.Prelude.{◌≡◌, ⊤, ℕ, false, List, IsTrue}
 use Rattle.std.specs.Str.{all_scalars}
 use Rattle.urlpattern_matcher.specs.Components.{ComponentView, IsComponentOf}
 use Rattle.urlpattern_matcher.specs.FirstWays.{Keeping, Acceptance}
 use Rattle.urlpattern_printing.specs.Generated.{AreGenerated}
 use Rattle.urlpattern_matcher.specs.declared.regexp.RegExp.{Ghosts as Engine}
-use Rattle.urlpattern_laws.specs.LawsOfTexts.{IsCapturedByParts, IsTakenAlone, Room}
+use Rattle.urlpattern_laws.specs.LawsOfTexts.{HasMatcherPremises, IsCapturedByParts, RegexpCondition}
 use Rattle.urlpattern_laws.specs.MatchedPartTexts.{AllCaptureNothing, AllStandAlone}
 use Rattle.urlpattern_laws.specs.PartWays.{parts_first_way}
 use Rattle.urlpattern_meaning.specs.Dialect.{IsTreeOf, Items}
@@ -15,7 +15,8 @@ use Rattle.urlpattern_meaning.specs.Matching.{EachResultIs, MatcherView}
 use Rattle.urlpattern_meaning.specs.Ways.{first_way}
 use Rattle.urlpattern_syntax.specs.{Options.OptionsView, Parts.PartView, RegexpText.regexp_text}
 
--- The first way of parts without a custom one is that of the tree of their regular expression.
+-- For parts without a custom one, the captures of their first way are those of the first way of the
+-- tree of their regular expression.
 abbrev pub FirstWaysAreOfTrees : Type 0
 FirstWaysAreOfTrees =
     (options : OptionsView) (parts : List PartView) (tree : Items) (text : List ℕ)
@@ -23,8 +24,8 @@ FirstWaysAreOfTrees =
     → IsTreeOf (regexp_text options parts) tree →
     parts_first_way options parts text ≡ first_way tree text
 
--- The first way of parts has the captures of the parts, or is `None` if they do not match the text.
--- Custom expressions stand alone and capture nothing themselves.
+-- The captures of the first way are captures that the parts have in the text, or `None` if the
+-- parts do not match it. Premises: custom expressions stand alone and capture nothing themselves.
 abbrev pub FirstWaysAreCaptured : Type 0
 FirstWaysAreCaptured =
     (options : OptionsView) (parts : List PartView) (text : List ℕ) → AllStandAlone parts
@@ -32,9 +33,10 @@ FirstWaysAreCaptured =
     IsTrue (all_scalars (regexp_text options parts)) → IsTrue (all_scalars text) →
     IsCapturedByParts options parts text (parts_first_way options parts text)
 
--- A value that the engine made of parts returns their first way. Custom expressions stand alone and
--- capture nothing themselves.
-abbrev pub ValuesReturnFirstOfParts : {E : Type 0} → Engine E → Keeping → Room → Type 0
+-- A value that the engine made of the regular expression of parts returns the captures of their
+-- first way. Premises: `Keeps` holds of the flags and `Fits` of the expression, and custom
+-- expressions stand alone and capture nothing themselves.
+abbrev pub ValuesReturnFirstOfParts : {E : Type 0} → Engine E → Keeping → RegexpCondition → Type 0
 ValuesReturnFirstOfParts {E} engine Keeps Fits =
     (options : OptionsView) (flags : List ℕ) (parts : List PartView) (value : E) → Keeps flags →
     AllStandAlone parts → AllCaptureNothing parts → Fits (regexp_text options parts) →
@@ -42,16 +44,20 @@ ValuesReturnFirstOfParts {E} engine Keeps Fits =
     (text : List ℕ) → IsTrue (all_scalars text)
     → engine.answer value text ≡ parts_first_way options parts text
 
--- A matcher made of parts returns their first way for each text without line feeds.
-abbrev pub MatchersReturnFirstOfParts : {E : Type 0} → Engine E → Room → Acceptance E → Type 0
+-- A matcher made of parts returns the captures of their first way for each text without line feeds.
+-- Premises: `HasMatcherPremises`, and custom expressions capture nothing themselves.
+abbrev pub MatchersReturnFirstOfParts : {E : Type 0} → Engine E → RegexpCondition → Acceptance E
+    → Type 0
 MatchersReturnFirstOfParts {E} engine Fits Accepted =
     (options : OptionsView) (flags : List ℕ) (parts : List PartView) (matcher : MatcherView E) →
-    IsTakenAlone engine Fits Accepted options flags parts matcher → AllCaptureNothing parts →
+    HasMatcherPremises engine Fits Accepted options flags parts matcher → AllCaptureNothing parts →
     EachResultIs engine.answer matcher (λ text result. result ≡ parts_first_way options parts text)
 
--- A component compiled to parts returns their first way, if case is kept and the engine, where one
--- is needed, accepted its regular expression.
-abbrev pub ComponentsReturnFirstOfParts : {E : Type 0} → Engine E → Room → Type 0
+-- The matcher of a component made of parts returns the captures of their first way for each text
+-- without line feeds. Premises: custom expressions stand alone and capture nothing themselves,
+-- `Fits` holds of the regular expression, case is kept, and the engine, where one is needed,
+-- accepted its expression.
+abbrev pub ComponentsReturnFirstOfParts : {E : Type 0} → Engine E → RegexpCondition → Type 0
 ComponentsReturnFirstOfParts {E} engine Fits =
     (options : OptionsView) (parts : List PartView) (component : ComponentView E)
     → IsComponentOf engine options parts component

@@ -1,4 +1,4 @@
--- Statements of the laws of links.
+-- Statements of the laws of links. `answer` is what a value of an engine returns for a text.
 use Rattle.std.specs.Prelude.{◌≡◌, ◌≢◌, ℕ, All, IfSome, List, Option, Some, map}
 use Rattle.url.specs.Parser.{Parsed}
 use Rattle.url.specs.Parts.{Parts}
@@ -19,8 +19,8 @@ use Rattle.urlpattern_pattern.specs.UrlPatterns.{UrlPattern}
 use Rattle.urlpattern_compare.specs.declared.pattern_parts.PatternParts.{PatternParts}
 use Rattle.urlpattern_syntax.specs.{Parts.PartView, RegexpText.group_names}
 
--- `Is` holds of the parts of a component, with the manner in which its text is written for the
--- groups.
+-- If the pattern keeps parts, `Is` holds of the settings with which a component's text is written
+-- for the groups, and of the component's parts.
 abbrev pub OfItsParts : {E : Type 0} → UrlPattern E → List GivenView → ComponentName
     → (Is : WriteSettings → List PartView → Type 0) → Type 0
 OfItsParts pattern groups component Is =
@@ -29,13 +29,15 @@ OfItsParts pattern groups component Is =
 
 -- ---- links with different groups
 
--- The groups of a component are to capture this.
+-- `captures` are what the groups of a component are to capture in a link with these groups, if the
+-- pattern keeps parts.
 abbrev pub AreToCapture : {E : Type 0} → UrlPattern E → List GivenView → ComponentName → Captures
     → Type 0
 AreToCapture pattern groups component captures =
     OfItsParts pattern groups component (λ settings parts. AreRequested settings parts captures)
 
--- Links whose groups are to capture different texts of a component have different texts there.
+-- Two links of a pattern whose groups are to capture different texts of a component have different
+-- texts there.
 abbrev pub LinksDiffer : {E : Type 0} → (answer : E → List ℕ → Option Captures) → Type 0
 LinksDiffer {E} answer =
     (pattern : UrlPattern E) (groups others : List GivenView) (url other : Parts)
@@ -54,18 +56,19 @@ LinksAreOne {E} answer = (pattern : UrlPattern E) (groups : List GivenView) (url
 
 -- ---- links with captures
 
--- A captured text is its own canonical form.
+-- The capture is its own canonical form, or `None`.
 abbrev pub IsCanonicalCapture : (canonical : List ℕ → Parsed (List ℕ)) → Option (List ℕ) → Type 0
 IsCanonicalCapture canonical capture = IfSome capture (IsCanonical canonical)
 
--- All captured texts are their own canonical forms.
+-- Each of the captures is its own canonical form, or `None`.
 abbrev pub AreCanonical : (canonical : List ℕ → Parsed (List ℕ)) → Captures → Type 0
 AreCanonical canonical captures = All (IsCanonicalCapture canonical) captures
 
--- The premises on parts, a text, its captures and the groups of a link: no fixed text has a
--- modifier, a text matched with the captures has them by the meaning of the parts, and the groups
--- are the captures, which are canonical.
-pub record IsWrittenBack {E : Type 0} (answer : E → List ℕ → Option Captures)
+-- The premises for a component's text to be written back from its captures: no fixed text of the
+-- parts has a modifier; if the matcher returns the captures for the text, the parts mean the text
+-- with them; the values given for the groups are the captures; and each captured text is its own
+-- canonical form.
+pub record IsWritableFromCaptures {E : Type 0} (answer : E → List ℕ → Option Captures)
     (matcher : MatcherView E) (settings : WriteSettings) (parts : List PartView) (text : List ℕ)
     (captures : Captures) : Type 0 where
   pub plain : HavePlainTexts parts
@@ -74,14 +77,18 @@ pub record IsWrittenBack {E : Type 0} (answer : E → List ℕ → Option Captur
   pub are_given : map settings.given (group_names parts) ≡ captures
   pub are_canonical : AreCanonical settings.canonical captures
 
--- The parts of a component, its text and its captures meet the premises.
-abbrev pub TextIsWrittenBack : {E : Type 0} → (answer : E → List ℕ → Option Captures) → UrlPattern E
+-- `IsWritableFromCaptures` holds of a component of the pattern, with the text, the captures and the
+-- groups of a link.
+abbrev pub TextIsWritableFromCaptures : {E : Type 0} → (answer : E → List ℕ → Option Captures)
+    → UrlPattern E
     → List GivenView → ComponentName → (text : List ℕ) → Captures → Type 0
-TextIsWrittenBack answer pattern groups component text captures =
+TextIsWritableFromCaptures answer pattern groups component text captures =
     OfItsParts pattern groups component (λ settings parts.
-    IsWrittenBack answer (pattern_view pattern component).matcher settings parts text captures)
+    IsWritableFromCaptures answer (pattern_view pattern component).matcher settings parts text
+    captures)
 
--- A link with the captures of eight texts has these texts.
+-- A link whose groups are the captures of eight texts has these texts, if
+-- `TextIsWritableFromCaptures` holds of each component.
 abbrev pub LinksOfCapturesAreTheTexts : {E : Type 0} → (answer : E → List ℕ → Option Captures)
     → Type 0
 LinksOfCapturesAreTheTexts {E} answer =
@@ -90,7 +97,7 @@ LinksOfCapturesAreTheTexts {E} answer =
     →
     IsLink answer pattern groups url → AreResults answer (pattern_view pattern) texts captures →
     ((component : ComponentName)
-    → TextIsWrittenBack answer pattern groups component (at texts component)
+    → TextIsWritableFromCaptures answer pattern groups component (at texts component)
     (captures component))
     →
     texts_of_url url ≡ texts

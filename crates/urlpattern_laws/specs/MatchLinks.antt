@@ -1,4 +1,5 @@
 -- Statements of the laws of links of a match: the groups of the match, and the texts of the link.
+-- `answer` is what a value of an engine returns for a text.
 use Rattle.std.specs.Prelude.{◌≡◌, ◌≢◌, ℕ, AllPairs, List, Option, Some, map}
 use Rattle.std.specs.{Borrow.Bor, Map.keys_of}
 use Rattle.url.specs.Parts.{Parts}
@@ -30,8 +31,8 @@ use Rattle.urlpattern_syntax.specs.{Parts.PartView, RegexpText.group_names}
 abbrev pub BorrowedGroup : Type 0
 BorrowedGroup = ComponentName × Bor (List ℕ) × Bor (List ℕ)
 
--- The groups of the result are given with their captures, and no group is given that did not
--- capture.
+-- `groups` have, for each group of the result that captured a text, that text, and no text for any
+-- other name.
 abbrev pub AreGroupsOfResult : (result : ComponentName → ResultView) → List GivenView → Type 0
 AreGroupsOfResult result groups =
     (component : ComponentName) (name : List ℕ)
@@ -41,15 +42,17 @@ AreGroupsOfResult result groups =
 abbrev pub NamesDiffer : List (List ℕ) → Type 0
 NamesDiffer names = AllPairs (λ name other. name ≢ other) names
 
--- `to_groups` of captures returns the groups with their captures, if no two groups of a component
--- have the same name.
+-- The groups that `to_groups` of captures returns are as `AreGroupsOfResult` says: each has its
+-- captured text. Premise: no two groups of a component have the same name.
 abbrev pub GroupsOfCapturesAreGiven : Type 0
 GroupsOfCapturesAreGiven = (found : UrlPatternCaptures) (groups : List BorrowedGroup) →
     map borrowed_group groups ≡ texts_captured (all_groups_view found components) →
     ((component : ComponentName) → NamesDiffer (keys_of (groups_view found component))) →
     AreGroupsOfResult (pattern_captures_view found) (given_groups groups)
 
--- `to_groups` of a result returns the groups with their captures.
+-- The groups that `to_groups` of a result returns are as `AreGroupsOfResult` says: each has its
+-- captured text. Premise: no two groups of a component have the same name, as `to_groups` of a
+-- result promises.
 abbrev pub GroupsOfResultsAreGiven : Type 0
 GroupsOfResultsAreGiven = (result : UrlPatternResult) (groups : List BorrowedGroup) →
     map borrowed_group groups ≡ texts_captured (all_listed_groups result components) →
@@ -69,10 +72,11 @@ GroupsOfMatchesDiffer {E} engine =
 
 -- ---- links
 
--- The premises on a component, its parts, a text and its captures: no fixed text has a modifier, a
--- text matched with the captures has them by the meaning of the parts, the names are those of the
--- parts and differ, and the captures are canonical.
-pub record IsReadBackFrom {E : Type 0} (answer : E → List ℕ → Option Captures)
+-- The premises for a component's text to be written back from its groups: no fixed text of the
+-- parts has a modifier; if the matcher returns the captures for the text, the parts mean the text
+-- with them; the component's names are those of the parts and differ; and each captured text is its
+-- own canonical form.
+pub record IsWritableFromMatch {E : Type 0} (answer : E → List ℕ → Option Captures)
     (compiled : ComponentView E) (settings : WriteSettings) (parts : List PartView) (text : List ℕ)
     (captures : Captures) : Type 0 where
   pub plain : HavePlainTexts parts
@@ -82,14 +86,17 @@ pub record IsReadBackFrom {E : Type 0} (answer : E → List ℕ → Option Captu
   pub names_differ : NamesDiffer (group_names parts)
   pub are_canonical : AreCanonical settings.canonical captures
 
--- A component, its parts, its text and its captures meet the premises.
-abbrev pub TextIsReadBack : {E : Type 0} → (answer : E → List ℕ → Option Captures) → UrlPattern E
+-- `IsWritableFromMatch` holds of a component of the pattern, with the text, the captures and the
+-- groups of a link.
+abbrev pub TextIsWritableFromMatch : {E : Type 0} → (answer : E → List ℕ → Option Captures)
+    → UrlPattern E
     → List GivenView → ComponentName → (text : List ℕ) → Captures → Type 0
-TextIsReadBack answer pattern groups component text captures =
+TextIsWritableFromMatch answer pattern groups component text captures =
     OfItsParts pattern groups component (λ settings parts.
-    IsReadBackFrom answer (pattern_view pattern component) settings parts text captures)
+    IsWritableFromMatch answer (pattern_view pattern component) settings parts text captures)
 
--- A link with the groups of a match of eight texts has these texts.
+-- A link with the groups of a match of eight texts has these texts, if `TextIsWritableFromMatch`
+-- holds of each component.
 abbrev pub LinksOfMatchesAreTheTexts : {E : Type 0} → (answer : E → List ℕ → Option Captures)
     → Type 0
 LinksOfMatchesAreTheTexts {E} answer =
@@ -101,7 +108,7 @@ LinksOfMatchesAreTheTexts {E} answer =
     → AreGroupsOfResult result groups
     →
     ((component : ComponentName)
-    → TextIsReadBack answer pattern groups component (at texts component)
+    → TextIsWritableFromMatch answer pattern groups component (at texts component)
     (found.captures component))
     →
     texts_of_url url ≡ texts

@@ -6,12 +6,14 @@ use Rattle.urlpattern_syntax.specs.{Options.OptionsView, Parts.PartView}
 use Rattle.urlpattern_syntax.specs.declared.parser.PartType.{PartType}
 use Rattle.urlpattern_syntax.specs.Text.{IsRepeated}
 
--- The group of a part of this kind matches the text.
+-- The text is a single match of a group of this kind, without prefix and suffix: what the custom
+-- expression `value` matches, or what the wildcard does.
 abbrev pub IsMatchedPiece : OptionsView → PartType → (value text : List ℕ) → Type 0
 IsMatchedPiece options PartType.Regexp value text = ExpressionMatches value text
 IsMatchedPiece options kind value text = IsWildcardText options kind text
 
--- A copy of a part of this kind: a fixed text, or a match of its group between prefix and suffix.
+-- The text is a copy of a part of this kind: the fixed text, or a match of the group between prefix
+-- and suffix.
 abbrev pub IsMatchedCopy : OptionsView → PartType → PartView → List ℕ → Type 0
 IsMatchedCopy options PartType.FixedText part text = text ≡ part.value
 IsMatchedCopy options kind part text =
@@ -24,7 +26,7 @@ PartMatches options part text =
     (count : ℕ) × Allows part.modifier count
     × IsRepeated (IsMatchedCopy options part.kind part) count text
 
--- The text is split into one substring for each part, which the part matches.
+-- The text is split into one substring for each part, and each part matches its substring.
 abbrev pub PartsMatch : OptionsView → List PartView → List ℕ → Type 0
 PartsMatch options [] text = text ≡ []
 PartsMatch options (part ∷ parts) text =
@@ -32,8 +34,8 @@ PartsMatch options (part ∷ parts) text =
     × PartMatches options part first
     × PartsMatch options parts rest
 
--- The expression of a custom part means the same inside the regular expression of the parts as by
--- itself.
+-- The expression of a custom part stands alone: it means the same inside the regular expression of
+-- the parts as by itself. Parts of other kinds meet this.
 abbrev pub IsSelfContained : PartType → (value : List ℕ) → Type 0
 IsSelfContained PartType.Regexp value = IsTrue (is_self_contained value)
 IsSelfContained kind value = Unit {0}
@@ -42,11 +44,11 @@ IsSelfContained kind value = Unit {0}
 abbrev pub AllStandAlone : List PartView → Type 0
 AllStandAlone parts = All (λ part. IsSelfContained part.kind part.value) parts
 
--- The expression of a custom part captures nothing.
+-- The expression of a custom part has no group that captures. Parts of other kinds meet this.
 abbrev pub CapturesNothing : PartType → (value : List ℕ) → Type 0
 CapturesNothing PartType.Regexp value = IsTrue (captures_nothing value)
 CapturesNothing kind value = Unit {0}
 
--- The expressions of all custom parts capture nothing.
+-- The expressions of all custom parts have no group that captures.
 abbrev pub AllCaptureNothing : List PartView → Type 0
 AllCaptureNothing parts = All (λ part. CapturesNothing part.kind part.value) parts

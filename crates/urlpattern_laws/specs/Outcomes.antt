@@ -23,14 +23,15 @@ use Rattle.urlpattern_compile.specs.Compiled.{IsComponentCompiled, IsPatternOfIn
 abbrev pub IsOfTexts : ErrorView → Type 0
 IsOfTexts error = (error ≢ views.OutOfMemory) × (error ≢ views.Url Overflow)
 
--- The encoding without two errors: out of memory, and a text too long for `url`.
+-- The encoding without two errors as results: out of memory, and a text too long for `url`.
 abbrev pub of_texts : Encoding → Encoding
 of_texts encoding text answer =
     encoding text answer × ((error : ErrorView) → answer ≡ Err error → IsOfTexts error)
 
 -- ---- premises on an engine
 
--- The engine does not both accept and reject this regular expression of a whole component.
+-- The engine does not both accept and reject the regular expression of a whole component.
+-- `has_regexp_group` is whether the component has a custom regular expression.
 abbrev pub NeverAcceptsAndRejects : {E : Type 0} → Engine E
     → (has_regexp_group : Bool) → (flags regexp : List ℕ) → Type 0
 NeverAcceptsAndRejects {E} engine has_regexp_group flags regexp =
@@ -39,15 +40,15 @@ NeverAcceptsAndRejects {E} engine has_regexp_group flags regexp =
     →
     ¬ IsWholeEngineOf engine has_regexp_group flags regexp (Err error)
 
--- The engine does not both accept and reject this regular expression of parts that a matcher leaves
+-- The engine does not both accept and reject the regular expression of parts that a matcher leaves
 -- to it.
 abbrev pub NeverAcceptsAndRejectsPart : {E : Type 0} → Engine E → (flags regexp : List ℕ) → Type 0
 NeverAcceptsAndRejectsPart {E} engine flags regexp =
     (value : E) (error : ErrorView) → IsEngineOf engine false flags regexp (Ok value)
     → ¬ IsEngineOf engine false flags regexp (Err error)
 
--- The engine does not both accept and reject a regular expression of the parts of the pattern text,
--- or of some of them in a row.
+-- The engine does not both accept and reject the regular expression of the parts to which a pattern
+-- text is parsed, or of any of these parts in a row.
 pub record NeverAcceptsAndRejectsText {E : Type 0} (engine : Engine E) (settings : ParseSettings) :
     Type 0 where
   pub whole : (parts : List PartView) → ReadsAs settings parts →
@@ -58,15 +59,17 @@ pub record NeverAcceptsAndRejectsText {E : Type 0} (engine : Engine E) (settings
       NeverAcceptsAndRejectsPart engine (engine_flags settings.options)
       (regexp_text settings.options middle)
 
--- Two components compiled in the same manner accept a special scheme alike.
+-- If one of two components that are compiled with these settings accepts a special scheme, the
+-- other does too.
 abbrev pub AcceptsAlike : {E : Type 0} → Engine E → ParseSettings → Type 0
 AcceptsAlike {E} engine settings = (compiled other : ComponentView E) →
     IsComponentCompiled engine settings compiled → IsComponentCompiled engine settings other →
     AcceptsSpecialScheme engine.answer compiled.matcher
     → AcceptsSpecialScheme engine.answer other.matcher
 
--- The engine decides the outcome of these values: whether the protocol is special, and which texts
--- are accepted.
+-- The engine leaves no doubt whether these values are compiled or rejected: whether the protocol is
+-- special does not depend on the value that it makes, and it does not both accept and reject an
+-- expression.
 pub record Decides {E : Type 0} (engine : Engine E) (asked : UrlPatternOptions) (values : Values) :
     Type 0 where
   pub accepts_alike : AcceptsAlike engine (settings_of asked values false Protocol)
@@ -79,26 +82,28 @@ NoneIsCustom asked values =
     (hierarchical : Bool) (component : ComponentName)
     → ReadsNoCustom (settings_of asked values hierarchical component)
 
--- The engine does not both accept and reject a regular expression of parts without a custom one.
+-- The engine does not both accept and reject the regular expression of parts, if none is custom.
 abbrev pub NeverAcceptsAndRejectsGenerated : {E : Type 0} → Engine E → Type 0
 NeverAcceptsAndRejectsGenerated engine =
     (settings : ParseSettings) → ReadsNoCustom settings → NeverAcceptsAndRejectsText engine settings
 
--- The engine decides the outcome of values without a custom regular expression.
+-- The engine decides (`Decides`) the outcome of values without a custom regular expression.
 abbrev pub DecidesGenerated : {E : Type 0} → Engine E → Type 0
 DecidesGenerated engine =
     (asked : UrlPatternOptions) (values : Values) → NoneIsCustom asked values
     → Decides engine asked values
 
--- An engine that makes first ways, and does not both accept and reject an expression, decides the
--- outcome of values without a custom regular expression.
+-- An engine whose matchers return first ways (`MakesFirstWays`), and that does not both accept and
+-- reject an expression, decides (`Decides`) the outcome of values without a custom regular
+-- expression.
 abbrev pub FirstWaysDecide : {E : Type 0} → Engine E → Type 0
 FirstWaysDecide engine =
     MakesFirstWays engine → NeverAcceptsAndRejectsGenerated engine → DecidesGenerated engine
 
 -- ---- one outcome
 
--- An init is not both compiled to a pattern and rejected.
+-- An init is not both compiled to a pattern and rejected with an error as in `IsOfTexts`, if the
+-- engine decides the outcome of its values.
 abbrev pub PatternsExcludeRejections : {E : Type 0} → Engine E → Type 0
 PatternsExcludeRejections {E} engine =
     (init : UrlPatternInit) (asked : UrlPatternOptions) (values : Values) (pattern : PatternView E)
@@ -107,7 +112,8 @@ PatternsExcludeRejections {E} engine =
     pattern_values init ≡ Ok values → Decides engine asked values → IsOfTexts error →
     IsPatternOfInit engine init asked pattern → ¬ RejectsInit engine init asked error
 
--- An init is rejected with one error only.
+-- An init is rejected with a single error of those in `IsOfTexts`, if the engine decides the
+-- outcome of its values.
 abbrev pub InitRejectionsAreOne : {E : Type 0} → Engine E → Type 0
 InitRejectionsAreOne engine =
     (init : UrlPatternInit) (asked : UrlPatternOptions) (values : Values) (error other : ErrorView)
@@ -121,19 +127,20 @@ InitRejectionsAreOne engine =
 
 -- ---- an outcome exists
 
--- Each init has values as a pattern.
+-- Processed as a pattern, each init has values: none of its texts is rejected.
 abbrev pub InitsHaveValues : Type 0
 InitsHaveValues = (init : UrlPatternInit) → (values : Values) × (pattern_values init ≡ Ok values)
 
--- `url` has a result for each text of the pattern texts that it is called with.
+-- When the pattern texts of these values are parsed, `url` has a result for each text that it is
+-- called with, other than out of memory and a text too long for it.
 abbrev pub UrlHasResults : UrlPatternOptions → Values → Type 0
 UrlHasResults asked values = (hierarchical : Bool) (component : ComponentName) →
     let settings = settings_of asked values hierarchical component in
     HasRequestedResults settings.text settings.options
     (of_texts (canonical_encoding settings.canonical))
 
--- For any consecutive parts of a component's pattern text, the engine makes a value of their
--- regular expression, or may reject it.
+-- For any parts in a row, of those to which a pattern text of these values is parsed, the engine
+-- makes a value of their regular expression, or may reject it.
 abbrev pub EngineHasResults : {E : Type 0} → Engine E → UrlPatternOptions → Values → Type 0
 EngineHasResults {E} engine asked values =
     (hierarchical : Bool) (component : ComponentName) (parts before middle after : List PartView) →
@@ -143,7 +150,8 @@ EngineHasResults {E} engine asked values =
     × IsEngineOf engine false (engine_flags settings.options)
     (regexp_text settings.options middle) made
 
--- An init is compiled to a pattern, or it is rejected.
+-- An init is compiled to a pattern, or it is rejected with an error as in `IsOfTexts`, if the
+-- engine and `url` have results.
 abbrev pub InitsHaveOutcomes : {E : Type 0} → Engine E → Type 0
 InitsHaveOutcomes {E} engine =
     (init : UrlPatternInit) (asked : UrlPatternOptions) (values : Values) →

@@ -6,13 +6,14 @@ use Rattle.urlpattern_syntax.specs.{Options.OptionsView, Parts.PartView}
 use Rattle.urlpattern_syntax.specs.declared.parser.PartType.{PartType}
 use Rattle.urlpattern_syntax.specs.Text.{IsRepeated}
 
--- The captures of n copies of a part of this kind: none for a fixed text, a single one for a group.
+-- `captures` are those of n copies of a part of this kind with this text: no capture for a fixed
+-- text, a single one for a group.
 abbrev pub AreCapturesOf : PartType → PartView → ℕ → List ℕ → Captures → Type 0
 AreCapturesOf PartType.FixedText part n text captures = captures ≡ []
 AreCapturesOf kind part n text captures =
     (capture : Option (List ℕ)) × IsCapture part n text capture × (captures ≡ capture ∷ [])
 
--- The text is as many copies of the part as its modifier allows, with these captures.
+-- The text is as many copies of the part as its modifier allows, and the part has these captures.
 pub record PartCaptures (options : OptionsView) (part : PartView) (text : List ℕ)
     (captures : Captures) : Type 0 where
   pub count : ℕ
@@ -20,7 +21,8 @@ pub record PartCaptures (options : OptionsView) (part : PartView) (text : List �
   pub are_copies : IsRepeated (IsMatchedCopy options part.kind part) count text
   pub are_captures : AreCapturesOf part.kind part count text captures
 
--- The text is split into one substring for each part, and the parts have these captures.
+-- The text is split into one substring for each part, and the parts have these captures in their
+-- substrings.
 abbrev pub PartsCapture : OptionsView → List PartView → List ℕ → Captures → Type 0
 PartsCapture options [] text captures = (text ≡ []) × (captures ≡ [])
 PartsCapture options (part ∷ parts) text captures =

@@ -1,4 +1,5 @@
--- The parts of a pattern, and what the pattern matches.
+-- The parts of a pattern, and what the pattern matches. `answer` is what a value of an engine
+-- returns for a text; a line is a text without line feeds.
 use Rattle.std.specs.Prelude.{◌↔◌, ◌⊎◌, ℕ, List, Option, String}
 use Rattle.std.specs.declared.alloc.Global.{Global}
 use Rattle.urlpattern_matcher.specs.declared.regexp.RegExp.{Ghosts as Engine}
@@ -20,8 +21,8 @@ use Rattle.urlpattern_syntax.specs.Text.{text_of}
 
 -- ---- matching
 
--- The parts are those of the pattern: where their meaning is known, each component matches the
--- texts without line feeds that they mean.
+-- `parts` say what the pattern matches: if the meaning of a component's parts is known, its matcher
+-- matches a line exactly if the parts mean the line.
 abbrev pub AreItsParts : {E : Type 0} → (answer : E → List ℕ → Option Captures) → PatternView E
     → PatternParts → Type 0
 AreItsParts answer pattern parts =
@@ -34,14 +35,14 @@ eight_texts texts = each (λ name. text_of (at texts name))
 
 -- ---- laws
 
--- The matcher matches each text without line feeds that the other one matches.
+-- `matcher` matches each line that `other` matches.
 abbrev pub MatchesEachLineOf : {E : Type 0} → (answer : E → List ℕ → Option Captures)
     → (matcher other : MatcherView E) → Type 0
 MatchesEachLineOf answer matcher other =
     (text : List ℕ) → IsLine text → IsMatched answer other text → IsMatched answer matcher text
 
--- Of components with equal parts whose meaning is not known, that of `pattern` matches what that of
--- `asked` matches.
+-- For each component for which both patterns have equal parts, whose meaning is not known,
+-- `pattern` matches each line there that `asked` matches.
 abbrev pub SameAreMatched : {E : Type 0} → (answer : E → List ℕ → Option Captures)
     → (pattern asked : PatternView E) → (parts asked_parts : PatternParts) → Type 0
 SameAreMatched answer pattern asked parts asked_parts =
@@ -49,7 +50,8 @@ SameAreMatched answer pattern asked parts asked_parts =
     → AreSame (at parts.components name) (at asked_parts.components name) →
     MatchesEachLineOf answer (pattern name).matcher (asked name).matcher
 
--- A pattern matches what the patterns that it covers match.
+-- A pattern that covers `asked` by their parts matches any eight lines that `asked` matches, if
+-- `SameAreMatched` holds of components with equal parts.
 abbrev pub CoveredAreMatched : {E : Type 0} → (answer : E → List ℕ → Option Captures) → Type 0
 CoveredAreMatched {E} answer =
     (pattern asked : PatternView E) (parts asked_parts : PatternParts)
@@ -59,18 +61,20 @@ CoveredAreMatched {E} answer =
     IsCovered parts asked_parts → (texts : Texts) → EachIsLine texts → AreMatched answer asked texts
     → AreMatched answer pattern texts
 
--- The component covers the other by the meaning of the parts.
+-- `component` covers `asked` by meaning: its parts mean each line, or each line that the parts of
+-- `asked` mean.
 abbrev pub IsCoveredByMeaning : (component asked : ComponentParts) → Type 0
 IsCoveredByMeaning component asked = MatchesEveryLine component ⊎ MeansAllOf component asked
 
--- Each component covers the other's by meaning, or a component of the other means nothing.
+-- `pattern` covers `asked` by meaning: each of its components covers that of `asked`, or the parts
+-- of a component of `asked` mean no line.
 abbrev pub AreCoveredByMeaning : (pattern asked : PatternParts) → Type 0
 AreCoveredByMeaning pattern asked =
     ((name : ComponentName) × MatchesNoLine (at asked.components name))
     ⊎ ((name : ComponentName)
     → IsCoveredByMeaning (at pattern.components name) (at asked.components name))
 
--- A pattern matches what the patterns that it covers by meaning match.
+-- A pattern that covers `asked` by meaning matches any eight lines that `asked` matches.
 abbrev pub CoveredByMeaningAreMatched : {E : Type 0} → (answer : E → List ℕ → Option Captures)
     → Type 0
 CoveredByMeaningAreMatched {E} answer =
@@ -80,22 +84,22 @@ CoveredByMeaningAreMatched {E} answer =
     AreCoveredByMeaning parts asked_parts → (texts : Texts) → EachIsLine texts
     → AreMatched answer asked texts → AreMatched answer pattern texts
 
--- The meaning of any two components with equal parts is known.
+-- If both patterns have equal parts for a component, the meaning of the parts is known.
 abbrev pub SameAreKnown : (pattern asked : PatternParts) → Type 0
 SameAreKnown pattern asked =
     (name : ComponentName) → AreSame (at pattern.components name) (at asked.components name)
     → IsKnown (at pattern.components name)
 
--- A pattern that covers another covers it by meaning, if the meaning of components with equal parts
--- is known.
+-- A pattern that covers `asked` by their parts covers it by meaning, if the meaning of components
+-- with equal parts is known.
 abbrev pub KnownAreCoveredByMeaning : Type 0
 KnownAreCoveredByMeaning =
     (pattern asked : PatternParts) → SameAreKnown pattern asked
     → IsCovered pattern asked
     → AreCoveredByMeaning pattern asked
 
--- Components made of equal parts match the same texts, if equal expressions of the engine return
--- the same results.
+-- Patterns that the engine made of their parts meet `SameAreMatched`, if any two values that the
+-- engine made of one expression return the same results.
 abbrev pub MadeAreMatched : {E : Type 0} → Engine E → Type 0
 MadeAreMatched {E} engine = ExpressionsReturnAlike engine →
     (pattern asked : PatternView E) (parts asked_parts : PatternParts)
@@ -103,13 +107,14 @@ MadeAreMatched {E} engine = ExpressionsReturnAlike engine →
     → AreMadeOfParts engine asked_parts asked →
     SameAreMatched engine.answer pattern asked parts asked_parts
 
--- The parts of which a pattern was made say what it matches, where their meaning is known.
+-- The parts that the engine made a pattern of say what the pattern matches, as `AreItsParts` says.
 abbrev pub OwnPartsMean : {E : Type 0} → Engine E → Type 0
 OwnPartsMean {E} engine =
     (pattern : PatternView E) (parts : PatternParts) → AreMadeOfParts engine parts pattern
     → AreItsParts engine.answer pattern parts
 
--- The parts that a compiled pattern keeps say what it matches, if it matches by its texts.
+-- The parts that a compiled pattern keeps say what the pattern matches, as `AreItsParts` says, if
+-- it matches by its pattern texts.
 abbrev pub KeptPartsMean : {E : Type 0} → Engine E → Type 0
 KeptPartsMean {E} engine =
     (init : UrlPatternInit) (asked : UrlPatternOptions) (pattern : UrlPattern E)
@@ -118,8 +123,8 @@ KeptPartsMean {E} engine =
     (kept : KeepsPartsOf engine init asked pattern)
     → AreItsParts engine.answer (pattern_view pattern) kept.parts
 
--- A pattern made of its parts matches what the patterns that it covers match, with or without
--- custom regular expressions.
+-- If the engine made two patterns of parts, with or without custom regular expressions, and
+-- `pattern` covers `asked` by these parts, `pattern` matches any eight lines that `asked` matches.
 abbrev pub CoveredByEngineAreMatched : {E : Type 0} → Engine E → Type 0
 CoveredByEngineAreMatched {E} engine =
     (pattern asked : PatternView E) (parts asked_parts : PatternParts)
@@ -128,8 +133,8 @@ CoveredByEngineAreMatched {E} engine =
     IsCovered parts asked_parts → (texts : Texts) → EachIsLine texts
     → AreMatched engine.answer asked texts → AreMatched engine.answer pattern texts
 
--- The texts in which patterns part are matched by `asked`, and the one of the component is not
--- matched by `pattern`.
+-- The eight texts of a `Parting` show that `pattern` does not cover `asked`: `asked` matches them,
+-- and `pattern` does not match the text of the parting's component.
 abbrev pub PartingsAreMatched : {E : Type 0} → (answer : E → List ℕ → Option Captures) → Type 0
 PartingsAreMatched {E} answer =
     (pattern asked : PatternView E) (parts asked_parts : PatternParts) (parting : Parting)
@@ -140,7 +145,7 @@ PartingsAreMatched {E} answer =
     × ¬ IsMatched answer (pattern parting.component).matcher
     (at (eight_texts parting.texts) parting.component)
 
--- A pattern matches the texts that its parts mean.
+-- A pattern matches eight lines that its parts mean.
 abbrev pub CommonAreMatched : {E : Type 0} → (answer : E → List ℕ → Option Captures) → Type 0
 CommonAreMatched {E} answer =
     (pattern : PatternView E) (parts : PatternParts) (texts : Eight (String Global))
@@ -148,7 +153,7 @@ CommonAreMatched {E} answer =
     →
     MeansEach parts texts → AreMatched answer pattern (eight_texts texts)
 
--- If the parts of a component are apart, no eight texts without line feeds are matched by both
+-- If the parts of a component are apart, meaning no common line, no eight lines are matched by both
 -- patterns.
 abbrev pub ApartMatchNothing : {E : Type 0} → (answer : E → List ℕ → Option Captures) → Type 0
 ApartMatchNothing {E} answer =

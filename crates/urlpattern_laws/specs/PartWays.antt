@@ -1,6 +1,6 @@
 -- The ways in which a custom expression, or parts with custom ones among them, match the start of a
 -- text, in the order of a backtracking engine, and the captures of the first way that matches the
--- whole text.
+-- whole text. A `WaysByText` returns the ways to match the start of a text.
 use Rattle.std.specs.Prelude.{ℕ, Bool, true, false, not, ◌&&◌, ◌==◌, List, [], ◌∷◌, ◌++◌, length, map, find, Option, Some, None, option_map, unwrap_or}
 use Rattle.regex_class.specs.Ranges.{in_ranges}
 use Rattle.regex_hir.specs.Re.{Re, empty, literal, byte_in, char_in, look, cat, alt, group, plus}
@@ -10,31 +10,33 @@ use Rattle.regex_syntax.specs.Grammar.{Names, read}
 use Rattle.regex_syntax.specs.Verdict.{default_config}
 use Rattle.urlpattern_meaning.specs.Dialect.{Optional, ZeroOrMore, OneOrMore}
 use Rattle.urlpattern_meaning.specs.PartMeaning.{Captures}
-use Rattle.urlpattern_meaning.specs.Ways.{Choice, capturing, continued, empty_way, looped, one_that, quantified_ways}
+use Rattle.urlpattern_meaning.specs.Ways.{WaysByText, capturing, continued, empty_way, looped, one_that, quantified_ways}
 use Rattle.urlpattern_syntax.specs.{Options.OptionsView, Parts.PartView, RegexpText.is_empty}
 use Rattle.urlpattern_syntax.specs.declared.parser.{PartModifier.PartModifier, PartType.PartType}
 use Rattle.urlpattern_syntax.specs.Text.{line_feed}
 
 -- ---- sequences of choices
 
--- The first choice on the text, and the next choice on the rest.
-abbrev pub followed_by : (first next : Choice) → Choice
+-- Each way of the first choice, continued by each way of the next choice on the rest of the text.
+abbrev pub followed_by : (first next : WaysByText) → WaysByText
 followed_by first next text = continued next (first text)
 
--- The choice, with its whole match as the first capture.
-abbrev pub captured_whole : Choice → Choice
+-- The ways of the choice, each with the text that it matches as its first capture.
+abbrev pub captured_whole : WaysByText → WaysByText
 captured_whole choice text = map capturing (choice text)
 
--- The given text, character by character.
-abbrev pub exactly : (given : List ℕ) → Choice
+-- The way to match the given text, character by character; no way if the text does not begin with
+-- it.
+abbrev pub exactly : (given : List ℕ) → WaysByText
 exactly [] text = empty_way 0 text ∷ []
 exactly (c ∷ given) text = continued (exactly given) (one_that (λ other. other == c) text)
 
 -- ---- custom expressions
 
 -- The ways of a pattern whose steps match characters: the first alternative is preferred, and a
--- further round of a loop if the loop is greedy. Groups capture nothing here.
-abbrev pub pattern_ways : Re → Choice
+-- further round of a loop if the loop is greedy. Groups capture nothing; byte classes and
+-- assertions have no way.
+abbrev pub pattern_ways : Re → WaysByText
 pattern_ways empty text = empty_way 0 text ∷ []
 pattern_ways (literal bytes) text =
     one_that (λ c. is_some_and (char_at bytes 0) (λ written. c == written)) text
@@ -46,19 +48,20 @@ pattern_ways (alt first second) text = pattern_ways first text ++ pattern_ways s
 pattern_ways (group number inner) text = pattern_ways inner text
 pattern_ways (plus greedy inner) text = looped greedy (pattern_ways inner) text
 
--- The ways of what the grammar reads, or none if it reads nothing.
-abbrev pub ways_of_reading : Option (Nested Re × Names) → Choice
+-- The ways of the pattern that the grammar reads, or no way if it reads nothing.
+abbrev pub ways_of_reading : Option (Nested Re × Names) → WaysByText
 ways_of_reading None text = []
 ways_of_reading (Some (pattern, names)) text = pattern_ways pattern.value text
 
 -- The ways of an expression, as the grammar of `regex` reads it by itself.
-abbrev pub expression_ways : (expression : List ℕ) → Choice
+abbrev pub expression_ways : (expression : List ℕ) → WaysByText
 expression_ways expression text = ways_of_reading (read default_config expression) text
 
 -- ---- one part
 
--- The ways of a single match of the group of a part of this kind.
-abbrev pub piece_ways : OptionsView → PartType → (value : List ℕ) → Choice
+-- The ways of a single match of a group of this kind, without prefix and suffix. A fixed text has
+-- no way here.
+abbrev pub piece_ways : OptionsView → PartType → (value : List ℕ) → WaysByText
 piece_ways options PartType.FixedText value text = []
 piece_ways options PartType.Regexp value text = expression_ways value text
 piece_ways options PartType.SegmentWildcard value text =
@@ -66,15 +69,16 @@ piece_ways options PartType.SegmentWildcard value text =
 piece_ways options PartType.FullWildcard value text =
     quantified_ways ZeroOrMore 0 (one_that (λ c. not (c == line_feed))) text
 
--- The ways of a fixed text, by its modifier.
-abbrev pub fixed_ways : PartModifier → (value : List ℕ) → Choice
+-- The ways of a fixed text, as often as its modifier allows.
+abbrev pub fixed_ways : PartModifier → (value : List ℕ) → WaysByText
 fixed_ways PartModifier.None value text = exactly value text
 fixed_ways PartModifier.Optional value text = quantified_ways Optional 0 (exactly value) text
 fixed_ways PartModifier.ZeroOrMore value text = quantified_ways ZeroOrMore 0 (exactly value) text
 fixed_ways PartModifier.OneOrMore value text = quantified_ways OneOrMore 0 (exactly value) text
 
--- The ways of a group without prefix and suffix, by its modifier.
-abbrev pub bare_ways : PartModifier → (piece : Choice) → Choice
+-- The ways of a group without prefix and suffix, by its modifier. `piece` has the ways of a single
+-- match.
+abbrev pub bare_ways : PartModifier → (piece : WaysByText) → WaysByText
 bare_ways PartModifier.None piece text = captured_whole piece text
 bare_ways PartModifier.Optional piece text = quantified_ways Optional 1 (captured_whole piece) text
 bare_ways PartModifier.ZeroOrMore piece text =
@@ -82,19 +86,22 @@ bare_ways PartModifier.ZeroOrMore piece text =
 bare_ways PartModifier.OneOrMore piece text =
     captured_whole (quantified_ways OneOrMore 0 piece) text
 
--- The ways of a capture between prefix and suffix.
-abbrev pub between_ways : (prefix suffix : List ℕ) → (core : Choice) → Choice
+-- The ways of `core`, captured, between prefix and suffix.
+abbrev pub between_ways : (prefix suffix : List ℕ) → (core : WaysByText) → WaysByText
 between_ways prefix suffix core text =
     followed_by (followed_by (exactly prefix) (captured_whole core)) (exactly suffix) text
 
--- The ways of a piece, and of any number of further ones with suffix and prefix between them.
-abbrev pub several_ways : (prefix suffix : List ℕ) → (piece : Choice) → Choice
+-- The ways of a single match of `piece`, and of any number of further matches, each after suffix
+-- and prefix.
+abbrev pub several_ways : (prefix suffix : List ℕ) → (piece : WaysByText) → WaysByText
 several_ways prefix suffix piece text =
     followed_by piece (quantified_ways ZeroOrMore 0
     (followed_by (followed_by (exactly suffix) (exactly prefix)) piece)) text
 
--- The ways of a group with a prefix or a suffix, by its modifier.
-abbrev pub affixed_ways : PartModifier → (prefix suffix : List ℕ) → (piece : Choice) → Choice
+-- The ways of a group with a prefix or a suffix, by its modifier. `piece` has the ways of a single
+-- match.
+abbrev pub affixed_ways : PartModifier → (prefix suffix : List ℕ) → (piece : WaysByText)
+    → WaysByText
 affixed_ways PartModifier.None prefix suffix piece text = between_ways prefix suffix piece text
 affixed_ways PartModifier.Optional prefix suffix piece text =
     quantified_ways Optional 1 (between_ways prefix suffix piece) text
@@ -103,14 +110,14 @@ affixed_ways PartModifier.OneOrMore prefix suffix piece text =
 affixed_ways PartModifier.ZeroOrMore prefix suffix piece text =
     quantified_ways Optional 1 (between_ways prefix suffix (several_ways prefix suffix piece)) text
 
--- The ways of the copies of a piece, by whether prefix and suffix are empty.
+-- The ways of a group, by its modifier and by whether prefix and suffix are both empty.
 abbrev pub copies_ways : (is_bare : Bool) → PartModifier
-    → (prefix suffix : List ℕ) → (piece : Choice) → Choice
+    → (prefix suffix : List ℕ) → (piece : WaysByText) → WaysByText
 copies_ways true modifier prefix suffix piece text = bare_ways modifier piece text
 copies_ways false modifier prefix suffix piece text = affixed_ways modifier prefix suffix piece text
 
--- The ways of a part of this kind.
-abbrev pub part_ways_by : PartType → OptionsView → PartView → Choice
+-- The ways of a part of this kind, as often as its modifier allows.
+abbrev pub part_ways_by : PartType → OptionsView → PartView → WaysByText
 part_ways_by PartType.FixedText options part text = fixed_ways part.modifier part.value text
 part_ways_by kind options part text =
     copies_ways (is_empty part.prefix && is_empty part.suffix) part.modifier part.prefix part.suffix
@@ -119,7 +126,7 @@ part_ways_by kind options part text =
 -- ---- a list of parts
 
 -- The ways of parts, one after the other.
-abbrev pub parts_ways : OptionsView → List PartView → Choice
+abbrev pub parts_ways : OptionsView → List PartView → WaysByText
 parts_ways options [] text = empty_way 0 text ∷ []
 parts_ways options (part ∷ parts) text =
     continued (parts_ways options parts) (part_ways_by part.kind options part text)

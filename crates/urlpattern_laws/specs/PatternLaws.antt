@@ -1,4 +1,5 @@
--- Statements of the laws of whole patterns.
+-- Statements of the laws of whole patterns. `answer` is what a value of an engine returns for a
+-- text.
 use Rattle.std.specs.Prelude.{◌≡◌, ◌↔◌, ℕ, List, Ok, Option}
 use Rattle.regex.specs.declared.string.regex.Regex.{Regex}
 use Rattle.urlpattern_matcher.specs.declared.regexp.RegExp.{Ghosts as Engine}
@@ -16,7 +17,8 @@ use Rattle.urlpattern_pattern.specs.ByText.{IsFirstResult}
 use Rattle.urlpattern_pattern.specs.Patterns.{PatternView}
 use Rattle.urlpattern_pattern.specs.MatchMeaning.{IsExecuted, IsFoundByMeaning, MeaningPremises, RegexPremises}
 
--- The result of a compiled pattern for an input is what its pattern texts mean.
+-- What a compiled pattern finds in an input is what its pattern texts mean (`IsFoundByMeaning`),
+-- unless a text of the input is longer than `url` is certain to accept.
 abbrev pub ResultsMeanTheParts : {E : Type 0} → Engine E → Type 0
 ResultsMeanTheParts {E} engine =
     (asked : UrlPatternOptions) (values : Values) (pattern : PatternView E)
@@ -31,7 +33,7 @@ ResultsMeanTheParts {E} engine =
     IsFoundByMeaning engine.answer (settings_of asked values compiled.hierarchical) pattern texts
     found
 
--- A test is true exactly if there is a match.
+-- A test of an input is true (`HasMatch`) exactly if there is a match.
 abbrev pub TestsAgree : {E : Type 0} → (answer : E → List ℕ → Option Captures) → Type 0
 TestsAgree {E} answer = (pattern : PatternView E) (input : UrlPatternMatchInput) →
     HasMatch answer pattern input
@@ -46,12 +48,14 @@ MatchesAreOne {E} answer =
     IsMatch answer pattern input result → IsMatch answer pattern input other →
     (component : ComponentName) → IsSameResult (result component) (other component)
 
--- With a match a test is not false, unless a text is longer than `url` is certain to accept.
+-- With a match a test is not false (`HasNoMatch`), unless a text of the input is longer than `url`
+-- is certain to accept.
 abbrev pub TestsAreOne : {E : Type 0} → (answer : E → List ℕ → Option Captures) → Type 0
 TestsAreOne {E} answer = (pattern : PatternView E) (input : UrlPatternMatchInput) →
     HasMatch answer pattern input → HasNoMatch answer pattern input → IsLongInput input
 
--- `regex::Regex` meets the premises on a component's engine, if it accepted the regular expression.
+-- A component that `regex::Regex` compiled meets the premises of `IsFoundByMeaning`, if it meets
+-- those on all but the engine, and the engine accepted its regular expression.
 abbrev pub RegexMeetsPremises : Type 0
 RegexMeetsPremises =
     (asked : UrlPatternOptions) (values : Values) (pattern : PatternView Regex)
@@ -62,7 +66,9 @@ RegexMeetsPremises =
     RegexPremises settings (pattern component) text
     → MeaningPremises regex_engine.answer settings (pattern component) text
 
--- In a match by `regex::Regex`, the result of a component is that of the first way.
+-- In a match by a pattern that `regex::Regex` compiled, a component that meets `RegexPremises` has
+-- the result of the first way: the names of its parts, with the captures of the first way in which
+-- the parts match the whole text.
 abbrev pub RegexResultsAreFirst : Type 0
 RegexResultsAreFirst =
     (asked : UrlPatternOptions) (values : Values) (pattern : PatternView Regex)
@@ -74,7 +80,7 @@ RegexResultsAreFirst =
     RegexPremises settings (pattern component) (at texts component)
     → IsFirstResult settings (at texts component) (result component)
 
--- Any two results of the first way are equal.
+-- Any two results of the first way of a pattern text, for the same text, are equal.
 abbrev pub FirstResultsAreOne : Type 0
 FirstResultsAreOne = (settings : ParseSettings) (text : List ℕ) (result other : ResultView) →
     IsFirstResult settings text result

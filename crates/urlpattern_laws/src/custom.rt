@@ -1,5 +1,8 @@
-//! Laws on custom regular expressions: what they match and capture, and that two engines and their
-//! matchers return the same.
+//! Laws on custom regular expressions: what they match and capture, and that the engines
+//! `PatternRegexp` and `regex::Regex`, and matchers over these, return it.
+//!
+//! A *way* is one way in which parts match the start of a text. Ways are in the order in which a
+//! backtracking engine tries them; the *first way* is the first that matches the whole text.
 //!
 //! Each function has an empty body; its contract is a theorem.
 
@@ -23,7 +26,8 @@ pub fn expressions_are_read_in_groups()
     ensures { ReadsInGroups }
 {}
 
-/// Parts without a custom one match exactly the texts that they mean, and capture what they mean.
+/// Parts without a custom one match (`PartsMatch`) exactly the texts that they mean (`PartsMean`),
+/// and have there (`PartsCapture`) exactly the captures that they mean.
 #[tactic(auto, using(crate::proofs::MatchersCapture::parts_capture_meanings, crate::proofs::TakenMeanings::parts_take_meanings))]
 pub fn parts_take_the_texts_that_they_mean()
     ensures takes { PartsMatchMeanings }
@@ -31,71 +35,77 @@ pub fn parts_take_the_texts_that_they_mean()
 {}
 
 /// A value that an engine made of the regular expression of parts returns captures for a text
-/// exactly if the parts match the text. A custom part matches what its expression matches by
-/// itself.
+/// exactly if the parts match the text (`PartsMatch`). A custom part matches what its expression
+/// matches by itself.
 ///
-/// Premises: each custom expression stands alone. For `PatternRegexp`: the flag `i` is not set, and
-/// the regular expression has at most 2³² characters.
+/// Premises: each custom expression stands alone, as `expressions_are_read_in_groups` says. For
+/// `PatternRegexp`: the flag `i` is not set, and the regular expression has at most 2³² characters.
 #[tactic(auto, using(crate::proofs::ValuesTaken::pattern_values_taken, crate::proofs::ValuesTaken::regex_values_taken))]
 pub fn values_answer_the_texts_that_parts_take()
     ensures own { ValuesReturnIfMatched pattern_engine KeepsCase HasNumbers }
     ensures regex { ValuesReturnIfMatched regex_engine (λ flags. ⊤) (λ regexp. ⊤) }
 {}
 
-/// A matcher returns captures for a text without line feeds exactly if its parts match the text,
-/// custom parts included.
+/// A matcher returns captures for a text without line feeds exactly if its parts, custom ones
+/// included, match the text (`PartsMatch`).
 ///
-/// Premises: each custom expression stands alone, case is kept, and the engine, where one is
-/// needed, accepted its regular expression. For `PatternRegexp`, the regular expression has at most
-/// 2³² characters.
+/// Premises: each custom expression stands alone, as `expressions_are_read_in_groups` says; case is
+/// kept; and the engine, where one is needed, accepted its regular expression. For `PatternRegexp`,
+/// the flags keep case too, and the regular expression has at most 2³² characters.
 pub fn matchers_answer_the_texts_that_parts_take()
     ensures own { MatchersReturnIfMatched pattern_engine HasNumbers AcceptedAlone }
     ensures regex { MatchersReturnIfMatched regex_engine (λ regexp. ⊤) (λ options flags.
         AcceptedText (λ value. ⊤)) }
 {}
 
-/// A value of an engine returns what the parts capture, or `None` if they do not match the text. A
-/// custom part captures its copies without the first prefix and the last suffix, as any group does.
+/// A value that an engine made of the regular expression of parts returns captures that the parts
+/// have in the text (`PartsCapture`), or `None` if they do not match the text. A custom part
+/// captures its copies without the first prefix and the last suffix, as any group does.
 ///
-/// Premises: each custom expression stands alone and captures nothing itself. For `PatternRegexp`:
-/// the flag `i` is not set, and the regular expression has at most 2³² characters.
+/// Premises: each custom expression stands alone, as `expressions_are_read_in_groups` says, and
+/// captures nothing itself. For `PatternRegexp`: the flag `i` is not set, and the regular
+/// expression has at most 2³² characters.
 #[tactic(auto, using(crate::proofs::ValuesTaken::pattern_values_capture, crate::proofs::ValuesTaken::regex_values_capture))]
 pub fn values_answer_what_parts_capture()
     ensures own { ValuesCapture pattern_engine KeepsCase HasNumbers }
     ensures regex { ValuesCapture regex_engine (λ flags. ⊤) (λ regexp. ⊤) }
 {}
 
-/// A matcher returns what its parts capture of a text without line feeds, or `None` if they do not
-/// match the text, custom parts included.
+/// A matcher returns captures that its parts, custom ones included, have in a text without line
+/// feeds (`PartsCapture`), or `None` if they do not match the text.
 ///
-/// Premises: each custom expression stands alone and captures nothing itself, case is kept, and the
-/// engine, where one is needed, accepted its regular expression. For `PatternRegexp`, the regular
-/// expression has at most 2³² characters.
+/// Premises: each custom expression stands alone, as `expressions_are_read_in_groups` says, and
+/// captures nothing itself; case is kept; and the engine, where one is needed, accepted its regular
+/// expression. For `PatternRegexp`, the flags keep case too, and the regular expression has at most
+/// 2³² characters.
 pub fn matchers_answer_what_parts_capture()
     ensures own { MatchersCapture pattern_engine HasNumbers AcceptedAlone }
     ensures regex { MatchersCapture regex_engine (λ regexp. ⊤) (λ options flags.
         AcceptedText (λ value. ⊤)) }
 {}
 
-/// The matcher of a compiled component returns what the component's parts capture of a text without
-/// line feeds, or `None` if they do not match the text. There are as many captures as names.
+/// The matcher of a compiled component returns captures that the component's parts have in a text
+/// without line feeds (`PartsCapture`), or `None` if they do not match the text. Captures are as
+/// many as the names of the parts' groups.
 ///
-/// Premises: each custom expression stands alone and captures nothing itself, case is kept, and the
-/// engine, where one is needed, accepted its regular expression. For `PatternRegexp`, the regular
-/// expression has at most 2³² characters.
+/// Premises: each custom expression stands alone, as `expressions_are_read_in_groups` says, and
+/// captures nothing itself; case is kept; and the engine, where one is needed, accepted its regular
+/// expression. For `PatternRegexp`, the regular expression has at most 2³² characters.
 pub fn components_answer_what_parts_capture()
     ensures names { CapturesAreAsNames }
     ensures own { ComponentsCapture pattern_engine HasNumbers }
     ensures regex { ComponentsCapture regex_engine (λ regexp. ⊤) }
 {}
 
-/// A value of an engine returns the captures of the first way of the parts: an earlier choice is
-/// preferred to a later one, and inside a custom part the choices are those of its expression by
-/// itself. Without a custom part, this is the first way of the tree of the regular expression. The
-/// captures of the first way are what the parts capture.
+/// A value that an engine made of the regular expression of parts returns the captures of the first
+/// way in which the parts match the whole text: an earlier choice is preferred to a later one, and
+/// inside a custom part the choices are those of its expression by itself. Without a custom part,
+/// this is the first way of the tree of the regular expression. The captures of the first way are
+/// captures that the parts have in the text (`PartsCapture`).
 ///
-/// Premises: each custom expression stands alone and captures nothing itself. For `PatternRegexp`:
-/// the flag `i` is not set, and the regular expression has at most 2³² characters.
+/// Premises: each custom expression stands alone, as `expressions_are_read_in_groups` says, and
+/// captures nothing itself. For `PatternRegexp`: the flag `i` is not set, and the regular
+/// expression has at most 2³² characters.
 #[tactic(auto, using(crate::proofs::CustomLaws::first_ways))]
 pub fn values_answer_the_first_way_of_parts()
     ensures trees { FirstWaysAreOfTrees }
@@ -104,24 +114,26 @@ pub fn values_answer_the_first_way_of_parts()
     ensures regex { ValuesReturnFirstOfParts regex_engine (λ flags. ⊤) (λ regexp. ⊤) }
 {}
 
-/// A matcher returns the first way of its parts for a text without line feeds, or `None` if there
-/// is none.
+/// A matcher returns the captures of the first way in which its parts match the whole of a text
+/// without line feeds, or `None` if they do not match the text.
 ///
-/// Premises: each custom expression stands alone and captures nothing itself, case is kept, and the
-/// engine, where one is needed, accepted its regular expression. For `PatternRegexp`, the regular
-/// expression has at most 2³² characters.
+/// Premises: each custom expression stands alone, as `expressions_are_read_in_groups` says, and
+/// captures nothing itself; case is kept; and the engine, where one is needed, accepted its regular
+/// expression. For `PatternRegexp`, the flags keep case too, and the regular expression has at most
+/// 2³² characters.
 pub fn matchers_answer_the_first_way_of_parts()
     ensures own { MatchersReturnFirstOfParts pattern_engine HasNumbers AcceptedAlone }
     ensures regex { MatchersReturnFirstOfParts regex_engine (λ regexp. ⊤) (λ options flags.
         AcceptedText (λ value. ⊤)) }
 {}
 
-/// The matcher of a compiled component returns the first way of the component's parts for a text
-/// without line feeds, or `None` if there is none.
+/// The matcher of a compiled component returns the captures of the first way in which the
+/// component's parts match the whole of a text without line feeds, or `None` if they do not match
+/// the text.
 ///
-/// Premises: each custom expression stands alone and captures nothing itself, case is kept, and the
-/// engine, where one is needed, accepted its regular expression. For `PatternRegexp`, the regular
-/// expression has at most 2³² characters.
+/// Premises: each custom expression stands alone, as `expressions_are_read_in_groups` says, and
+/// captures nothing itself; case is kept; and the engine, where one is needed, accepted its regular
+/// expression. For `PatternRegexp`, the regular expression has at most 2³² characters.
 pub fn components_answer_the_first_way_of_parts()
     ensures own { ComponentsReturnFirstOfParts pattern_engine HasNumbers }
     ensures regex { ComponentsReturnFirstOfParts regex_engine (λ regexp. ⊤) }

@@ -1,6 +1,7 @@
 //! Laws of the definitions in contracts: those of the crates below, and those of whole patterns.
 //!
-//! Each function has an empty body; its contract is a theorem.
+//! Each function has an empty body; its contract is a theorem. The *first way* is the first in
+//! which a backtracking engine matches the whole text by the parts of a component.
 
 ghost use Rattle.std.specs.Prelude.{⊤, ℕ, List, Option};
 ghost use Rattle.urlpattern_pattern.specs.ByText.{MakesFirstWays};
@@ -51,48 +52,61 @@ pub use urlpattern_meaning::meaning_laws::{
 };
 pub use urlpattern_plain::json_laws::reading_undoes_writing;
 
-/// The results of a pattern are what its pattern texts mean. In a match, each component's pattern
-/// text means the component's text, and the groups are the names of its parts with the captures of
-/// one such meaning. The result is no match only if the pattern texts do not mean all eight texts.
+/// The results of a compiled pattern are what its pattern texts mean. In a match, each component's
+/// pattern text reads as parts that mean the component's text (`PartsMean`), and the groups are the
+/// names of the parts with the captures of this meaning. There is no match only if the pattern
+/// texts do not mean all eight texts.
 ///
 /// Premises, for each component: no part is custom, case is kept, the text has no line feed, and
-/// the engine, where one is needed, accepted its regular expression and follows it. No text of the
-/// input is longer than `url` is certain to accept.
+/// the engine, where one is needed, accepted its regular expression and returns for each text what
+/// the expression means (`Follows`). No text of the input is longer than `url` is certain to
+/// accept.
 pub fn groups_mean_the_parts<R: RegExp>()
     ensures { ResultsMeanTheParts R.RegExp }
 {}
 
-/// A test is true exactly if there is a match, and there is at most one match. With a match, a test
-/// is false only if a text of an init is longer than `url` is certain to accept.
+/// A test of an input is true exactly if there is a match, and any two matches of an input have the
+/// same results. With a match, a test is false only if a text of an init is longer than `url` is
+/// certain to accept.
 pub fn tests_agree_with_matches<E>()
     ensures agree { (answer : E → List ℕ → Option Captures) → TestsAgree answer }
     ensures one { (answer : E → List ℕ → Option Captures) → MatchesAreOne answer }
     ensures not_both { (answer : E → List ℕ → Option Captures) → TestsAreOne answer }
 {}
 
-/// A pattern compiled by `regex::Regex` meets the premises on a component's engine, if the engine
-/// accepted its regular expression. In a match the groups of the component are the names of its
-/// parts with the captures of the first way, which is determined by the pattern text and the
-/// component's text.
+/// A pattern compiled by `regex::Regex` meets the premise of `groups_mean_the_parts` on a
+/// component's engine, if the engine accepted its regular expression. In a match the groups of the
+/// component are the names of its parts with the captures of the first way, the first in which a
+/// backtracking engine matches the whole text. The pattern text and the component's text determine
+/// the first way.
+///
+/// Premises, for the component: no part is custom, case is kept, and the text has no line feed.
 pub fn groups_by_regex_are_of_the_first_way()
     ensures premises { RegexMeetsPremises }
     ensures first { RegexResultsAreFirst }
     ensures one { FirstResultsAreOne }
 {}
 
-/// A matcher made by `EcmaRegexp` returns the first way of the tree of the parts, which is one of
-/// their meanings, or `None` if they have none. Where an engine is needed, it has to hold a value
-/// of `regex`.
+/// A matcher that `EcmaRegexp` made of parts returns for a text without line feeds the captures of
+/// the first way in which a backtracking engine matches the whole text by the parts' regular
+/// expression. They are a meaning of the parts (`PartsMean`); `None` is returned if the parts do
+/// not mean the text.
+///
+/// Premises: no part is custom, case is kept, and a value of `EcmaRegexp`, where one is needed,
+/// holds a `Regex`.
 pub fn matchers_by_ecma_regexp_answer_the_first_way()
     ensures { EachReturnsFirst ecma_engine (λ options flags. AcceptedText KeepsRegex) }
 {}
 
-/// A compiled pattern matches by its texts. Each component without a custom regular expression
-/// whose case is kept has the names of the parts of its pattern text, and returns their first way
-/// for each text without line feeds. The findings in eight texts, or in an input, are determined by
-/// the pattern texts.
+/// A compiled pattern matches by its pattern texts. Each component without a custom regular
+/// expression whose case is kept has the names of the parts of its pattern text, and returns for
+/// each text without line feeds the captures of the first way in which the parts match it. What is
+/// found in eight texts, or in an input that is not too long for `url`, is determined by the
+/// pattern texts, if each component is of this kind and each text is without line feed.
 ///
-/// Premise: the engine's values return the first way of the parts that are left to them.
+/// Premise: the engine, where a component of this kind needs one, accepted its regular expression,
+/// and its value returns the first way of the parts between prefix and suffix, which are left to
+/// it.
 pub fn patterns_answer_by_their_texts<R: RegExp>()
     ensures by_text { PatternsReturnByText R.RegExp }
     ensures found { FindingsAreByText R.answer }
@@ -102,30 +116,33 @@ pub fn patterns_answer_by_their_texts<R: RegExp>()
     ensures meaning { CompiledHaveMeaning R.RegExp }
 {}
 
-/// Two patterns of one init, over any engines, have the same findings in eight texts, if both match
-/// by the init's pattern texts and all of these texts have a meaning.
+/// Two patterns that are compiled from one init, over any engines, find equal results in eight
+/// texts, if both match by the init's pattern texts (`ReturnsByItsText`), no pattern text has a
+/// custom regular expression, case is kept, and no text has a line feed.
 pub fn patterns_of_one_init_answer_alike<R: RegExp, S: RegExp>()
     ensures { PatternsReturnAlike R.answer S.answer }
 {}
 
-/// The premise on the engine, for each of three engines: none for `PatternRegexp`; `regex::Regex`
-/// accepted the regular expressions of the components without a custom one; `EcmaRegexp` holds a
-/// value of `regex` for them.
+/// The premise on the engine under which patterns match by their pattern texts, for each of three
+/// engines. `PatternRegexp` meets it always; `regex::Regex` if it accepted the regular expressions
+/// of the components without a custom one; `EcmaRegexp` if it holds a `Regex` for these.
 pub fn patterns_by_these_engines_answer_by_their_texts()
     ensures pattern_regexp { MakesFirstWays pattern_engine }
     ensures regex { AcceptedPatternsReturnByText regex_engine (AcceptedText (λ value. ⊤)) }
     ensures ecma_regexp { AcceptedPatternsReturnByText ecma_engine (AcceptedText KeepsRegex) }
 {}
 
-/// An init has one outcome: it is compiled to a pattern, or it is rejected with one error. The
-/// outcome exists if `url` has a result for each text that it is called with, and the engine makes
-/// a value of each regular expression or may reject it. The values of an init as a pattern are
-/// never rejected. Left aside are two errors: out of memory, and a text too long for `url`.
+/// An init has a single outcome: it is compiled to a pattern, or it is rejected with a single
+/// error. The outcome exists if `url` has a result for each text that it is called with, and the
+/// engine makes a value of each regular expression or may reject it. Processing an init as a
+/// pattern rejects no value. Two errors are left aside: out of memory, and a text too long for
+/// `url`.
 ///
 /// Premises: the engine does not both accept and reject a regular expression of a component's
-/// parts, or of some of them, and two of its matchers for the protocol accept a special scheme
-/// alike. An engine that makes first ways meets the second if no pattern text has a custom regular
-/// expression; `PatternRegexp` then meets both.
+/// parts, or of some of them in a row; and any two matchers that it makes for the protocol accept a
+/// special scheme, or neither does. An engine whose matchers return first ways (`MakesFirstWays`)
+/// meets the second if no pattern text has a custom regular expression; `PatternRegexp` then meets
+/// both.
 pub fn inits_have_one_outcome<R: RegExp>()
     ensures not_both { PatternsExcludeRejections R.RegExp }
     ensures refusals { InitRejectionsAreOne R.RegExp }
@@ -135,28 +152,32 @@ pub fn inits_have_one_outcome<R: RegExp>()
     ensures pattern_regexp { DecidesGenerated pattern_engine }
 {}
 
-/// A component that ignores case and whose matcher needs no engine matches by its pattern text. For
-/// a text without line feeds it returns captures exactly if the parts, with ASCII letters folded,
-/// match the folded text. Folded, the captures are those of the first way. Unfolded, they are
-/// substrings of the text, which is split into one substring for each part.
+/// A component that ignores case, without a custom part and with a matcher that needs no engine,
+/// matches by its pattern text. For a text without line feeds it returns captures exactly if the
+/// parts, with ASCII letters in lower case, match the text in lower case. In lower case, the
+/// captures are those of the first way. As returned, they are substrings of the text, which is
+/// split into one substring for each part.
 ///
-/// Prefix and suffix around an engine are compared with case folded. The text between them is left
-/// to the engine: `PatternRegexp` folds it too, `regex::Regex` does not.
+/// A matcher that needs an engine is left out: it compares prefix and suffix with case folded, but
+/// leaves the text between them to the engine. `PatternRegexp` folds that text too, `regex::Regex`
+/// does not.
 pub fn folded_ways_are_answered<R: RegExp>()
     ensures { FoldedWaysAreReturned R.RegExp }
 {}
 
 /// A component over `PatternRegexp` that ignores case and has no custom part matches by its pattern
-/// text, with any matcher. For a text without line feeds it returns captures exactly if the folded
-/// parts match the folded text. Folded, the captures are those of the first way.
+/// text, whether or not its matcher needs an engine. For a text without line feeds it returns
+/// captures exactly if the parts, with ASCII letters in lower case, match the text in lower case.
+/// In lower case, the captures are those of the first way.
 pub fn first_ways_are_answered_where_case_is_ignored()
     ensures { FoldedFirstsAreReturned pattern_engine }
 {}
 
-/// A link is determined by its groups. Links whose groups are to capture different texts of a
-/// component have different texts there.
+/// A pattern and groups have at most one link. Two links of a pattern whose groups are to capture
+/// different texts of a component have different texts there.
 ///
-/// The captures meant are canonical forms: `é` and `%C3%A9` are the same text of a path.
+/// What a group is to capture is the canonical form of its text: `é` and `%C3%A9` are the same text
+/// of a path.
 pub fn links_differ_by_their_groups<R: RegExp>()
     ensures one { LinksAreOne R.answer }
     ensures differ { LinksDiffer R.answer }
@@ -164,17 +185,18 @@ pub fn links_differ_by_their_groups<R: RegExp>()
 
 /// A link whose groups are the captures of eight texts has these texts.
 ///
-/// Premises, for each component: its parts mean its text, with these captures; no fixed text has a
-/// modifier, since the copies are not captured; and each captured text is its own canonical form.
+/// Premises, for each component: if its matcher returns these captures for its text, the parts mean
+/// the text with them; no fixed text has a modifier, since its copies are not captured; and each
+/// captured text is its own canonical form.
 pub fn links_of_captures_are_the_texts<R: RegExp>()
     ensures { LinksOfCapturesAreTheTexts R.answer }
 {}
 
-/// `to_groups`, of captures or of a result, returns each group with its capture, and no group that
-/// did not capture.
+/// `to_groups`, of captures or of a result, returns each group that captured a text, with the text,
+/// and no other group.
 ///
-/// Premise for captures: no two groups of a component have the same name. A match by a compiled
-/// pattern meets it.
+/// Premise: no two groups of a component have the same name. Captures of a match by a compiled
+/// pattern meet it, and so does each result whose `to_groups` returns groups.
 pub fn groups_of_matches_are_given<R: RegExp>()
     ensures captures { GroupsOfCapturesAreGiven }
     ensures result { GroupsOfResultsAreGiven }
@@ -183,9 +205,9 @@ pub fn groups_of_matches_are_given<R: RegExp>()
 
 /// A link whose groups are the captures of a match has the texts that were matched.
 ///
-/// Premises, for each component: its names are those of its parts and differ; its parts mean its
-/// text, with these captures; no fixed text has a modifier; and each captured text is its own
-/// canonical form.
+/// Premises, for each component: its names are those of its parts and differ; if its matcher
+/// returns these captures for its text, the parts mean the text with them; no fixed text has a
+/// modifier; and each captured text is its own canonical form.
 pub fn links_of_matches_are_the_texts<R: RegExp>()
     ensures { LinksOfMatchesAreTheTexts R.answer }
 {}

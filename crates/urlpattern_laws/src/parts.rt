@@ -1,5 +1,8 @@
 //! Laws of patterns and their parts.
 //!
+//! Parts *mean* a text if they match it by the definition `PartsMean`, without an engine. Their
+//! meaning is *known* if no part is custom and case is kept.
+//!
 //! Each function has an empty body; its contract is a theorem.
 
 ghost use Rattle.urlpattern_matcher.specs.Regexes.{regex_engine};
@@ -9,30 +12,31 @@ ghost use Rattle.urlpattern_laws.specs.PartReadings.{ApartMatchNothing, CommonAr
 
 use urlpattern_matcher::regexp::RegExp;
 
-/// A pattern over `PatternRegexp` or `regex::Regex` that was made of parts matches a text without
-/// line feeds in a component exactly if the component's parts mean the text, where the meaning is
-/// known: if none of the parts is custom and case is kept.
+/// A pattern that `PatternRegexp` or `regex::Regex` made of parts matches a text without line feeds
+/// in a component exactly if the component's parts mean the text, if their meaning is known: no
+/// part is custom, and case is kept.
 pub fn patterns_match_what_their_parts_mean()
     ensures pattern_regexp { OwnPartsMean pattern_engine }
     ensures regex { OwnPartsMean regex_engine }
 {}
 
-/// A pattern over any engine whose matchers return first ways, such as `PatternRegexp`, matches a
-/// text without line feeds in a component exactly if the component's parts mean the text, where the
-/// meaning is known. A compiled pattern that matches by its texts does too, whatever its engine,
-/// with the parts that it keeps.
+/// A pattern that was made of parts, over any engine whose matchers return first ways, such as
+/// `PatternRegexp`, matches a text without line feeds in a component exactly if the component's
+/// parts mean the text, if their meaning is known. A compiled pattern that matches by its pattern
+/// texts does too, whatever its engine, with the parts that it keeps.
 pub fn patterns_match_what_their_parts_mean_by_first_ways<R: RegExp>()
     ensures first_ways { MakesFirstWays R.RegExp → OwnPartsMean R.RegExp }
     ensures by_text { KeptPartsMean R.RegExp }
 {}
 
 /// A pattern that covers another by their parts matches any eight texts without line feeds that the
-/// other matches. Where the patterns part, the other matches the eight texts of the parting, and
-/// the pattern does not match the text of its component.
+/// other matches. A `Parting` of two patterns has eight texts that the other matches, and a
+/// component whose text the pattern does not match.
 ///
-/// Premise, for components with equal parts whose meaning is not known, such as custom regular
-/// expressions: the pattern matches what the other matches. Patterns made of their parts meet it if
-/// two values that their engine made of one expression return the same results.
+/// Premises: each of the two patterns matches what its parts mean, where their meaning is known;
+/// and for components with equal parts whose meaning is not known, such as custom regular
+/// expressions, the pattern matches what the other matches. Patterns made of their parts meet the
+/// second if two values that their engine made of one expression return the same results.
 pub fn covered_patterns_match<R: RegExp>()
     ensures covered { CoveredAreMatched R.answer }
     ensures made { MadeAreMatched R.RegExp }
@@ -40,8 +44,9 @@ pub fn covered_patterns_match<R: RegExp>()
 {}
 
 /// If each component of a pattern covers that of another by the meaning of the parts, or a
-/// component of the other means nothing, the pattern matches any eight texts without line feeds
-/// that the other matches, whatever the engine.
+/// component of the other means no text without line feeds, the pattern matches any eight texts
+/// without line feeds that the other matches. Premise: each of the two patterns, over any engine,
+/// matches what its parts mean, where their meaning is known.
 ///
 /// A pattern that covers another covers it by meaning, if the meaning of any two components with
 /// equal parts is known: if no part is custom, and case is kept.
@@ -50,15 +55,18 @@ pub fn patterns_covered_by_meaning_match<R: RegExp>()
     ensures known { KnownAreCoveredByMeaning }
 {}
 
-/// A pattern over `PatternRegexp` or `regex::Regex` that covers another matches what the other
-/// matches, with or without custom regular expressions, if both were made of their parts.
+/// If `PatternRegexp` or `regex::Regex` made two patterns of parts, with or without custom regular
+/// expressions, and the parts of one pattern cover those of the other, it matches any eight texts
+/// without line feeds that the other matches.
 pub fn covered_patterns_by_these_engines_match()
     ensures pattern_regexp { CoveredByEngineAreMatched pattern_engine }
     ensures regex { CoveredByEngineAreMatched regex_engine }
 {}
 
-/// If two patterns overlap by their parts, both match the common texts. If they are apart, no eight
-/// texts without line feeds are matched by both.
+/// A pattern matches eight texts without line feeds that its parts mean, so each of two patterns
+/// matches the common texts that are found by their parts. If the parts of a component are apart,
+/// no eight texts without line feeds are matched by both patterns. Premise: each pattern matches
+/// what its parts mean, where their meaning is known.
 pub fn overlapping_patterns_match<R: RegExp>()
     ensures common { CommonAreMatched R.answer }
     ensures apart { ApartMatchNothing R.answer }

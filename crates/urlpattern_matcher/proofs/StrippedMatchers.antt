@@ -72,7 +72,7 @@ made-of IsEngine options parts middle prefix suffix matcher (front, back, peeled
   front = front;
   middle = middle;
   back = back;
-  are_peeled = peeled;
+  are_stripped = peeled;
   is_made =
       subst (λ x. IsMadeBetween IsEngine options x middle (end_text back) matcher) is_prefix
       (subst (λ x. IsMadeBetween IsEngine options prefix middle x matcher) is_suffix made);

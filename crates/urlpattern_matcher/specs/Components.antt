@@ -14,7 +14,7 @@ use Rattle.urlpattern_syntax.specs.Reading.{Encoding, Reads, Rejects}
 use Rattle.urlpattern_syntax.specs.RegexpText.{group_names, regexp_text}
 use Rattle.urlpattern_syntax.specs.Text.{chars, lacks, text_of}
 
--- The view of a `Component`, with its texts.
+-- The view of a `Component`: its five fields, with texts as lists of characters.
 pub record ComponentView (E : Type 0) : Type 0 where
   pub pattern_string : List ℕ
   pub regexp : Result E ErrorView
@@ -22,6 +22,7 @@ pub record ComponentView (E : Type 0) : Type 0 where
   pub matcher : MatcherView E
   pub has_regexp_group : Bool
 
+-- The view of `component`.
 abbrev pub component_view : {E : Type 0} → Component E → ComponentView E
 component_view component = record {
   pattern_string = text_of component.pattern_string;
@@ -31,7 +32,7 @@ component_view component = record {
   has_regexp_group = component.has_regexp_group;
 }
 
--- The pattern text, or an asterisk if there is none.
+-- The pattern text of a component: the given pattern, or an asterisk if there is none.
 abbrev pub pattern_text : Option (Bor (List ℕ)) → List ℕ
 pattern_text None = codes "*"
 pattern_text (Some pattern) = chars pattern.now
@@ -40,7 +41,7 @@ pattern_text (Some pattern) = chars pattern.now
 abbrev pub engine_flags : OptionsView → List ℕ
 engine_flags options = if options.ignore_case then codes "ui" else codes "u"
 
--- The flags have an `i`, so case is ignored.
+-- Whether the flags have an `i`, so that case is ignored.
 abbrev pub ignores_case : (flags : List ℕ) → Bool
 ignores_case flags = not (lacks 0x69 flags)
 
@@ -48,30 +49,32 @@ ignores_case flags = not (lacks 0x69 flags)
 abbrev pub FlagsAgree : OptionsView → (flags : List ℕ) → Type 0
 FlagsAgree options flags = ignores_case flags ≡ options.ignore_case
 
--- The part is a custom regular expression.
+-- Whether a part of this kind is a custom regular expression.
 abbrev pub is_custom : PartType → Bool
 is_custom PartType.Regexp = true
 is_custom kind = false
 
--- A custom regular expression is among the parts.
+-- Whether at least one of the parts is a custom regular expression.
 abbrev pub has_regexp : List PartView → Bool
 has_regexp parts = list_any (λ part. is_custom part.kind) parts
 
--- Whether an engine of this syntax, after it accepted the text, is called again with `force_eval`.
+-- Whether an engine of this syntax, once it accepted the regular expression of a component, is
+-- called again with `force_eval`; `has_regexp_group` says that the component has a custom
+-- expression.
 abbrev pub is_called_again : RegexSyntax → (has_regexp_group : Bool) → Bool
 is_called_again RegexSyntax.EcmaScript has_regexp_group = has_regexp_group
 is_called_again RegexSyntax.Rust has_regexp_group = false
 
--- What an engine returns for a regular expression with this `force_eval`: a value, or an error if
--- it may reject the expression.
+-- The result is one that `engine` may return for `regexp`, `flags` and `force_eval`: a value that
+-- is made of them, or the error `RegExp`, if the engine may reject the expression.
 abbrev pub IsEngineOf : {E : Type 0} → Engine E → (force_eval : Bool) → (flags regexp : List ℕ)
     → Result E ErrorView → Type 0
 IsEngineOf engine force_eval flags regexp (Ok value) = engine.IsMade value regexp flags
 IsEngineOf engine force_eval flags regexp (Err error) =
     (error ≡ ErrorView.RegExp) × engine.MayReject regexp flags force_eval
 
--- What an engine returns for the regular expression of a whole component, when it is called first
--- or again.
+-- `made` is what `engine` returns for `regexp`, the regular expression of a whole component: in the
+-- call without `force_eval` or, if the engine is called again, in the call with it.
 abbrev pub IsWholeEngineOf : {E : Type 0} → Engine E
     → (has_regexp_group : Bool) → (flags regexp : List ℕ) → Result E ErrorView → Type 0
 IsWholeEngineOf engine has_regexp_group flags regexp made =
@@ -79,7 +82,7 @@ IsWholeEngineOf engine has_regexp_group flags regexp made =
     ⊎ (IsTrue (is_called_again engine.syntax_of has_regexp_group)
     × IsEngineOf engine true flags regexp made)
 
--- The five fields are made of one list of parts, by this engine.
+-- The five fields of `component` are made of `parts`, under `options`, and by `engine`.
 pub record IsComponentOf {E : Type 0} (engine : Engine E) (options : OptionsView)
     (parts : List PartView) (component : ComponentView E) : Type 0 where
   pub is_printed : component.pattern_string ≡ printed options parts
@@ -90,26 +93,27 @@ pub record IsComponentOf {E : Type 0} (engine : Engine E) (options : OptionsView
       component.matcher
   pub regexp_flag : component.has_regexp_group ≡ has_regexp parts
 
--- The component is compiled from the text: its fields are made of parts that the text reads as.
+-- `component` is compiled from `text`: its fields are made of parts that `text` is parsed to.
 abbrev pub IsCompiledFrom : {E : Type 0} → Engine E → (text : List ℕ) → OptionsView → Encoding
     → ComponentView E → Type 0
 IsCompiledFrom engine text options encoding component =
     (parts : List PartView) × Reads text options encoding parts
     × IsComponentOf engine options parts component
 
--- The component is compiled from the text, and the parts that are kept with it are those that the
--- text reads as: its five fields are made of them.
+-- `made` is compiled from `text`: it keeps `options` and the parts that `text` is parsed to, and
+-- the five fields of its component are made of these.
 pub record IsCompiledKeeping {E : Type 0} (engine : Engine E) (text : List ℕ)
     (options : OptionsView) (encoding : Encoding) (made : ComponentWithParts E) : Type 0 where
   pub options_are : kept_options made.kept ≡ options
   pub reads : Reads text options encoding (kept_parts made.kept)
   pub is_made : IsComponentOf engine options (kept_parts made.kept) (component_view made.component)
 
--- The error is one with which the text is rejected, or that memory ran out.
+-- `error` is one with which `text` is rejected, or says that memory ran out.
 abbrev pub FailsToRead : (text : List ℕ) → OptionsView → Encoding → Error → Type 0
 FailsToRead text options encoding error = MemoryOr (Rejects text options encoding) error
 
--- If the component is made of some parts, its matcher returns what they mean.
+-- If `component` is made of some parts by `engine`, its matcher returns what these parts mean, as
+-- `ReturnsByMeaning` says.
 abbrev pub ReturnsByItsParts : {E : Type 0} → Engine E → OptionsView → ComponentView E → Type 0
 ReturnsByItsParts engine options component =
     (parts : List PartView) → IsComponentOf engine options parts component

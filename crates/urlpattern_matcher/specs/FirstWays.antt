@@ -1,4 +1,7 @@
--- Values and matchers that return first ways, of any engine.
+-- Engines whose values and matchers return first ways. A *way* is one way in which an expression
+-- matches a text, with its captures; the first is the one that a backtracking engine finds first.
+-- The *tree* of an expression is what it is parsed to in the dialect of generated expressions; a
+-- custom one may have none.
 use Rattle.std.specs.Prelude.{◌≡◌, ⊤, ℕ, false, List, Option, IsOk, IsTrue}
 use Rattle.std.specs.Str.{all_scalars}
 use Rattle.urlpattern_meaning.specs.FirstResults.{IsFirstOf, ReturnsFirst, AcceptedText}
@@ -14,28 +17,31 @@ use Rattle.urlpattern_syntax.specs.Text.{lacks, line_feed}
 
 -- ---- values
 
--- Flags with which the values of an engine keep case.
+-- The type of a predicate that holds of flags with which the values of an engine do not ignore
+-- case.
 abbrev pub Keeping : Type 1
 Keeping = (flags : List ℕ) → Type 0
 
--- The flags have no `i`.
+-- The flags have no `i`, so case counts.
 abbrev pub KeepsCase : Keeping
 KeepsCase flags = ignores_case flags ≡ false
 
--- Each value that was made with flags that keep case returns the first way of the tree of its text.
+-- Each value that `engine` made with flags that keep case returns, for texts of characters, the
+-- captures of the first way of the tree of its expression, if the expression has a tree.
 abbrev pub ValuesReturnFirst : {E : Type 0} → Engine E → Keeping → Type 0
 ValuesReturnFirst {E} engine Keeps =
     (regexp flags : List ℕ) (value : E) → Keeps flags → engine.IsMade value regexp flags
     → ReturnsFirst regexp (engine.answer value)
 
--- Each value that was made with flags that keep case follows its text, if the text has a tree.
+-- Each value that `engine` made with flags that keep case returns what the tree of its expression
+-- means, if the expression has a tree.
 abbrev pub ValuesFollowTexts : {E : Type 0} → Engine E → Keeping → Type 0
 ValuesFollowTexts {E} engine Keeps =
     (regexp flags : List ℕ) (tree : Items) (value : E) → IsTreeOf regexp tree → Keeps flags
     → engine.IsMade value regexp flags → Follows regexp (engine.answer value)
 
--- Each value that was made of the regular expression of parts, none of them custom, with flags that
--- keep case, follows the expression.
+-- Each value that `engine` made of the regular expression of parts, none of them custom, with flags
+-- that keep case, returns what the tree of the expression means.
 abbrev pub ValuesFollowParts : {E : Type 0} → Engine E → Keeping → Type 0
 ValuesFollowParts {E} engine Keeps =
     (options : OptionsView) (flags : List ℕ) (parts : List PartView) (value : E)
@@ -44,8 +50,9 @@ ValuesFollowParts {E} engine Keeps =
     engine.IsMade value (regexp_text options parts) flags
     → Follows (regexp_text options parts) (engine.answer value)
 
--- Each value that was made of the regular expression of parts, none of them custom, returns the
--- first way of its tree. The flags decide whether case is ignored.
+-- Each value that `engine` made of the regular expression of parts, none of them custom, returns
+-- the captures of the first way of the tree of the expression. The flags decide whether case is
+-- ignored.
 abbrev pub ValuesReturnByFlags : {E : Type 0} → Engine E → Type 0
 ValuesReturnByFlags {E} engine =
     (options : OptionsView) (flags : List ℕ) (parts : List PartView) (tree : Items) (value : E)
@@ -54,7 +61,8 @@ ValuesReturnByFlags {E} engine =
     engine.IsMade value (regexp_text options parts) flags
     → (text : List ℕ) → engine.answer value text ≡ first_way_by (ignores_case flags) tree text
 
--- Values of two engines that were made of the same text return the same for texts of characters.
+-- Values that two engines made of one expression, with flags that keep case, return equal captures
+-- for each text of characters.
 abbrev pub ValuesReturnAlike : {E F : Type 0} → Engine E → (other : Engine F) → Keeping → Type 0
 ValuesReturnAlike {E} {F} engine other Keeps =
     (regexp flags : List ℕ) (value : E) (another : F) (text : List ℕ) → Keeps flags
@@ -63,12 +71,13 @@ ValuesReturnAlike {E} {F} engine other Keeps =
 
 -- ---- matchers
 
--- In which sense an engine accepted, with these options and flags, what a matcher needs.
+-- The type of a predicate that says in which sense an engine accepted what a matcher needs: it
+-- holds of options, of flags, and of what is between the prefix and the suffix of the matcher.
 abbrev pub Acceptance : Type 0 → Type 1
 Acceptance E = OptionsView → (flags : List ℕ) → InnerView E → Type 0
 
--- The engine made the matcher of parts, none of them custom, case is kept, and the engine accepted,
--- in the sense of `Accepted`, what the matcher needs.
+-- `engine` made `matcher` of `parts`, none of them custom, with case kept, and accepted, in the
+-- sense of `Accepted`, what the matcher needs.
 pub record IsAcceptedBy {E : Type 0} (engine : Engine E) (Accepted : Acceptance E)
     (options : OptionsView) (flags : List ℕ) (parts : List PartView) (matcher : MatcherView E) :
     Type 0 where
@@ -77,15 +86,16 @@ pub record IsAcceptedBy {E : Type 0} (engine : Engine E) (Accepted : Acceptance 
   pub case_kept : options.ignore_case ≡ false
   pub took : Accepted options flags matcher.inner
 
--- Each result of the matcher for a text of characters without line feed is the first way of the
--- tree of the parts: a meaning of the parts, or None if there is none.
+-- For each text of characters without line feed, the matcher returns the captures of the first way
+-- of the tree of the regular expression of `parts`, with which the parts mean the text, or None if
+-- they do not mean it.
 abbrev pub ReturnsFirstWays : {E : Type 0} → (answer : E → List ℕ → Option Captures) → OptionsView
     → List PartView → MatcherView E → Type 0
 ReturnsFirstWays answer options parts matcher =
     EachResultIs answer matcher (λ text result.
     IsFirstOf options parts text result × Agrees options parts text result)
 
--- Two matchers return the same for each text of characters without line feed.
+-- The two matchers return equal results for each text of characters without line feed.
 abbrev pub ReturnAlike : {E : Type 0} → (answer : E → List ℕ → Option Captures)
     → (matcher another : MatcherView E) → Type 0
 ReturnAlike answer matcher another =
@@ -93,7 +103,8 @@ ReturnAlike answer matcher another =
     → IsTrue (all_scalars text) →
     Returns answer matcher text result → Returns answer another text other → result ≡ other
 
--- Each matcher that the engine made, and for which it accepted what is needed, returns first ways.
+-- Each matcher that `engine` made of parts, none of them custom, with case kept, returns first
+-- ways, if the engine accepted, in the sense of `Accepted`, what the matcher needs.
 abbrev pub EachReturnsFirst : {E : Type 0} → (engine : Engine E)
     → (Accepted : Acceptance E) → Type 0
 EachReturnsFirst {E} engine Accepted =
@@ -101,8 +112,8 @@ EachReturnsFirst {E} engine Accepted =
     IsAcceptedBy engine Accepted options flags parts matcher
     → ReturnsFirstWays engine.answer options parts matcher
 
--- Two matchers that the engine made of the same parts, and for which it accepted what is needed,
--- return the same.
+-- Two matchers that `engine` made of one list of parts, none of them custom, with case kept, return
+-- equal results, if the engine accepted, in the sense of `Accepted`, what each matcher needs.
 abbrev pub AllReturnAlike : {E : Type 0} → (engine : Engine E) → (Accepted : Acceptance E) → Type 0
 AllReturnAlike {E} engine Accepted =
     (options : OptionsView) (flags : List ℕ) (parts : List PartView)
@@ -114,7 +125,8 @@ AllReturnAlike {E} engine Accepted =
 
 -- ---- expressions that are accepted
 
--- The engine has a value wherever a matcher of parts needs one, if none of the parts is custom.
+-- The engine accepts the regular expression of each matcher that needs one, if the matcher is made
+-- of parts, none of them custom.
 abbrev pub MatchersAcceptGenerated : {E : Type 0} → Engine E → Type 0
 MatchersAcceptGenerated {E} engine =
     (options : OptionsView) (flags : List ℕ) (parts : List PartView) (matcher : MatcherView E) →
@@ -122,8 +134,8 @@ MatchersAcceptGenerated {E} engine =
     → AreGenerated parts
     → AcceptedText (λ value. ⊤) matcher.inner
 
--- The engine has a value for a component of parts, none of them custom, and wherever the
--- component's matcher needs one.
+-- For each component of parts, none of them custom, the engine accepts the component's regular
+-- expression, and that of the component's matcher, if the matcher needs one.
 abbrev pub ComponentsAcceptGenerated : {E : Type 0} → Engine E → Type 0
 ComponentsAcceptGenerated {E} engine =
     (options : OptionsView) (parts : List PartView) (component : ComponentView E) →

@@ -3,6 +3,7 @@
 ghost use Rattle.std.specs.Prelude.{◌≡◌, ◌↔◌, [], ℕ, List, IfErr, IfNone, IfOk, IfSome, IsTrue, map, not};
 ghost use Rattle.std.specs.{Char.to_ascii_lowercase, Str.chars};
 ghost use Rattle.urlpattern_meaning.specs.CaptureTexts.{captures_view};
+ghost use Rattle.urlpattern_matcher.specs.Looks.{look_result, NeedsEngine};
 ghost use Rattle.urlpattern_matcher.specs.Matchers.{BeginsWithFolded, EndsWithFolded, matcher_view};
 ghost use Rattle.urlpattern_meaning.specs.Matching.{Returns, CallsEngine, HasMiddle, IsMatched, IsSame, MayBeEmpty, MayRunOutOfMemory, PassesFilter};
 ghost use Rattle.urlpattern_syntax.specs.{Errors.OnlyOutOfMemory, Text.lacks};
@@ -63,14 +64,14 @@ pub enum InnerMatcher<R> {
     },
     /// A text that an engine matches, with its captures. No text matches if an error is kept.
     RegExp {
-        /// The engine's value, or why there is none.
+        /// The engine's value, or the error with which the engine rejected the expression.
         regexp: Result<R, Error>,
     },
 }
 
 impl<R: RegExp> Matcher<R> {
-    /// Returns what the groups capture, in order: slices of the text, with `None` for a group that
-    /// took no part. `None` as a whole: the text does not match.
+    /// Returns what the groups capture of `input`, in order: slices of `input`, with `None` for a
+    /// group that took no part. `None` as a whole: `input` does not match.
     ///
     /// A mismatch that is found without an engine does not allocate, nor does a match of a literal.
     pub fn matches<'a>(
@@ -92,7 +93,7 @@ impl<R: RegExp> Matcher<R> {
         }
     }
 
-    /// Whether a text matches.
+    /// Whether `input` matches.
     ///
     /// Only an engine allocates.
     pub fn accepts(&self, alloc: Global, input: &str) -> Result<bool, Error>
@@ -107,11 +108,46 @@ impl<R: RegExp> Matcher<R> {
             Some(Look::Asks { engine, middle }) => Ok(engine.matches(alloc, middle)?.is_some()),
         }
     }
+
+    /// Matches `input` as far as possible without an engine, and without allocating. `None`:
+    /// `input` does not match. `Asks` is returned only if `input` has the prefix and the suffix,
+    /// and an engine is between them.
+    pub fn look<'m, 'a>(&'m self, input: &'a str) -> Option<Look<'m, 'a, R>>
+        ensures answer { Returns R.answer (matcher_view self.now) (chars input.now)
+            (look_result R.answer result) }
+        ensures asked { IfSome result (λ look.
+            NeedsEngine look → CallsEngine (matcher_view self.now) (chars input.now)) }
+    {
+        let middle = self.middle(input)?;
+        match &self.inner {
+            InnerMatcher::Literal { literal } => {
+                if self.is_same(middle, literal) {
+                    Some(Look::Matched)
+                } else {
+                    None
+                }
+            }
+            InnerMatcher::SingleCapture {
+                filter,
+                allow_empty,
+            } => {
+                if self.is_captured(middle, *filter, *allow_empty) {
+                    Some(Look::Captured(middle))
+                } else {
+                    None
+                }
+            }
+            InnerMatcher::RegExp { regexp } => match regexp {
+                Ok(engine) => Some(Look::Asks { engine, middle }),
+                Err(_) => None,
+            },
+        }
+    }
 }
 
 impl<R> Matcher<R> {
-    /// Returns the text between prefix and suffix. `None`: the text does not begin and end with
-    /// them, or they overlap.
+    /// Returns what is between the prefix and the suffix of `input`. `None`: `input` does not begin
+    /// with the prefix and end with the suffix, or the two overlap.
     fn middle<'a>(&self, input: &'a str) -> Option<&'a str>
         ensures some { IfSome result (λ middle.
             HasMiddle (matcher_view self.now) (chars input.now) (chars middle.now)) }
@@ -138,7 +174,8 @@ impl<R> Matcher<R> {
         self.prefix.is_empty() && self.suffix.is_empty()
     }
 
-    /// Whether a text equals the literal.
+    /// Whether `text` equals `literal`, but for the case of ASCII letters if the matcher ignores
+    /// case.
     fn is_same(&self, text: &str, literal: &str) -> bool
         ensures { IsTrue result ↔ IsSame self.now.ignore_case (chars text.now) (chars literal.now) }
     {
@@ -149,7 +186,8 @@ impl<R> Matcher<R> {
         }
     }
 
-    /// Whether a text may be captured.
+    /// Whether a single capture accepts `text`: it does not contain the character `filter`, and is
+    /// not empty unless `allow_empty` is set.
     fn is_captured(&self, text: &str, filter: Option<char>, allow_empty: bool) -> bool
         ensures { IsTrue result
             ↔ (MayBeEmpty allow_empty (chars text.now)
@@ -158,7 +196,8 @@ impl<R> Matcher<R> {
         (allow_empty || !text.is_empty()) && self.passes(text, filter)
     }
 
-    /// Whether a text lacks the filter's character.
+    /// Whether `text` does not contain the character `filter`, if there is one. The case of ASCII
+    /// letters is ignored if the matcher ignores case.
     fn passes(&self, text: &str, filter: Option<char>) -> bool
         ensures { IsTrue result ↔ PassesFilter self.now.ignore_case filter (chars text.now) }
     {
@@ -170,7 +209,8 @@ impl<R> Matcher<R> {
     }
 }
 
-/// Returns the text after a prefix, where the case of ASCII letters is ignored.
+/// Returns what follows `prefix` in `text`, where the case of ASCII letters is ignored. `None`:
+/// `text` does not begin with `prefix`.
 fn strip_prefix_ignoring_case<'a>(text: &'a str, prefix: &str) -> Option<&'a str>
     ensures some { IfSome result (λ rest.
         BeginsWithFolded (chars prefix.now) (chars text.now) (chars rest.now)) }
@@ -181,7 +221,8 @@ fn strip_prefix_ignoring_case<'a>(text: &'a str, prefix: &str) -> Option<&'a str
     front.eq_ignore_ascii_case(prefix).then_some(rest)
 }
 
-/// Returns the text before a suffix, where the case of ASCII letters is ignored.
+/// Returns what precedes `suffix` in `text`, where the case of ASCII letters is ignored. `None`:
+/// `text` does not end with `suffix`.
 fn strip_suffix_ignoring_case<'a>(text: &'a str, suffix: &str) -> Option<&'a str>
     ensures some { IfSome result (λ rest.
         EndsWithFolded (chars suffix.now) (chars text.now) (chars rest.now)) }
@@ -193,7 +234,7 @@ fn strip_suffix_ignoring_case<'a>(text: &'a str, suffix: &str) -> Option<&'a str
     back.eq_ignore_ascii_case(suffix).then_some(rest)
 }
 
-/// Whether a text contains a character, where the case of ASCII letters is ignored.
+/// Whether `text` contains `c`, where the case of ASCII letters is ignored.
 fn has_ignoring_case(text: &str, c: char) -> bool
     ensures { not result ≡ lacks (to_ascii_lowercase c) (map to_ascii_lowercase (chars text.now)) }
 {

@@ -19,10 +19,10 @@ use urlpattern_syntax::error::{OutOfMemory, RegExpError};
 
 /// A regular expression, compiled by an engine.
 ///
-/// The ghost members say what an engine means: `syntax_of` is the syntax that it accepts, `IsMade`
-/// says which values are made of a text and flags, `MayReject` which texts, flags and `force_eval`
-/// it may reject, `answer` what a value returns for a text, and `text_made_of` which text a value
-/// was made of.
+/// The ghost members describe the engine: `syntax_of` is the syntax that it accepts, `IsMade` says
+/// which values it may make of an expression and flags, `MayReject` which expressions it may reject
+/// with which flags and `force_eval`, `answer` what a value returns for a text, and `text_made_of`
+/// which expression a value was made of.
 pub trait RegExp: Sized + Drop {
     ghost syntax_of: { RegexSyntax };
 
@@ -34,16 +34,18 @@ pub trait RegExp: Sized + Drop {
 
     ghost text_made_of: { Self → List ℕ };
 
-    /// The syntax that the engine accepts.
+    /// Returns the syntax that the engine accepts. The syntax of generated expressions is that of
+    /// the options, whatever this returns. An engine of ECMAScript's syntax that accepts the
+    /// expression of a component with a custom one is called again, with `force_eval`.
     fn syntax() -> RegexSyntax
         ensures { result ≡ syntax_of };
 
-    /// Compiles a text with these flags.
+    /// Compiles the regular expression `pattern`. In `flags`, `i` says that case is ignored.
     ///
-    /// With `force_eval`, a text that the engine does not accept is rejected at once. Without it,
-    /// the engine may reject the text later.
+    /// With `force_eval`, an expression that the engine does not accept is rejected at once.
+    /// Without `force_eval`, the engine may reject the expression later.
     ///
-    /// The error is that the engine rejects the text, or that memory ran out.
+    /// The error is that the engine rejects the expression, or that memory ran out.
     fn parse(
         alloc: Global,
         pattern: &str,
@@ -54,9 +56,9 @@ pub trait RegExp: Sized + Drop {
         ensures refused { result ≡ Err Pattern
             → MayReject (chars pattern.now) (chars flags.now) force_eval };
 
-    /// Compiles a text to a value that is kept and hardly ever matched, so that an engine may put
-    /// off work until a match. `is_generated` says that the text was generated from parts, none of
-    /// them custom.
+    /// Compiles the regular expression `pattern`, as `parse` does, to a value that is kept and
+    /// hardly ever matched, so that an engine may put off work until a match. `is_generated` says
+    /// that the expression was generated from parts, none of them custom.
     fn parse_to_keep(
         alloc: Global,
         pattern: String,
@@ -72,8 +74,8 @@ pub trait RegExp: Sized + Drop {
         Self::parse(alloc, &pattern, flags, force_eval)
     }
 
-    /// Returns what the groups capture, in order and without the whole match: slices of the text,
-    /// or `None` for a group that took no part. `None` as a whole: the text does not match.
+    /// Returns what the groups capture of `text`, in order and without the whole match: slices of
+    /// `text`, or `None` for a group that took no part. `None` as a whole: `text` does not match.
     fn matches<'a>(
         &self,
         alloc: Global,
@@ -81,13 +83,14 @@ pub trait RegExp: Sized + Drop {
     ) -> Result<Option<Vec<Option<&'a str>>>, OutOfMemory>
         ensures { IfOk result (λ found. captures_view found ≡ answer self.now (chars text.now)) };
 
-    /// Returns the text that the value was made of.
+    /// Returns the regular expression that the value was made of.
     fn pattern_string(&self) -> &str
         ensures { chars result.now ≡ text_made_of self.now };
 
     /// Whether each value that was made of the regular expression of parts, none of them custom,
-    /// with the flag `u` alone, is known to return what the parts mean. An engine for which this is
-    /// not known keeps this body.
+    /// with the flag `u` alone, is known to return what the parts mean: captures with which the
+    /// parts can match the text, one after the other, or `None` if they cannot. An engine for which
+    /// nothing is known keeps the default, `false`.
     fn agrees_with_parts() -> bool
         ensures { IsTrue result → ValuesAgreeWithParts IsMade answer }
     {

@@ -15,20 +15,22 @@ use Rattle.urlpattern_components.specs.Eight.{Texts, at, each}
 abbrev pub texts_view : MatchInput → Texts
 texts_view input = each (λ name. text_of (at (matched_texts input) name))
 
--- The eight texts of a path alone: the other texts are empty.
+-- Eight texts of which only the pathname is not empty.
 abbrev pub pathname_alone : (pathname : List ℕ) → Texts
 pathname_alone pathname = record (each (λ name. [])) { pathname = pathname }
 
--- The eight texts of a match input: those of the URL, or those that the init results in.
+-- The eight texts of a match input: those of the URL, or those of the init's values, with what it
+-- inherits from its base URL. An error: `url` rejects a text of the init.
 abbrev pub input_texts : UrlPatternMatchInput → Parsed Texts
 input_texts (Init init) = and_then (init_values Url init) (λ values. Ok (texts_of_values values))
 input_texts (UrlInput url) = Ok (texts_of_url url)
 
--- The length, in bytes, of the longest text that is passed to `url`; 0 for a URL.
+-- The length, in bytes, of the longest text of the init that is passed to `url`; 0 for a URL.
 abbrev pub input_bytes : UrlPatternMatchInput → ℕ
 input_bytes (Init init) = longest_init_bytes Url init
 input_bytes (UrlInput url) = 0
 
--- The input has no texts: `url` rejects one of them, or one of them is too long.
+-- The input may give no eight texts: `url` rejects a text of an init, or a text may be too long for
+-- `url`.
 abbrev pub IsNoInput : UrlPatternMatchInput → Type 0
 IsNoInput input = IsRejectedByUrl (input_texts input) (input_bytes input)

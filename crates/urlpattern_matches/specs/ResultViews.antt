@@ -14,13 +14,15 @@ use Rattle.urlpattern_components.specs.Eight.{at}
 
 -- ---- groups
 
--- The capture of the group of a name, if there is one: names go with captures in the same order,
--- names or captures without a counterpart are ignored, and the last of equal names counts.
+-- The capture of the group `name`, where names and captures are in one order; names or captures
+-- without a counterpart are ignored, and the last of equal names counts. None: there is no such
+-- group. Some None: the group took no part.
 abbrev pub group_of : (names : List (List ℕ)) → Captures
     → (name : List ℕ) → Option (Option (List ℕ))
 group_of names captures name = lookup (bytes_eq name) (reverse (zip names captures))
 
--- The entry of a map of groups at a name.
+-- The capture of the group `name` in a map of groups. None: there is no such group. Some None: the
+-- group took no part.
 abbrev pub group_in : {S : Type 0} → HashMap (String Global) (Option (String Global)) S
     → (name : List ℕ) → Option (Option (List ℕ))
 group_in groups name =
@@ -28,12 +30,13 @@ group_in groups name =
 
 -- ---- results
 
--- The view of a `UrlPatternComponentResult`: the text that was matched, and the capture of each
--- name.
+-- The view of a `UrlPatternComponentResult`: the text that was matched, and the capture at each
+-- name. None: there is no such group. Some None: the group took no part.
 pub record ResultView : Type 0 where
   pub input : List ℕ
   pub group : (name : List ℕ) → Option (Option (List ℕ))
 
+-- The view of a component's result.
 abbrev pub component_result_view : UrlPatternComponentResult → ResultView
 component_result_view result = record {
   input = text_of result.input;
@@ -53,36 +56,37 @@ results_of result = record {
   hash = result.hash;
 }
 
--- The view of each result.
+-- The view of the result of the component `name`.
 abbrev pub result_view : UrlPatternResult → ComponentName → ResultView
 result_view result name = component_result_view (at (results_of result) name)
 
--- The capture of the group of a name: None if there is no such group, or it took no part.
+-- What the group `name` captured. None: there is no such group, or the group took no part.
 abbrev pub captured_text : ResultView → (name : List ℕ) → Option (List ℕ)
 captured_text result name = option_flatten (result.group name)
 
--- Whether the group of a name took part in the match: None if there is no such group.
+-- Whether the group `name` took part in the match. None: there is no such group.
 abbrev pub took_part : ResultView → (name : List ℕ) → Option Bool
 took_part result name = option_map is_some (result.group name)
 
--- The result of a component with this text, these names of groups and these captures.
+-- `result` is the result of a component for `text`, whose groups have the names `names` and, in the
+-- same order, the captures `captures`.
 pub record IsResultOf (names : List (List ℕ)) (captures : Captures) (text : List ℕ)
     (result : ResultView) : Type 0 where
   pub has_input : result.input ≡ text
   pub has_groups : (name : List ℕ) → result.group name ≡ group_of names captures name
 
--- The copy of an entry has the same name and the same capture.
+-- `copy` is a copy of the map entry `entry`: it has an equal name and an equal capture.
 abbrev pub IsSameEntry : (entry copy : String Global × Option (String Global)) → Type 0
 IsSameEntry entry copy =
     (string_bytes copy.0 ≡ string_bytes entry.0)
     × (option_map string_bytes copy.1 ≡ option_map string_bytes entry.1)
 
--- The copy of a result has the same text, and its groups have the same entries in the same order.
+-- `copy` is a copy of the result `given`: it has an equal text, and equal entries in equal order.
 pub record IsCopy (given copy : UrlPatternComponentResult) : Type 0 where
   pub input : string_bytes copy.input ≡ string_bytes given.input
   pub groups : AllZip IsSameEntry given.groups.entries copy.groups.entries
 
--- The two results have the same text, and the same capture at each name.
+-- The two results have equal texts and, at each name, equal captures.
 abbrev pub IsSameResult : (result other : ResultView) → Type 0
 IsSameResult result other =
     (result.input ≡ other.input) × ((name : List ℕ) → result.group name ≡ other.group name)

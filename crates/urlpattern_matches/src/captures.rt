@@ -1,9 +1,11 @@
 //! Captures of a match, borrowed from the pattern and from the texts that it matches.
 ghost use Rattle.std.specs.Prelude.{◌≡◌, map, option_map, IfOk, IsSomeAnd};
 ghost use Rattle.std.specs.Str.{chars};
-ghost use Rattle.urlpattern_matches.specs.declared.captures.Missed.TheVariants as all_missed;
+ghost use Rattle.serde_json.specs.View.{view};
+ghost use Rattle.urlpattern_matches.specs.declared.captures.NoCaptures.TheVariants as all_missed;
 ghost use Rattle.urlpattern_matches.specs.BorrowedMatches.{all_groups_left, all_groups_view, groups_left, groups_view, borrowed_group, pattern_captures_view, texts_captured, IsCopyOfMatch};
 ghost use Rattle.urlpattern_matches.specs.GroupTexts.{IsCapturedOf, captures_of, texts_of, HasNoGroups, IsWithoutGroups};
+ghost use Rattle.urlpattern_matches.specs.ResultJson.{IsTreeOfCaptures};
 ghost use Rattle.urlpattern_matches.specs.ResultViews.{captured_text, component_result_view, group_of, took_part, IsSameResult};
 ghost use Rattle.urlpattern_syntax.specs.Text.{option_text};
 ghost use Rattle.urlpattern_syntax.specs.Errors.{OnlyOutOfMemory};
@@ -13,6 +15,7 @@ mod groups;
 
 use crate::result::{UrlPatternComponentResult, UrlPatternResult, empty_result};
 pub use groups::{UrlPatternCapturesIter, UrlPatternGroups};
+use serde_json::Value;
 use std::alloc::Global;
 use std::slice;
 use urlpattern_components::{ComponentName, Eight};
@@ -23,7 +26,7 @@ use urlpattern_syntax::error::OutOfMemory;
 
 /// A match: its names are borrowed from the pattern, its texts and captures from the input.
 ///
-/// `UrlPattern::captures` returns it.
+/// `UrlPattern::captures` returns such a match.
 ///
 /// The groups of the path `/users/123`, which `/users/:id{/files/:file}?` matches:
 ///
@@ -34,15 +37,16 @@ use urlpattern_syntax::error::OutOfMemory;
 /// ```
 #[derive(Debug, Clone)]
 pub struct UrlPatternCaptures<'p, 'u> {
-    /// The names of the groups.
+    /// The names of each component's groups, in order.
     names: Eight<&'p Vec<String>>,
-    /// The texts that were matched.
+    /// The text of each component, which was matched.
     texts: Eight<&'u str>,
-    /// The captures of each component.
+    /// The captures of each component's groups, in the order of the names.
     captures: Eight<GroupCaptures<'u>>,
 }
 
-/// Returns the match of these texts, with the names of the groups and their captures.
+/// Puts a match together: the names of each component's groups, the text of each component, and
+/// what the groups capture, in the order of the names.
 pub fn assemble_match<'p, 'u>(
     names: Eight<&'p Vec<String>>,
     texts: Eight<&'u str>,
@@ -61,7 +65,7 @@ pub fn assemble_match<'p, 'u>(
 
 impl Drop for UrlPatternCaptures<'_, '_> {
     /// Drops the captures. Where a match goes out of scope, the prover handles one call in place of
-    /// eight.
+    /// one for each component.
     fn drop(self) {
         let Self {
             names: _,
@@ -72,15 +76,16 @@ impl Drop for UrlPatternCaptures<'_, '_> {
 }
 
 impl<'p, 'u> UrlPatternCaptures<'p, 'u> {
-    /// Returns the text of a component, which was matched.
+    /// Returns the text that the component was matched against.
     pub fn input(&self, component: ComponentName) -> &'u str
         ensures { chars result.now ≡ (pattern_captures_view self.now component).input }
     {
         self.texts.get(component)
     }
 
-    /// Returns what the group of a name captured, a slice of the component's text. `None`: there is
-    /// no such group, or it took no part. The last of equal names counts.
+    /// Returns what the group `name` of a component captured, a slice of the component's text.
+    /// `None`: the component has no such group, or the group took no part. The last of equal names
+    /// counts.
     ///
     /// With `users` compiled from `https://example.com/users/:id`, and `ID` as the text `id`:
     ///
@@ -97,16 +102,16 @@ impl<'p, 'u> UrlPatternCaptures<'p, 'u> {
         self.group(component, name).flatten()
     }
 
-    /// Whether the group of a name took part in the match. `None`: there is no such group. The last
-    /// of equal names counts.
+    /// Whether the group `name` of a component took part in the match. `None`: the component has no
+    /// such group. The last of equal names counts.
     pub fn took_part(&self, component: ComponentName, name: &str) -> Option<bool>
         ensures { result ≡ took_part (pattern_captures_view self.now component) (chars name.now) }
     {
         self.group(component, name).map(|capture| capture.is_some())
     }
 
-    /// Returns the capture of the group with this name. `Some(None)`: the group took no part.
-    /// `None`: there is no such group. The last of equal names counts.
+    /// Returns what the group `name` of a component captured. `Some(None)`: the group took no part.
+    /// `None`: the component has no such group. The last of equal names counts.
     fn group(&self, component: ComponentName, name: &str) -> Option<Option<&'u str>>
         ensures { option_map option_text result
             ≡ (pattern_captures_view self.now component).group (chars name.now) }
@@ -118,7 +123,7 @@ impl<'p, 'u> UrlPatternCaptures<'p, 'u> {
         )
     }
 
-    /// Returns the groups of a component, in order.
+    /// Returns an iterator over the groups of a component, in order: each name with its capture.
     pub fn groups(&self, component: ComponentName) -> UrlPatternGroups<'_, 'p, 'u>
         ensures { groups_left result ≡ groups_view self.now component }
     {
@@ -128,7 +133,8 @@ impl<'p, 'u> UrlPatternCaptures<'p, 'u> {
         )
     }
 
-    /// Returns the groups of all components, in the order of the standard, each with its component.
+    /// Returns an iterator over the groups of all components, in the order of the standard:
+    /// component, name and capture.
     pub fn iter(&self) -> UrlPatternCapturesIter<'_, 'p, 'u>
         ensures { all_groups_left result ≡ all_groups_view self.now components }
     {
@@ -170,8 +176,22 @@ impl<'p, 'u> UrlPatternCaptures<'p, 'u> {
         }
     }
 
-    /// Returns an owned copy of the match, as `to_result` does. A result is large, so the `Option`
-    /// is filled in place.
+    /// Returns the JSON of the match: the JSON of the result that `to_result` returns.
+    pub fn to_json_value(&self, alloc: Global) -> Result<Value, Error>
+        ensures tree { IfOk result (λ tree. IsTreeOfCaptures self.now (view tree)) }
+        ensures memory { OnlyOutOfMemory result }
+    {
+        let copy = self.to_result(alloc)?;
+        let tree = copy.to_json_value(alloc);
+        drop(copy);
+        match tree {
+            Ok(tree) => Ok(tree),
+            Err(error) => Err(error),
+        }
+    }
+
+    /// Returns an owned copy of the match, as `to_result` does, and always `Some`. A result is
+    /// large, so the `Option` is filled in place.
     #[inline(always)]
     pub fn to_found(&self, alloc: Global) -> Result<Option<UrlPatternResult>, Error>
         ensures same { IfOk result (λ found. IsSomeAnd found (IsCopyOfMatch self.now)) }
@@ -187,7 +207,7 @@ impl<'p, 'u> UrlPatternCaptures<'p, 'u> {
         found
     }
 
-    /// Copies the texts, names and captures to a result without groups.
+    /// Copies the texts, names and captures of the match to `copy`, a result without groups.
     fn copy_to(&self, alloc: Global, copy: &mut UrlPatternResult) -> Result<(), OutOfMemory>
         requires { IsWithoutGroups copy.old }
         ensures same { IfOk result (λ _. IsCopyOfMatch self.now copy.new) }
@@ -202,7 +222,8 @@ impl<'p, 'u> UrlPatternCaptures<'p, 'u> {
         self.copy_component(alloc, ComponentName::Hash, &mut copy.hash)
     }
 
-    /// Copies the text, names and captures of a component to a result without groups.
+    /// Copies the text, names and captures of the component `name` to `copy`, a result without
+    /// groups.
     fn copy_component(
         &self,
         alloc: Global,
@@ -222,8 +243,9 @@ impl<'p, 'u> UrlPatternCaptures<'p, 'u> {
     }
 }
 
-/// Returns what the group of this name captures, where names and captures are in the same order.
-/// The last of equal names counts.
+/// Returns what the group `group` captures, where `names` and `captures` are in one order.
+/// `Some(None)`: the group took no part. `None`: no name is `group`. The last of equal names
+/// counts.
 fn group_named<'u>(
     names: &[String],
     captures: &[Option<&'u str>],
@@ -241,38 +263,39 @@ fn group_named<'u>(
     found
 }
 
-/// Why an engine that was called captures nothing.
+/// Why a call of an engine returned no captures.
 #[derive(Drop)]
-pub enum Missed {
+pub enum NoCaptures {
     /// The engine does not match the text.
     Unmatched,
     /// The engine ran out of memory.
     OutOfMemory,
 }
 
-impl From<OutOfMemory> for Missed {
+impl From<OutOfMemory> for NoCaptures {
     ghost from_gives = { λ _ missed. missed ≡ all_missed.OutOfMemory };
 
-    fn from(_error: OutOfMemory) -> Missed {
-        Missed::OutOfMemory
+    fn from(_error: OutOfMemory) -> NoCaptures {
+        NoCaptures::OutOfMemory
     }
 }
 
-/// The captures of a component.
+/// What the groups of a component capture, in order.
 #[derive(Debug, Clone, Drop)]
 pub enum GroupCaptures<'u> {
     /// No groups.
     Nothing,
-    /// A single group.
+    /// What a single group captures.
     One(Option<&'u str>),
     /// The captures that an engine returned.
     Groups(Vec<Option<&'u str>>),
 }
 
 impl<'u> GroupCaptures<'u> {
-    /// Returns what a look captures, and calls its engine if it has one.
+    /// Returns what a component captures of its text, and calls the engine that `look` asks for, if
+    /// any. `look` is what the component's matcher sees in the text before an engine is called.
     #[inline(always)]
-    pub fn of_look<R: RegExp>(alloc: Global, look: Look<'_, 'u, R>) -> Result<Self, Missed>
+    pub fn of_look<R: RegExp>(alloc: Global, look: Look<'_, 'u, R>) -> Result<Self, NoCaptures>
         ensures { IsCapturedOf R.answer look.entry result }
     {
         match look {
@@ -280,12 +303,12 @@ impl<'u> GroupCaptures<'u> {
             Look::Captured(text) => Ok(GroupCaptures::One(Some(text))),
             Look::Asks { engine, middle } => match engine.matches(alloc, middle)? {
                 Some(captures) => Ok(GroupCaptures::Groups(captures)),
-                None => Err(Missed::Unmatched),
+                None => Err(NoCaptures::Unmatched),
             },
         }
     }
 
-    /// Returns the captures, in order.
+    /// Returns the captures as a slice, in order.
     fn as_slice(&self) -> &[Option<&'u str>]
         ensures { map option_text result.now ≡ captures_of self.now }
     {

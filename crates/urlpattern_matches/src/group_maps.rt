@@ -10,8 +10,8 @@ use urlpattern_syntax::error::OutOfMemory;
 /// Captures by the names of the groups. `None`: the group took no part.
 pub(crate) type Groups = HashMap<String, Option<String>>;
 
-/// Adds the captures of the groups with these names, in the same order. The last of equal names
-/// counts.
+/// Adds the groups with these names and captures, which are in one order, to a map without groups.
+/// The last of equal names counts.
 pub(crate) fn add_groups(
     alloc: Global,
     groups: &mut Groups,
@@ -29,7 +29,7 @@ pub(crate) fn add_groups(
     Ok(())
 }
 
-/// Copies a capture.
+/// Returns an owned copy of a capture. `None`: the group took no part.
 fn copied(alloc: Global, capture: Option<&str>) -> Result<Option<String>, AllocError>
     ensures { IfOk result (λ copy. option_map text_of copy ≡ option_text capture.entry) }
 {

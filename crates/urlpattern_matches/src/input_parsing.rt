@@ -1,4 +1,4 @@
-//! The texts that a pattern is matched against.
+//! The eight texts of an input, owned.
 ghost use Rattle.std.specs.Prelude.{◌≡◌, [], Ok, option_map, unwrap_or, MatchOption, IfOk};
 ghost use Rattle.urlpattern_syntax.specs.Errors.{OnlyOutOfMemory};
 ghost use Rattle.urlpattern_syntax.specs.Text.{text_of};
@@ -14,14 +14,14 @@ use urlpattern_init::{UrlPatternMatchInput, process_values};
 use urlpattern_inputs::MatchInput;
 use urlpattern_syntax::Error;
 
-/// Copies the texts of a URL.
+/// Returns a copy of the eight texts of a URL.
 fn of_url(alloc: Global, url: &Url) -> Result<MatchInput, AllocError>
     ensures { IfOk result (λ texts. texts_view texts ≡ texts_of_url url.now) }
 {
     copied(alloc, &url_texts(url))
 }
 
-/// Returns the texts of an init's values.
+/// Returns the eight texts of an init's values. The text of a missing value is empty.
 fn of_values(alloc: Global, values: Eight<Option<String>>) -> MatchInput
     ensures { texts_view result ≡ texts_of_values (values_of values) }
 {
@@ -31,15 +31,15 @@ fn of_values(alloc: Global, values: Eight<Option<String>>) -> MatchInput
     MatchInput::from_eight(values.map(text))
 }
 
-/// Returns the text, or the empty text.
+/// Returns `text`, or the empty text if there is none.
 fn text_or_empty(alloc: Global, text: Option<String>) -> String
     ensures { text_of result ≡ unwrap_or (option_map text_of text) [] }
 {
     text.unwrap_or(String::new(alloc))
 }
 
-/// Returns the texts of an input, with what an init inherits from its base URL. `None`: `url`
-/// rejects a text.
+/// Returns the eight texts of an input: of a URL, or of an init with what it inherits from its base
+/// URL. `None`: `url` rejects a text of the init.
 ///
 /// <https://urlpattern.spec.whatwg.org/#url-pattern-match>
 pub fn parse_match_input(

@@ -1,20 +1,21 @@
 //! What a pattern is matched against, and what it returns: the eight texts of an input, captures
 //! and results.
 //!
-//! `urlpattern` re-exports the types, and `parse_match_input` in its module `quirks`. The other
-//! functions are for `urlpattern_pattern`.
+//! `urlpattern` re-exports the types of matches and results, `url_texts` and `pathname_texts`, and
+//! `parse_match_input` in its module `quirks`. The rest is for `urlpattern_pattern` and the crates
+//! above it.
 #![tactic(auto)]
 
 mod captures;
 mod group_maps;
+mod groups_json;
 mod input_parsing;
 mod result;
-mod result_json;
 pub mod result_laws;
 mod texts;
 
 pub use captures::{
-    GroupCaptures, Missed, UrlPatternCaptures, UrlPatternCapturesIter, UrlPatternGroups,
+    GroupCaptures, NoCaptures, UrlPatternCaptures, UrlPatternCapturesIter, UrlPatternGroups,
     assemble_match,
 };
 pub use input_parsing::parse_match_input;

@@ -1,4 +1,4 @@
-//! The texts that a pattern is matched against, borrowed.
+//! The eight texts of an input, borrowed.
 ghost use Rattle.std.specs.Prelude.{◌≡◌, IfOk};
 ghost use Rattle.std.specs.Str.{chars};
 ghost use Rattle.urlpattern_init.specs.Inheritance as inherited;
@@ -13,7 +13,8 @@ use urlpattern_components::{ComponentName, Eight};
 use urlpattern_init::url_text;
 use urlpattern_inputs::MatchInput;
 
-/// Returns the eight texts of a URL, borrowed, without the marks between them.
+/// Returns the eight texts of a URL, borrowed, without the characters that separate them: the
+/// protocol without `:`, the search without `?`, the hash without `#`.
 pub fn url_texts(url: &Url) -> Eight<&str>
     ensures { borrowed_texts result ≡ texts_of_url url.now }
 {
@@ -23,8 +24,7 @@ pub fn url_texts(url: &Url) -> Eight<&str>
     Eight::from_fn(text)
 }
 
-/// Returns the eight texts of a path alone: the other texts are empty. The path is not made
-/// canonical.
+/// Returns eight texts of which only the pathname is not empty. The pathname is not made canonical.
 pub fn pathname_texts(pathname: &str) -> Eight<&str>
     ensures { borrowed_texts result ≡ pathname_alone (chars pathname.now) }
 {
@@ -50,7 +50,7 @@ pub fn input_texts(input: &MatchInput) -> Eight<&str>
     Eight::from_fn(text)
 }
 
-/// Copies eight texts.
+/// Returns an owned copy of eight texts.
 pub(crate) fn copied(alloc: Global, texts: &Eight<&str>) -> Result<MatchInput, AllocError>
     ensures { IfOk result (λ copies. texts_view copies ≡ borrowed_texts texts.now) }
 {

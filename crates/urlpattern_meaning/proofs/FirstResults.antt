@@ -126,8 +126,8 @@ matcher_first {E} answer IsEngine options parts matcher text result made plain c
     by_inner (SingleCapture filter allow_empty) e firsts = fast (subst (λ i. IsFast i) (sym e) tt)
     by_inner (RegExp (Err error)) e firsts = absurd firsts
     by_inner (RegExp (Ok engine)) e (front, middle, back, peeled, firsts) =
-        let same : middle ≡ made.middle = middle_one parts front made.front middle made.middle back made.back peeled made.are_peeled in
-        engine_by answer options parts made.front made.middle made.back matcher engine text result plain (middle_plain parts made.front made.middle made.back made.are_peeled plain) made.are_peeled
+        let same : middle ≡ made.middle = middle_one parts front made.front middle made.middle back made.back peeled made.are_stripped in
+        engine_by answer options parts made.front made.middle made.back matcher engine text result plain (middle_plain parts made.front made.middle made.back made.are_stripped plain) made.are_stripped
         (ends_of IsEngine options (end_text made.front) made.middle (end_text made.back) matcher (Ok engine) made.is_made e) e case
         (subst (λ m. ReturnsFirst (regexp_text options m) (answer engine)) same firsts) scalars answers
 
@@ -164,8 +164,8 @@ module _ {E : Type 0} (IsEngine : List ℕ → Result E ErrorView → Type 0) (o
         made.front,
         made.middle,
         made.back,
-        made.are_peeled,
-        is engine made.middle (middle_plain parts made.front made.middle made.back made.are_peeled plain)
+        made.are_stripped,
+        is engine made.middle (middle_plain parts made.front made.middle made.back made.are_stripped plain)
             (made_between (end_text made.front) made.middle (end_text made.back) matcher (Ok engine) made.is_made e) took,
       )
 
@@ -179,5 +179,5 @@ module _ {E : Type 0} (IsEngine : List ℕ → Result E ErrorView → Type 0) (o
       by_inner (SingleCapture filter allow_empty) e = tt
       by_inner (RegExp (Ok engine)) e = tt
       by_inner (RegExp (Err error)) e =
-          takes made.middle error (middle_plain parts made.front made.middle made.back made.are_peeled plain)
+          takes made.middle error (middle_plain parts made.front made.middle made.back made.are_stripped plain)
           (made_between (end_text made.front) made.middle (end_text made.back) matcher (Err error) made.is_made e)

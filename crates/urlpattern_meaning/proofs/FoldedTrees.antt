@@ -5,7 +5,7 @@ use Rattle.std.proofs.lemmas.List.{length-map, map-append}
 use Rattle.std.specs.Char.{to_ascii_lowercase}
 use Rattle.urlpattern_meaning.specs.Dialect.{Quantifier, Once, Optional, ZeroOrMore, OneOrMore, LazyOneOrMore, Items, Nothing, Item, Atom, Literal, Dot, AnyBut, Captured, Grouped, Character, Plain, Escaped, character_of, atom_group_count, group_count}
 use Rattle.urlpattern_meaning.specs.Matching.{folded, folded_captures, folded_character, is_same_character}
-use Rattle.urlpattern_meaning.specs.Ways.{Way, Choice, atom_ways, atom_ways_by, capturing, continued, first_way, first_way_by, folded_atom, folded_items, folded_written, empty_way, is_shorter, joined_way, looped, more_rounds, one_that, ordered, quantified_ways, ways, ways_by}
+use Rattle.urlpattern_meaning.specs.Ways.{Way, WaysByText, atom_ways, atom_ways_by, capturing, continued, first_way, first_way_by, folded_atom, folded_items, folded_written, empty_way, is_shorter, joined_way, looped, more_rounds, one_that, ordered, quantified_ways, ways, ways_by}
 
 -- ---- trees
 
@@ -57,7 +57,7 @@ abbrev all_folded : List Way → List Way
 all_folded ways = map folded_way ways
 
 -- The ways of the first choice, folded, are those in which the second matches the folded text.
-abbrev Folds : Choice → Choice → Type 0
+abbrev Folds : WaysByText → WaysByText → Type 0
 Folds choice other = (text : List ℕ) → all_folded (choice text) ≡ other (lower text)
 
 none_folded : (n : ℕ) → folded_captures (replicate n None) ≡ replicate n None
@@ -80,7 +80,7 @@ all_captured : (ways : List Way) → all_folded (map capturing ways) ≡ map cap
 all_captured [] = refl
 all_captured (way ∷ ways) = ap (λ l. capturing (folded_way way) ∷ l) (all_captured ways)
 
-continued_folded : (next other : Choice) → Folds next other → (ways : List Way) → all_folded (continued next ways) ≡ continued other (all_folded ways)
+continued_folded : (next other : WaysByText) → Folds next other → (ways : List Way) → all_folded (continued next ways) ≡ continued other (all_folded ways)
 continued_folded next other folds [] = refl
 continued_folded next other folds (way ∷ ways) =
     map-append folded_way (map (joined_way way) (next way.rest)) (continued next ways)
@@ -109,7 +109,7 @@ either_folded : (b also : Bool) (xs ys xs' ys' : List Way) → b ≡ also → al
 either_folded true also xs ys xs' ys' same one two = one ∙ ap (λ b. cond b xs' ys') same
 either_folded false also xs ys xs' ys' same one two = two ∙ ap (λ b. cond b xs' ys') same
 
-module _ (greedy : Bool) (atom other : Choice) (folds : Folds atom other) where
+module _ (greedy : Bool) (atom other : WaysByText) (folds : Folds atom other) where
   rounds_folded : (n : ℕ) → Folds (more_rounds greedy atom n) (more_rounds greedy other n)
   rounds_folded zero text = ap (λ w. w ∷ []) (idle_folded 0 text)
   rounds_folded (suc n) text =
@@ -119,10 +119,10 @@ module _ (greedy : Bool) (atom other : Choice) (folds : Folds atom other) where
       ∙ ap (continued also) (folds text))
       (ap (λ w. w ∷ []) (idle_folded 0 text))
     where
-      next : Choice
+      next : WaysByText
       next rest = cond (is_shorter rest text) (more_rounds greedy atom n rest) []
 
-      also : Choice
+      also : WaysByText
       also rest = cond (is_shorter rest (lower text)) (more_rounds greedy other n rest) []
 
   looped_folded : Folds (looped greedy atom) (looped greedy other)
@@ -135,17 +135,17 @@ module _ (greedy : Bool) (atom other : Choice) (folds : Folds atom other) where
       (atom text)
       ∙ ap (continued also) (folds text)
     where
-      next : Choice
+      next : WaysByText
       next rest = cond (is_shorter rest text) (more_rounds greedy atom (length rest) rest) (empty_way 0 rest ∷ [])
 
-      also : Choice
+      also : WaysByText
       also rest = cond (is_shorter rest (lower text)) (more_rounds greedy other (length rest) rest) (empty_way 0 rest ∷ [])
 
-or_idle : (groups : ℕ) (choice other : Choice) → Folds choice other → Folds (λ text. choice text ++ empty_way groups text ∷ []) (λ text. other text ++ empty_way groups text ∷ [])
+or_idle : (groups : ℕ) (choice other : WaysByText) → Folds choice other → Folds (λ text. choice text ++ empty_way groups text ∷ []) (λ text. other text ++ empty_way groups text ∷ [])
 or_idle groups choice other folds text =
     map-append folded_way (choice text) (empty_way groups text ∷ []) ∙ ap₂ (λ xs w. xs ++ w ∷ []) (folds text) (idle_folded groups text)
 
-quantified_folded : (quantifier : Quantifier) (groups : ℕ) (atom other : Choice) → Folds atom other → Folds (quantified_ways quantifier groups atom) (quantified_ways quantifier groups other)
+quantified_folded : (quantifier : Quantifier) (groups : ℕ) (atom other : WaysByText) → Folds atom other → Folds (quantified_ways quantifier groups atom) (quantified_ways quantifier groups other)
 quantified_folded Once groups atom other folds = folds
 quantified_folded Optional groups atom other folds = or_idle groups atom other folds
 quantified_folded ZeroOrMore groups atom other folds = or_idle groups (looped true atom) (looped true other) (looped_folded true atom other folds)

@@ -11,7 +11,7 @@ use Rattle.urlpattern_syntax.specs.Parts.{PartView}
 use Rattle.urlpattern_syntax.specs.RegexpText.{group_names, is_fixed_text, is_plain}
 use Rattle.urlpattern_syntax.specs.Tokens.{is_ignored}
 use Rattle.urlpattern_meaning.specs.Printing.{joined, joined_with}
-use Rattle.urlpattern_meaning.specs.RoundTrip.{AllHaveFields, AreNamed, ArePatternParts, AreUnskipped, HasFields, HasUnskipped, IsNamed, IsUnskipped, following_number}
+use Rattle.urlpattern_meaning.specs.RoundTrip.{AllFieldsFit, AreNamed, ArePatternParts, AreUnskipped, FieldsFitKind, HasUnskipped, IsNamed, IsUnskipped, following_number}
 use Rattle.urlpattern_meaning.proofs.MeaningLaws.{with_value}
 use Rattle.urlpattern_meaning.proofs.PrintingLaws.{plain_kind}
 use Rattle.urlpattern_meaning.proofs.RoundTripWords.{AreApart}
@@ -35,19 +35,19 @@ both_fixed part next = record {
 
 -- ---- fields
 
-value_fields : (options : OptionsView) (kind : PartType) (part : PartView) (value : List ℕ) → kind ≡ FixedText → HasFields options kind part → HasFields options kind (with_value part value)
+value_fields : (options : OptionsView) (kind : PartType) (part : PartView) (value : List ℕ) → kind ≡ FixedText → FieldsFitKind options kind part → FieldsFitKind options kind (with_value part value)
 value_fields options FixedText part value e h = h
 value_fields options kind part value e h = absurd (cc e)
 
-fields_pair : (options : OptionsView) (both : Bool) (part next : PartView) (parts : List PartView) → BothFixed both part next → AllHaveFields options (part ∷ next ∷ parts) → AllHaveFields options (pair both part next parts)
+fields_pair : (options : OptionsView) (both : Bool) (part next : PartView) (parts : List PartView) → BothFixed both part next → AllFieldsFit options (part ∷ next ∷ parts) → AllFieldsFit options (pair both part next parts)
 fields_pair options true part next parts fixed h = (value_fields options part.kind part (part.value ++ next.value) (fixed.first refl) h.0, h.1.1)
 fields_pair options false part next parts fixed h = h
 
-fields_first : (options : OptionsView) (part : PartView) (parts : List PartView) → HasFields options part.kind part → AllHaveFields options parts → AllHaveFields options (joined_with part parts)
+fields_first : (options : OptionsView) (part : PartView) (parts : List PartView) → FieldsFitKind options part.kind part → AllFieldsFit options parts → AllFieldsFit options (joined_with part parts)
 fields_first options part [] h more = (h, more)
 fields_first options part (next ∷ parts) h more = fields_pair options (is_plain part && is_plain next) part next parts (both_fixed part next) (h, more)
 
-joined_fields : (options : OptionsView) (parts : List PartView) → AllHaveFields options parts → AllHaveFields options (joined parts)
+joined_fields : (options : OptionsView) (parts : List PartView) → AllFieldsFit options parts → AllFieldsFit options (joined parts)
 joined_fields options [] h = h
 joined_fields options (part ∷ parts) h = fields_first options part (joined parts) h.0 (joined_fields options parts h.1)
 

@@ -104,8 +104,8 @@ matcher_agrees {E} answer IsEngine options parts matcher text result made case n
     by_inner (SingleCapture filter allow_empty) e agrees = fast (subst (λ i. IsFast i) (sym e) tt)
     by_inner (RegExp (Err error)) e agrees = absurd agrees
     by_inner (RegExp (Ok engine)) e (front, middle, back, peeled, agrees) =
-        let same : middle ≡ made.middle = middle_one parts front made.front middle made.middle back made.back peeled made.are_peeled in
-        engine_agrees answer options parts made.front made.middle made.back matcher engine text result made.are_peeled
+        let same : middle ≡ made.middle = middle_one parts front made.front middle made.middle back made.back peeled made.are_stripped in
+        engine_agrees answer options parts made.front made.middle made.back matcher engine text result made.are_stripped
         (ends_of IsEngine options (end_text made.front) made.middle (end_text made.back) matcher (Ok engine) made.is_made e) e case
         (subst (λ m. (t : List ℕ) → IsTrue (all_scalars t) → Agrees options m t (answer engine t)) same agrees) scalars answers
 

@@ -134,7 +134,7 @@ overlap_made E IsEngine = record {
   front = Some (plain (codes "ab"));
   middle = wildcard (codes "0") ∷ [];
   back = Some (plain (codes "ba"));
-  are_peeled = record { cut = refl; front_removed = refl; back_removed = refl };
+  are_stripped = record { cut = refl; front_removed = refl; back_removed = refl };
   is_made = refl;
 }
 
@@ -145,7 +145,7 @@ apart_made E IsEngine = record {
   front = Some (plain (codes "a"));
   middle = [];
   back = Some (plain (codes "b"));
-  are_peeled = record { cut = refl; front_removed = refl; back_removed = refl };
+  are_stripped = record { cut = refl; front_removed = refl; back_removed = refl };
   is_made = refl;
 }
 
@@ -158,7 +158,7 @@ optional_made E IsEngine engine is_made = record {
   front = None;
   middle = fixed_text (codes "a") modifiers.Optional ∷ [];
   back = Some (plain (codes "b"));
-  are_peeled = record { cut = refl; front_removed = no; back_removed = refl };
+  are_stripped = record { cut = refl; front_removed = no; back_removed = refl };
   is_made = (Ok engine, is_made, refl);
 }
 
@@ -171,7 +171,7 @@ optional_refused E IsEngine may_refuse = record {
   front = None;
   middle = fixed_text (codes "a") modifiers.Optional ∷ [];
   back = Some (plain (codes "b"));
-  are_peeled = record { cut = refl; front_removed = no; back_removed = refl };
+  are_stripped = record { cut = refl; front_removed = no; back_removed = refl };
   is_made = (Err views.RegExp, may_refuse, refl);
 }
 

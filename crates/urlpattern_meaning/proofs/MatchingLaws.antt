@@ -232,6 +232,6 @@ pub fast_means : {E : Type 0} (answer : E → List ℕ → Option Captures) (IsE
     IsMadeOf IsEngine options parts matcher → options.ignore_case ≡ false → IsTrue (lacks line_feed text) → IsFast matcher.inner →
     Matches answer matcher text captures ↔ PartsMean options parts text captures
 fast_means answer IsEngine options parts matcher text captures made case no_feed fast =
-    let peeled = peeled_means options parts made.front made.middle made.back text captures made.are_peeled in
+    let peeled = peeled_means options parts made.front made.middle made.back text captures made.are_stripped in
     let accepted = between answer IsEngine options (end_text made.front) made.middle (end_text made.back) matcher text captures case no_feed made.is_made fast in
     (λ h. peeled.1 (accepted.0 h), λ means. accepted.1 (peeled.0 means))

@@ -15,7 +15,7 @@ use Rattle.urlpattern_meaning.specs.Laws.{CountFrom, numbers_among}
 use Rattle.urlpattern_syntax.specs.Options.{OptionsView}
 use Rattle.urlpattern_syntax.specs.Parts.{PartView}
 use Rattle.urlpattern_syntax.specs.Pieces.{ArePieces, Ending, IsPlaceholderOf, PlaceholderKindView, Piece, kinds, values, Ending as endings, PlaceholderKindView as matched, Piece as pieces}
-use Rattle.urlpattern_syntax.specs.Reading.{AreMet, Capture, Demand, Encoding, Fixed, Item, Reads, demands_after, encode_fixed, items_from, items_of, joined_items, name_or, next_number, with_text}
+use Rattle.urlpattern_syntax.specs.Reading.{AreMet, Capture, Demand, Encoding, Fixed, Item, Reads, demands_after, fixed_text_demands, items_from, items_of, joined_items, name_or, next_number, with_text}
 use Rattle.urlpattern_syntax.specs.RegexpText.{group_names}
 use Rattle.urlpattern_syntax.specs.Text.{begins_with, BeginsWith}
 use Rattle.urlpattern_syntax.specs.Tokens.{AreTokens, IsName, TokenView}
@@ -125,7 +125,7 @@ NewNames earlier [] = Unit {0}
 NewNames earlier (Fixed text modifier ∷ items) = NewNames earlier items
 NewNames earlier (Capture prefix name match suffix modifier ∷ items) = (¬ Contains earlier name) × NewNames (earlier ++ name ∷ []) items
 
-met_fixed : (encoding : Encoding) (text : List ℕ) (rest : List Demand) → AreMet encoding (encode_fixed text ++ rest) → AreMet encoding rest
+met_fixed : (encoding : Encoding) (text : List ℕ) (rest : List Demand) → AreMet encoding (fixed_text_demands text ++ rest) → AreMet encoding rest
 met_fixed encoding [] rest h = h
 met_fixed encoding (c ∷ text) rest h = h.1
 

@@ -118,7 +118,7 @@ custom_none text captures means = (part_alone means).are_captures
 
 -- The pattern `*` on a line feed: the matcher matches, and the parts do not mean the text.
 pub feed_shape : (E : Type 0) → HasShapeOf default_options (wildcard (codes "0") ∷ []) (wildcard_matcher E [] [])
-feed_shape E = record { front = None; middle = wildcard (codes "0") ∷ []; back = None; are_peeled = record { cut = refl; front_removed = no; back_removed = no }; is_made = refl }
+feed_shape E = record { front = None; middle = wildcard (codes "0") ∷ []; back = None; are_stripped = record { cut = refl; front_removed = no; back_removed = no }; is_made = refl }
 
 pub feed_answered : (E : Type 0) (answer : E → List ℕ → Option Captures) → Returns answer (wildcard_matcher E [] []) (codes "\n") (Some (Some (codes "\n") ∷ []))
 feed_answered E answer = (codes "\n", ([], [], refl, refl, refl), (tt, tt, refl))
@@ -142,7 +142,7 @@ abbrev pub letter_matcher : (E : Type 0) → MatcherView E
 letter_matcher E = record { prefix = []; suffix = []; inner = Literal (codes "A"); ignore_case = true }
 
 pub letter_shape : (E : Type 0) → HasShapeOf ignoring_case (plain (codes "A") ∷ []) (letter_matcher E)
-letter_shape E = record { front = Some (plain (codes "A")); middle = []; back = None; are_peeled = record { cut = refl; front_removed = refl; back_removed = λ h. h }; is_made = refl }
+letter_shape E = record { front = Some (plain (codes "A")); middle = []; back = None; are_stripped = record { cut = refl; front_removed = refl; back_removed = λ h. h }; is_made = refl }
 
 pub letter_answered : (E : Type 0) (answer : E → List ℕ → Option Captures) → Returns answer (letter_matcher E) (codes "a") (Some [])
 letter_answered E answer = (codes "a", ([], [], refl, refl, refl), (refl, refl))

@@ -18,7 +18,7 @@ use Rattle.urlpattern_syntax.specs.Errors.{ErrorView, ErrorView as views}
 use Rattle.urlpattern_syntax.specs.Options.{OptionsView}
 use Rattle.urlpattern_syntax.specs.Parts.{PartView, fixed_text}
 use Rattle.urlpattern_syntax.specs.Pieces.{ArePieces, Ending, IsEnding, Piece, Ending as endings}
-use Rattle.urlpattern_syntax.specs.Reading.{AreMet, AreParts, Capture, Demand, Encode, Encoding, Expect, FirstFails, Fixed, IsMet, Item, NewName, capture_part, demands, demands_after, encode_fixed, items_of}
+use Rattle.urlpattern_syntax.specs.Reading.{AreMet, AreParts, Capture, Demand, Encode, Encoding, Expect, FirstFails, Fixed, IsMet, Item, NewName, capture_part, demands, demands_after, fixed_text_demands, items_of}
 use Rattle.urlpattern_syntax.specs.Tokens.{AreTokens, TokenView}
 
 -- ---- decisions
@@ -113,7 +113,7 @@ met_after encoding [] ys h = h
 met_after encoding (x ∷ xs) ys h = met_after encoding xs ys h.1
 
 -- Before the end of the tokens the encoding is called with each fixed text.
-demands-stops : (earlier : List (List ℕ)) (text : List ℕ) (modifier : PartModifier) (items : List Item) (found : TokenView) → demands_after earlier (Fixed text modifier ∷ items) (endings.Stops found) ≡ encode_fixed text ++ demands_after earlier items (endings.Stops found)
+demands-stops : (earlier : List (List ℕ)) (text : List ℕ) (modifier : PartModifier) (items : List Item) (found : TokenView) → demands_after earlier (Fixed text modifier ∷ items) (endings.Stops found) ≡ fixed_text_demands text ++ demands_after earlier items (endings.Stops found)
 demands-stops earlier text modifiers.None [] found = refl
 demands-stops earlier text modifiers.None (x ∷ items) found = refl
 demands-stops earlier text modifiers.Optional items found = refl
@@ -140,13 +140,13 @@ met_close : (encoding : Encoding) (earlier : List (List ℕ)) (items : List Item
 met_close encoding earlier [] found met = met.0
 met_close encoding earlier (Fixed text modifiers.None ∷ []) found met = met.0
 met_close encoding earlier (Fixed text modifiers.None ∷ x ∷ items) found met =
-    met_close encoding earlier (x ∷ items) found (met_after encoding (encode_fixed text) (demands_after earlier (x ∷ items) (endings.LacksClose found)) met)
+    met_close encoding earlier (x ∷ items) found (met_after encoding (fixed_text_demands text) (demands_after earlier (x ∷ items) (endings.LacksClose found)) met)
 met_close encoding earlier (Fixed text modifiers.Optional ∷ items) found met =
-    met_close encoding earlier items found (met_after encoding (encode_fixed text) (demands_after earlier items (endings.LacksClose found)) met)
+    met_close encoding earlier items found (met_after encoding (fixed_text_demands text) (demands_after earlier items (endings.LacksClose found)) met)
 met_close encoding earlier (Fixed text modifiers.ZeroOrMore ∷ items) found met =
-    met_close encoding earlier items found (met_after encoding (encode_fixed text) (demands_after earlier items (endings.LacksClose found)) met)
+    met_close encoding earlier items found (met_after encoding (fixed_text_demands text) (demands_after earlier items (endings.LacksClose found)) met)
 met_close encoding earlier (Fixed text modifiers.OneOrMore ∷ items) found met =
-    met_close encoding earlier items found (met_after encoding (encode_fixed text) (demands_after earlier items (endings.LacksClose found)) met)
+    met_close encoding earlier items found (met_after encoding (fixed_text_demands text) (demands_after earlier items (endings.LacksClose found)) met)
 met_close encoding earlier (Capture prefix name match suffix modifier ∷ items) found met =
     met_close encoding (earlier ++ name ∷ []) items found met.1.1.1
 

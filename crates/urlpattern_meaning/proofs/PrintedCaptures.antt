@@ -13,7 +13,7 @@ use Rattle.urlpattern_syntax.specs.Reading.{Capture, placeholder_regexp, items_f
 use Rattle.urlpattern_syntax.specs.RegexpText.{is_empty, is_fixed_text, is_unmodified}
 use Rattle.urlpattern_syntax.specs.Text.{BeginsWith, begins_with, byte_len, is_name_part}
 use Rattle.urlpattern_syntax.specs.Tokens.{TokenView, end_of}
-use Rattle.urlpattern_meaning.specs.Printing.{admits_asterisk, first_part, continues_name, has_custom_name, has_other_prefix, has_suffix, last_of, needs_braces, printed_after, printed_fixed, printed_group, printed_part, absorbs_before, absorbs_next}
+use Rattle.urlpattern_meaning.specs.Printing.{is_wildcard_after, first_part, continues_name, has_custom_name, has_other_prefix, has_suffix, last_of, needs_braces, printed_after, printed_fixed, printed_group, printed_part, absorbs_before, absorbs_next}
 use Rattle.urlpattern_meaning.specs.RoundTrip.{IsPrefixPoint, following_number}
 use Rattle.urlpattern_meaning.proofs.PrintedAfter.{Behind, ReadsBack, are_more, after_any, goes_by, goes_not}
 use Rattle.urlpattern_meaning.proofs.PrintedGroups.{GroupPiece, IsGroup, group_bare, group_braced}
@@ -47,7 +47,7 @@ filled_text (c ∷ text) h = refl
 -- ---- beginnings of groups
 
 -- After a group without modifier no asterisk is printed.
-admits_none : (before : PartView) → is_fixed_text before.kind ≡ false → IsTrue (is_unmodified before.modifier) → admits_asterisk (Some before) ≡ false
+admits_none : (before : PartView) → is_fixed_text before.kind ≡ false → IsTrue (is_unmodified before.modifier) → is_wildcard_after (Some before) ≡ false
 admits_none before group plain = ap (λ b. b || not (is_unmodified before.modifier)) group ∙ ap not plain
 
 -- A fixed text that ends with the prefix code point would lose it to a group without braces and
@@ -98,7 +98,7 @@ module _ (options : OptionsView) (whole : List ℕ) (before : Option PartView) (
   after_by : (braces : Bool) → needs_braces options before part (first_part parts) ≡ braces → (piece : GroupPiece options (byte_len whole) number before part braces rest last) → (earlier : PartView) → before ≡ Some earlier →
       Behind options earlier (Some part) (printed_part options before part (first_part parts) ++ rest) ((piece.tokens ++ more.tokens) ++ end_of whole ∷ [])
   after_by braces e piece earlier f = record {
-    no_modifier = λ group plain. by_tokens is_modifier (piece.no_modifier (ap admits_asterisk f ∙ admits_none earlier group plain));
+    no_modifier = λ group plain. by_tokens is_modifier (piece.no_modifier (ap is_wildcard_after f ∙ admits_none earlier group plain));
     no_placeholder = λ fixed filled g. by_tokens is_placeholder (piece.no_placeholder (λ prefix. sym e ∙ or_right _ _ (ap (λ b. absorbs_before options b part) f ∙ before_taken options earlier part prefix fixed filled g)));
     no_regexp = λ alone plain free. by_tokens is_regexp (piece.no_regexp (own (goes_not earlier part alone plain free)));
     no_name_part = λ alone plain free. subst (λ t. ¬ BeginsWith is_name_part (t ++ rest)) (sym (group_printed options before part (first_part parts) braces is.group e))

@@ -13,8 +13,8 @@ use Rattle.urlpattern_syntax.specs.Reading.{Capture, item, number_after}
 use Rattle.urlpattern_syntax.specs.RegexpText.{escaped, is_empty, is_fixed_text, is_unmodified, modifier_text}
 use Rattle.urlpattern_syntax.specs.Text.{BeginsWith, begins_with, is_among, is_name_part}
 use Rattle.urlpattern_syntax.specs.Tokens.{TokenView}
-use Rattle.urlpattern_meaning.specs.Printing.{admits_asterisk, escaped_pattern, has_custom_name, has_other_prefix, is_asterisk, is_name_alone, pattern_marks, printed_group, printed_match, printed_name, printed_suffix}
-use Rattle.urlpattern_meaning.specs.RoundTrip.{HasFields, IsNamed, IsPrefixPoint, IsUnskipped, following_number}
+use Rattle.urlpattern_meaning.specs.Printing.{escaped_pattern, has_custom_name, has_other_prefix, is_asterisk, is_name_alone, is_wildcard_after, pattern_marks, printed_group, printed_match, printed_name, printed_suffix}
+use Rattle.urlpattern_meaning.specs.RoundTrip.{FieldsFitKind, IsNamed, IsPrefixPoint, IsUnskipped, following_number}
 use Rattle.urlpattern_meaning.proofs.PrintedBraces.{SuffixTokens, braced_run, braced_tokens, closing_text, is_braced, modifier_ends, modifier_is, modifier_regexp, modifier_run, modifier_takes, modifier_tokens, suffix_ends, suffix_text, suffix_tokens, text_ends, texts_no_regexp}
 use Rattle.urlpattern_meaning.proofs.PrintedPlaceholders.{Placed, Shows, name_by, named_no_regexp, not_anything, placed_no_modifier, placed_part, placeholder_of, shows_part, takes_regexp}
 use Rattle.urlpattern_meaning.proofs.PrintedMeanings.{kind_by, text_are, text_first, text_no_modifier, text_no_placeholder, text_no_regexp, text_run, text_tokens}
@@ -23,7 +23,7 @@ use Rattle.urlpattern_meaning.proofs.PrintedTokens.{Run, mark_ends, run_joined}
 -- The properties of a group, where `number` groups before it have no name.
 pub record IsGroup (options : OptionsView) (number : ℕ) (part : PartView) : Type 0 where
   pub group : is_fixed_text part.kind ≡ false
-  pub fields : HasFields options part.kind part
+  pub fields : FieldsFitKind options part.kind part
   pub named : IsNamed number part.kind part.name
   pub prefix : IsUnskipped part.prefix
   pub suffix : IsUnskipped part.suffix
@@ -38,7 +38,7 @@ pub record GroupPiece (options : OptionsView) (total number : ℕ) (before : Opt
   pub shows : Shows options number part.kind part placeholder
   pub is_item : item number piece ≡ Capture part.prefix part.name placeholder.matched part.suffix part.modifier
   pub is_number : number_after number piece ≡ following_number number part.kind part
-  pub no_modifier : admits_asterisk before ≡ false → ¬ BeginsWithKind is_modifier (tokens ++ behind)
+  pub no_modifier : is_wildcard_after before ≡ false → ¬ BeginsWithKind is_modifier (tokens ++ behind)
   pub no_placeholder : (part.prefix ≡ [] → braces ≡ true) → ¬ BeginsWithKind is_placeholder (tokens ++ behind)
   pub no_regexp : (part.prefix ≡ [] → braces ≡ false → IsTrue (has_custom_name part)) → ¬ BeginsWithKind is_regexp (tokens ++ behind)
   pub no_name_part : (part.prefix ≡ [] → braces ≡ false → IsTrue (has_custom_name part)) → ¬ BeginsWith is_name_part (printed_group options before part braces ++ rest)
@@ -208,7 +208,7 @@ group_bare options total number before part rest behind is_point is ends other l
   is_number = shows.number_after;
   no_modifier = λ none. first is_modifier text_no_modifier
       (λ e. placed_no_modifier placed.tokens (back ++ behind) placeholder.name placeholder.matched placed.is_placeholder
-      (not_anything options part.kind part asterisk (no_asterisk (has_custom_name part) (admits_asterisk before) part.prefix e none)));
+      (not_anything options part.kind part asterisk (no_asterisk (has_custom_name part) (is_wildcard_after before) part.prefix e none)));
   no_placeholder = λ braces. first is_placeholder text_no_placeholder (λ e. absurd (false≢true (braces e)));
   no_regexp = λ custom. first is_regexp text_no_regexp
       (λ e. named_no_regexp placed.tokens (back ++ behind) part.name placeholder.matched
@@ -246,7 +246,7 @@ group_bare options total number before part rest behind is_point is ends other l
 
     placed : Placed total (name ++ (match ++ more)) more placeholder
     placed =
-        placed_part options total number part.kind part asterisk more (unnamed_asterisk (has_custom_name part) (admits_asterisk before || false || not (is_empty part.prefix))) is.group is.fields is.named
+        placed_part options total number part.kind part asterisk more (unnamed_asterisk (has_custom_name part) (is_wildcard_after before || false || not (is_empty part.prefix))) is.group is.fields is.named
         (λ alone. modifier_ends part.modifier rest (leaves.no_name_part alone))
 
     front : List TokenView

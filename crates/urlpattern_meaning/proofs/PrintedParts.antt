@@ -12,7 +12,7 @@ use Rattle.urlpattern_syntax.specs.Parts.{PartView}
 use Rattle.urlpattern_syntax.specs.RegexpText.{is_fixed_text, is_unmodified}
 use Rattle.urlpattern_syntax.specs.Tokens.{end_of}
 use Rattle.urlpattern_meaning.specs.Printing.{HaveTexts, printed}
-use Rattle.urlpattern_meaning.specs.RoundTrip.{AllHaveFields, AreNamed, ArePatternParts, AreUnskipped, HasFields, HasUnskipped, IsNamed, IsPrefixPoint, IsUnskipped, following_number}
+use Rattle.urlpattern_meaning.specs.RoundTrip.{AllFieldsFit, AreNamed, ArePatternParts, AreUnskipped, FieldsFitKind, HasUnskipped, IsNamed, IsPrefixPoint, IsUnskipped, following_number}
 use Rattle.urlpattern_meaning.proofs.PrintedAfter.{ReadsBack, reads_end}
 use Rattle.urlpattern_meaning.proofs.PrintedCaptures.{step_group}
 use Rattle.urlpattern_meaning.proofs.PrintedFixed.{step_modified, step_plain}
@@ -28,7 +28,7 @@ apart_rest part (next ∷ parts) h = h.1
 -- The properties of a part before others that are read back.
 record IsBefore (options : OptionsView) (whole : List ℕ) (number : ℕ) (part : PartView) (parts : List PartView) : Type 0 where
   pub point : IsPrefixPoint options.prefix
-  pub fields : HasFields options part.kind part
+  pub fields : FieldsFitKind options part.kind part
   pub named : IsNamed number part.kind part.name
   pub filled : IsTrue (is_fixed_text part.kind) → part.value ≢ []
   pub unskipped : HasUnskipped part.kind part
@@ -37,7 +37,7 @@ record IsBefore (options : OptionsView) (whole : List ℕ) (number : ℕ) (part 
 
 step_fixed : (options : OptionsView) (whole : List ℕ) (before : Option PartView) (number : ℕ) (part : PartView) (parts : List PartView) (modifier : PartModifier) → part.kind ≡ FixedText → part.modifier ≡ modifier → IsBefore options whole number part parts → ReadsBack options whole before number (part ∷ parts)
 step_fixed options whole before number part parts modifiers.None e f is =
-    let fields = subst (λ kind. HasFields options kind part) e is.fields in
+    let fields = subst (λ kind. FieldsFitKind options kind part) e is.fields in
     step_plain options whole before number part parts (and_from _ _ (ap is_fixed_text e) (ap is_unmodified f)) (is.filled (ap is_fixed_text e))
     (subst (λ kind. HasUnskipped kind part) e is.unskipped) fields.0 fields.1 is.apart
     (subst (λ kind. ReadsBack options whole (Some part) (following_number number kind part) parts) e is.more)
@@ -57,7 +57,7 @@ step options whole before number kind part parts e is =
 
 -- ---- all parts
 
-reads_back : (options : OptionsView) (whole : List ℕ) (before : Option PartView) (number : ℕ) (parts : List PartView) → IsPrefixPoint options.prefix → AllHaveFields options parts → AreNamed number parts → HaveTexts parts → AreUnskipped parts → AreApart parts →
+reads_back : (options : OptionsView) (whole : List ℕ) (before : Option PartView) (number : ℕ) (parts : List PartView) → IsPrefixPoint options.prefix → AllFieldsFit options parts → AreNamed number parts → HaveTexts parts → AreUnskipped parts → AreApart parts →
     ReadsBack options whole before number parts
 reads_back options whole before number [] point fields named filled unskipped apart = reads_end options whole before number
 reads_back options whole before number (part ∷ parts) point fields named filled unskipped apart =

@@ -19,7 +19,7 @@ use Rattle.urlpattern_syntax.specs.RegexpText.{captured, full_wildcard, is_fixed
 use Rattle.urlpattern_syntax.specs.Text.{BeginsWith, begins_with, is_name_part}
 use Rattle.urlpattern_syntax.specs.Tokens.{IsName, IsRegexpBody, TokenView, Body as bodies}
 use Rattle.urlpattern_meaning.specs.Printing.{has_custom_name, is_segment, printed_match, printed_name}
-use Rattle.urlpattern_meaning.specs.RoundTrip.{HasFields, IsNamed, following_number}
+use Rattle.urlpattern_meaning.specs.RoundTrip.{FieldsFitKind, IsNamed, following_number}
 use Rattle.urlpattern_syntax.proofs.NameCharacters.{decimal_digited, name_not_digited}
 use Rattle.urlpattern_meaning.proofs.PrintedTokens.{Run, asterisk_lexed, done, mark_ends, name_lexed, next, regexp_lexed, token_at}
 
@@ -104,20 +104,20 @@ pub record Shows (options : OptionsView) (number : ℕ) (kind : PartType) (part 
   pub is_kind : kind_of options (placeholder_regexp options placeholder.matched) ≡ kind
   pub is_value : value_of kind (placeholder_regexp options placeholder.matched) ≡ part.value
 
-shown_kind : (options : OptionsView) (kind : PartType) (part : PartView) (custom asterisk : Bool) → is_fixed_text kind ≡ false → HasFields options kind part → kind_of options (placeholder_regexp options (matched_by custom asterisk options kind part.value)) ≡ kind
+shown_kind : (options : OptionsView) (kind : PartType) (part : PartView) (custom asterisk : Bool) → is_fixed_text kind ≡ false → FieldsFitKind options kind part → kind_of options (placeholder_regexp options (matched_by custom asterisk options kind part.value)) ≡ kind
 shown_kind options FixedText part custom asterisk group h = absurd (false≢true (sym group))
 shown_kind options Regexp part custom asterisk group h = kind_custom options part.value h.1 h.2
 shown_kind options SegmentWildcard part custom asterisk group h = kind_segment options _ (compared_segment options custom)
 shown_kind options FullWildcard part custom asterisk group h =
     ap (kind_of options) (compared_full options asterisk) ∙ kind_full options full_wildcard (full_other options.syntax options.delimiter) refl
 
-shown_value : (options : OptionsView) (kind : PartType) (part : PartView) (custom asterisk : Bool) → is_fixed_text kind ≡ false → HasFields options kind part → value_of kind (placeholder_regexp options (matched_by custom asterisk options kind part.value)) ≡ part.value
+shown_value : (options : OptionsView) (kind : PartType) (part : PartView) (custom asterisk : Bool) → is_fixed_text kind ≡ false → FieldsFitKind options kind part → value_of kind (placeholder_regexp options (matched_by custom asterisk options kind part.value)) ≡ part.value
 shown_value options FixedText part custom asterisk group h = absurd (false≢true (sym group))
 shown_value options Regexp part custom asterisk group h = refl
 shown_value options SegmentWildcard part custom asterisk group h = sym h.0
 shown_value options FullWildcard part custom asterisk group h = sym h
 
-pub shows_part : (options : OptionsView) (number : ℕ) (kind : PartType) (part : PartView) (asterisk : Bool) → is_fixed_text kind ≡ false → HasFields options kind part → IsNamed number kind part.name →
+pub shows_part : (options : OptionsView) (number : ℕ) (kind : PartType) (part : PartView) (asterisk : Bool) → is_fixed_text kind ≡ false → FieldsFitKind options kind part → IsNamed number kind part.name →
     Shows options number kind part (placeholder_of options kind part asterisk)
 shows_part options number kind part asterisk group fields named = record {
   name = name_shown number kind part.name (has_custom_name part) group named refl;
@@ -182,14 +182,14 @@ match_printed options Regexp part asterisk = refl
 match_printed options SegmentWildcard part asterisk = refl
 match_printed options FullWildcard part asterisk = refl
 
-placed_named : (options : OptionsView) (total : ℕ) (kind : PartType) (part : PartView) (rest : List ℕ) → is_fixed_text kind ≡ false → HasFields options kind part → IsName part.name → (IsTrue (is_segment kind) → ¬ BeginsWith is_name_part rest) →
+placed_named : (options : OptionsView) (total : ℕ) (kind : PartType) (part : PartView) (rest : List ℕ) → is_fixed_text kind ≡ false → FieldsFitKind options kind part → IsName part.name → (IsTrue (is_segment kind) → ¬ BeginsWith is_name_part rest) →
     Placed total (codes ":" ++ part.name ++ (match_text true false options kind part.value ++ rest)) rest (record { name = Some part.name; matched = matched_by true false options kind part.value })
 placed_named options total FixedText part rest group h is ends = absurd (false≢true (sym group))
 placed_named options total Regexp part rest group h is ends = placed_both total part.name part.value rest is h.0
 placed_named options total SegmentWildcard part rest group h is ends = placed_name total part.name rest is (ends refl)
 placed_named options total FullWildcard part rest group h is ends = placed_both total part.name full_wildcard rest is full_body
 
-placed_numbered : (options : OptionsView) (total : ℕ) (kind : PartType) (part : PartView) (asterisk : Bool) (rest : List ℕ) → is_fixed_text kind ≡ false → HasFields options kind part → ¬ IsTrue (has_custom_name part) →
+placed_numbered : (options : OptionsView) (total : ℕ) (kind : PartType) (part : PartView) (asterisk : Bool) (rest : List ℕ) → is_fixed_text kind ≡ false → FieldsFitKind options kind part → ¬ IsTrue (has_custom_name part) →
     Placed total (match_text false asterisk options kind part.value ++ rest) rest (record { name = None; matched = matched_by false asterisk options kind part.value })
 placed_numbered options total FixedText part asterisk rest group h numbered = absurd (false≢true (sym group))
 placed_numbered options total Regexp part asterisk rest group h numbered = placed_regexp total part.value rest h.0
@@ -198,7 +198,7 @@ placed_numbered options total FullWildcard part true rest group h numbered = pla
 placed_numbered options total FullWildcard part false rest group h numbered = placed_regexp total full_wildcard rest full_body
 
 placed_by : (options : OptionsView) (total number : ℕ) (kind : PartType) (part : PartView) (custom asterisk : Bool) (rest : List ℕ) → has_custom_name part ≡ custom → (IsTrue custom → asterisk ≡ false) →
-    is_fixed_text kind ≡ false → HasFields options kind part → IsNamed number kind part.name → (IsTrue (is_segment kind && custom) → ¬ BeginsWith is_name_part rest) →
+    is_fixed_text kind ≡ false → FieldsFitKind options kind part → IsNamed number kind part.name → (IsTrue (is_segment kind && custom) → ¬ BeginsWith is_name_part rest) →
     Placed total (name_text custom part.name ++ (match_text custom asterisk options kind part.value ++ rest)) rest (record { name = name_by custom part.name; matched = matched_by custom asterisk options kind part.value })
 placed_by options total number kind part true true rest e none group h named ends = absurd (false≢true (sym (none refl)))
 placed_by options total number kind part true false rest e none group h named ends =
@@ -208,7 +208,7 @@ placed_by options total number kind part false asterisk rest e none group h name
 -- The tokens of a part's name and of its regular expression, where no asterisk follows a name and
 -- the rest does not go on with a name alone.
 pub placed_part : (options : OptionsView) (total number : ℕ) (kind : PartType) (part : PartView) (asterisk : Bool) (rest : List ℕ) → (IsTrue (has_custom_name part) → asterisk ≡ false) →
-    is_fixed_text kind ≡ false → HasFields options kind part → IsNamed number kind part.name → (IsTrue (is_segment kind && has_custom_name part) → ¬ BeginsWith is_name_part rest) →
+    is_fixed_text kind ≡ false → FieldsFitKind options kind part → IsNamed number kind part.name → (IsTrue (is_segment kind && has_custom_name part) → ¬ BeginsWith is_name_part rest) →
     Placed total (printed_name part ++ (printed_match options kind part asterisk ++ rest)) rest (placeholder_of options kind part asterisk)
 placed_part options total number kind part asterisk rest none group h named ends =
     subst (λ t. Placed total (printed_name part ++ (t ++ rest)) rest (placeholder_of options kind part asterisk)) (match_printed options kind part asterisk)

@@ -8,7 +8,7 @@ use Rattle.urlpattern_syntax.specs.declared.parser.PartType.{PartType}
 use Rattle.urlpattern_syntax.specs.declared.parser.PartType.TheVariants.{FixedText}
 use Rattle.urlpattern_syntax.specs.Options.{OptionsView}
 use Rattle.urlpattern_syntax.specs.Parts.{PartView}
-use Rattle.urlpattern_meaning.specs.Printing.{HaveTexts, admits_asterisk, escaped_pattern, first_part, has_custom_name, has_other_prefix, has_suffix, in_braces, is_name_alone, joined, joined_with, last_of, pattern_marks, printed, printed_after, printed_fixed, printed_match, printed_name, printed_part, printed_suffix, absorbs_before, absorbs_next}
+use Rattle.urlpattern_meaning.specs.Printing.{HaveTexts, is_wildcard_after, escaped_pattern, first_part, has_custom_name, has_other_prefix, has_suffix, in_braces, is_name_alone, joined, joined_with, last_of, pattern_marks, printed, printed_after, printed_fixed, printed_match, printed_name, printed_part, printed_suffix, absorbs_before, absorbs_next}
 use Rattle.urlpattern_syntax.specs.RegexpText.{is_empty, is_fixed_text, is_plain, is_unmodified, modifier_text}
 use Rattle.urlpattern_syntax.specs.Text.{begins_with, is_name_part}
 use Rattle.urlpattern_syntax.proofs.Escaped.{escaped-append}
@@ -29,7 +29,7 @@ shaped options part next_taken before_taken admits =
     ++ modifier_text part.modifier)
 
 printed-shaped : (options : OptionsView) (before : Option PartView) (part : PartView) (next : Option PartView) →
-    printed_part options before part next ≡ shaped options part (absorbs_next part next) (absorbs_before options before part) (admits_asterisk before)
+    printed_part options before part next ≡ shaped options part (absorbs_next part next) (absorbs_before options before part) (is_wildcard_after before)
 unfolding printed_part
 printed-shaped options before part next = refl
 
@@ -77,15 +77,15 @@ plain_printed options before part next h =
 
 -- Parts before with equal tests print alike.
 same_before : (options : OptionsView) (a b : Option PartView) (part : PartView) (next : Option PartView) →
-    absorbs_before options a part ≡ absorbs_before options b part → admits_asterisk a ≡ admits_asterisk b → printed_part options a part next ≡ printed_part options b part next
+    absorbs_before options a part ≡ absorbs_before options b part → is_wildcard_after a ≡ is_wildcard_after b → printed_part options a part next ≡ printed_part options b part next
 same_before options a b part next e f =
     printed-shaped options a part next
-    ∙ ap (λ t. shaped options part (absorbs_next part next) t (admits_asterisk a)) e
+    ∙ ap (λ t. shaped options part (absorbs_next part next) t (is_wildcard_after a)) e
     ∙ ap (λ t. shaped options part (absorbs_next part next) (absorbs_before options b part) t) f
     ∙ sym (printed-shaped options b part next)
 
 same_after : (options : OptionsView) (a b : Option PartView) (parts : List PartView) →
-    ((part : PartView) → absorbs_before options a part ≡ absorbs_before options b part) → admits_asterisk a ≡ admits_asterisk b → printed_after options a parts ≡ printed_after options b parts
+    ((part : PartView) → absorbs_before options a part ≡ absorbs_before options b part) → is_wildcard_after a ≡ is_wildcard_after b → printed_after options a parts ≡ printed_after options b parts
 same_after options a b [] e f = refl
 same_after options a b (part ∷ parts) e f =
     ap (λ t. t ++ printed_after options (Some part) parts) (same_before options a b part (first_part parts) (e part) f)
@@ -95,7 +95,7 @@ same_next : (options : OptionsView) (before : Option PartView) (part : PartView)
     absorbs_next part a ≡ absorbs_next part b → printed_part options before part a ≡ printed_part options before part b
 same_next options before part a b e =
     printed-shaped options before part a
-    ∙ ap (λ t. shaped options part t (absorbs_before options before part) (admits_asterisk before)) e
+    ∙ ap (λ t. shaped options part t (absorbs_before options before part) (is_wildcard_after before)) e
     ∙ sym (printed-shaped options before part b)
 
 -- Two texts in one end as the second does.
@@ -104,7 +104,7 @@ one_before : (options : OptionsView) (part next : PartView) → IsTrue (is_plain
 one_before options part next plain plain_next filled behind =
     rw (plain_fixed part plain, plain_fixed next plain_next, empty-append part.value next.value filled, empty-append [] next.value filled, last-append part.value next.value filled)
 
-one_admits : (part next : PartView) → IsTrue (is_plain part) → IsTrue (is_plain next) → admits_asterisk (Some (with_value part (part.value ++ next.value))) ≡ admits_asterisk (Some next)
+one_admits : (part next : PartView) → IsTrue (is_plain part) → IsTrue (is_plain next) → is_wildcard_after (Some (with_value part (part.value ++ next.value))) ≡ is_wildcard_after (Some next)
 one_admits part next plain plain_next = rw (plain_fixed part plain, plain_fixed next plain_next)
 
 -- ---- joining

@@ -17,7 +17,7 @@ use Rattle.urlpattern_syntax.specs.Reading.{AreParts, Capture, Encoding, Fixed, 
 use Rattle.urlpattern_syntax.specs.RegexpText.{full_wildcard, segment_wildcard, segment_wildcard_of}
 use Rattle.urlpattern_syntax.specs.Text.{begins_with, is_among}
 use Rattle.urlpattern_syntax.specs.Tokens.{AreTokens, IsName, IsRegexpBody, TokenView}
-use Rattle.urlpattern_meaning.specs.RoundTrip.{AllHaveFields, AreNamed, ArePatternParts, HasFields, IsNamed, following_number}
+use Rattle.urlpattern_meaning.specs.RoundTrip.{AllFieldsFit, AreNamed, ArePatternParts, FieldsFitKind, IsNamed, following_number}
 use Rattle.urlpattern_meaning.proofs.KindValues.{AllOfKind, PiecesHave, pieces_have, text_of_kind}
 use Rattle.urlpattern_meaning.proofs.NameLaws.{GivesName, NamePieces, all_piece_names, names_distinct, text_names}
 use Rattle.urlpattern_syntax.proofs.NameCharacters.{decimal_starts, name_starts, starts_with_digit}
@@ -167,7 +167,7 @@ full_no_segment options = by_delimiter options.delimiter
 -- The fields of a group with this regular expression.
 abbrev HasKind : OptionsView → (regexp name : List ℕ) → PartType → (before after : List ℕ) → PartModifier → Type 0
 HasKind options regexp name kind before after modifier =
-    HasFields options kind (record { kind = kind; value = value_of kind regexp; modifier = modifier; name = name; prefix = before; suffix = after })
+    FieldsFitKind options kind (record { kind = kind; value = value_of kind regexp; modifier = modifier; name = name; prefix = before; suffix = after })
 
 -- The kind of a group, by its regular expression.
 kind_has : (options : OptionsView) (regexp name before after : List ℕ) (modifier : PartModifier) →
@@ -196,13 +196,13 @@ capture_fields options before name matched.Anything after modifier is =
     kind_has options full_wildcard name before after modifier
     (λ e none. absurd (full_no_segment options e)) (λ other another. absurd (another refl))
 
-parts_fields : (options : OptionsView) (encoding : Encoding) (number : ℕ) (items : List Item) (parts : List PartView) → AreGroups number items → AreParts options encoding items parts → AllHaveFields options parts
-parts_fields options encoding number [] parts h are = subst (AllHaveFields options) (sym are) tt
+parts_fields : (options : OptionsView) (encoding : Encoding) (number : ℕ) (items : List Item) (parts : List PartView) → AreGroups number items → AreParts options encoding items parts → AllFieldsFit options parts
+parts_fields options encoding number [] parts h are = subst (AllFieldsFit options) (sym are) tt
 parts_fields options encoding number (Fixed [] modifier ∷ items) parts h are = parts_fields options encoding number items parts h are
 parts_fields options encoding number (Fixed (c ∷ text) modifier ∷ items) parts h are =
-    subst (AllHaveFields options) (sym are.2) ((refl, refl), parts_fields options encoding number items are.1 h are.4)
+    subst (AllFieldsFit options) (sym are.2) ((refl, refl), parts_fields options encoding number items are.1 h are.4)
 parts_fields options encoding number (Capture prefix name match suffix modifier ∷ items) parts h are =
-    subst (AllHaveFields options) (sym are.3)
+    subst (AllFieldsFit options) (sym are.3)
     (capture_fields options are.0 name match are.1 modifier h.0.matches, parts_fields options encoding (number_with number name) items are.2 h.1 are.6)
 
 -- A group is not a fixed text, whatever its kind.

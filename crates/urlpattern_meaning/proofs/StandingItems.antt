@@ -12,11 +12,11 @@ use Rattle.urlpattern_syntax.specs.Errors.{ErrorView}
 use Rattle.urlpattern_syntax.specs.Options.{OptionsView}
 use Rattle.urlpattern_syntax.specs.Parts.{PartView, fixed_text}
 use Rattle.urlpattern_syntax.specs.Pieces.{PlaceholderKindView, Ending as endings}
-use Rattle.urlpattern_syntax.specs.Reading.{AreMet, AreParts, Capture, Encoding, FirstFails, Fixed, Item, capture_part, placeholder_regexp, demands_after, encode_fixed, value_of}
+use Rattle.urlpattern_syntax.specs.Reading.{AreMet, AreParts, Capture, Encoding, FirstFails, Fixed, Item, capture_part, placeholder_regexp, demands_after, fixed_text_demands, value_of}
 use Rattle.urlpattern_syntax.specs.RegexpText.{is_fixed_text}
 use Rattle.urlpattern_syntax.specs.Tokens.{TokenView}
 use Rattle.urlpattern_meaning.specs.Printing.{HaveTexts, encoded_texts}
-use Rattle.urlpattern_meaning.specs.RoundTrip.{AllHaveFields, AreNamed, HasFields, IsNamed, following_number}
+use Rattle.urlpattern_meaning.specs.RoundTrip.{AllFieldsFit, AreNamed, FieldsFitKind, IsNamed, following_number}
 use Rattle.urlpattern_meaning.proofs.NameLaws.{Differ, NewNames}
 use Rattle.urlpattern_meaning.proofs.RoundTripWords.{AreItemsOf, IsItemOf}
 
@@ -62,7 +62,7 @@ module _ (options : OptionsView) (Of : List ℕ → Type 0) where
       (fixed c text part.modifier parts items of more))
 
   stand_first : (kind : PartType) (part : PartView) (item : Item) (parts : List PartView) (items : List Item) (number : ℕ) → part.kind ≡ kind →
-      IsItemOf options kind part item → HasFields options kind part → IsNamed number kind part.name → (IsTrue (is_fixed_text kind) → part.value ≢ []) → Texts kind part parts →
+      IsItemOf options kind part item → FieldsFitKind options kind part → IsNamed number kind part.name → (IsTrue (is_fixed_text kind) → part.value ≢ []) → Texts kind part parts →
       AllStand options Of parts items → AllStand options Of (part ∷ parts) (item ∷ items)
   stand_first FixedText part item parts items number e is fields name filled texts more =
       stand_fixed part item parts items part.value
@@ -76,7 +76,7 @@ module _ (options : OptionsView) (Of : List ℕ → Type 0) where
       (group part.prefix part.name is.0 part.suffix part.modifier parts items texts.0 texts.1.0 more))
 
   -- The items of parts whose fields and names are those of pattern parts.
-  pub items_stand : (number : ℕ) (parts : List PartView) (items : List Item) → AreItemsOf options parts items → AllHaveFields options parts → AreNamed number parts → HaveTexts parts →
+  pub items_stand : (number : ℕ) (parts : List PartView) (items : List Item) → AreItemsOf options parts items → AllFieldsFit options parts → AreNamed number parts → HaveTexts parts →
       EachText Of (encoded_texts parts) → AllStand options Of parts items
   items_stand number [] items is fields names filled texts = subst (AllStand options Of []) (sym is) none
   items_stand number (part ∷ parts) items is fields names filled texts =
@@ -112,7 +112,7 @@ distinct_new earlier (Capture prefix name match suffix modifier ∷ items) behin
 -- ---- demands
 
 demands-fixed : (earlier : List (List ℕ)) (text : List ℕ) (modifier : PartModifier) (items : List Item) (found : TokenView) →
-    demands_after earlier (Fixed text modifier ∷ items) (endings.Stops found) ≡ encode_fixed text ++ demands_after earlier items (endings.Stops found)
+    demands_after earlier (Fixed text modifier ∷ items) (endings.Stops found) ≡ fixed_text_demands text ++ demands_after earlier items (endings.Stops found)
 demands-fixed earlier text modifiers.None [] found = refl
 demands-fixed earlier text modifiers.None (x ∷ items) found = refl
 demands-fixed earlier text modifiers.Optional items found = refl

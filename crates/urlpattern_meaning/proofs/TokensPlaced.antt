@@ -5,7 +5,7 @@ use Rattle.urlpattern_syntax.proofs.TextLemmas.{byte_len-append, length-le-byte_
 use Rattle.urlpattern_syntax.proofs.TokenLemmas.{Spells-some}
 use Rattle.urlpattern_syntax.specs.declared.tokenizer.TokenType.{TokenType}
 use Rattle.urlpattern_syntax.specs.declared.tokenizer.TokenType.TheVariants.{Asterisk, Char, Close, End, EscapedChar, InvalidChar, Name, Open, OtherModifier, Regexp}
-use Rattle.urlpattern_meaning.specs.Laws.{Lays, spelling}
+use Rattle.urlpattern_meaning.specs.Laws.{AreSpelledFrom, spelling}
 use Rattle.urlpattern_syntax.specs.Text.{byte_len, BeginsAt}
 use Rattle.urlpattern_syntax.specs.Tokens.{AreLenientTokens, AreTokens, IsCut, Spells, TokenView, end_of}
 use Rattle.urlpattern_meaning.proofs.TokensUnique.{LenientItem, lenient_strict}
@@ -56,7 +56,7 @@ lenient_placed whole start token rest (inr h) =
     }
 
 module _ (whole : List ℕ) where
-  cut_lays : (text : List ℕ) (front : List TokenView) (place : ℕ) → IsCut (LenientItem whole) text front [] → BeginsAt whole text place → Lays place (front ++ end_of whole ∷ []) text
+  cut_lays : (text : List ℕ) (front : List TokenView) (place : ℕ) → IsCut (LenientItem whole) text front [] → BeginsAt whole text place → AreSpelledFrom place (front ++ end_of whole ∷ []) text
   cut_lays text [] place cut at =
       let same = ap byte_len (cut.1 ∙ append-nil cut.0) in
       (cut.0, [], cut.1 ∙ sym (append-nil (cut.0 ++ [])), cut.2, omega arith, refl)
@@ -75,10 +75,10 @@ module _ (whole : List ℕ) where
 
 -- The tokens' spellings and the skipped characters between them are the whole text, and each
 -- token's index is its place.
-pub lenient_lay : (text : List ℕ) (tokens : List TokenView) → AreLenientTokens text tokens → Lays 0 tokens text
-lenient_lay text tokens h = subst (λ x. Lays 0 x text) (sym h.all) (cut_lays text text h.front 0 h.cut (omega arith))
+pub lenient_lay : (text : List ℕ) (tokens : List TokenView) → AreLenientTokens text tokens → AreSpelledFrom 0 tokens text
+lenient_lay text tokens h = subst (λ x. AreSpelledFrom 0 x text) (sym h.all) (cut_lays text text h.front 0 h.cut (omega arith))
 
-pub tokens_lay : (text : List ℕ) (tokens : List TokenView) → AreTokens text tokens → Lays 0 tokens text
+pub tokens_lay : (text : List ℕ) (tokens : List TokenView) → AreTokens text tokens → AreSpelledFrom 0 tokens text
 tokens_lay text tokens h = lenient_lay text tokens (lenient_strict text tokens h)
 
 -- ---- indexes rise
@@ -155,7 +155,7 @@ last_end text tokens front token h = lenient_last_end text tokens front token (l
 
 -- ---- each token in the text
 
-lays_stand : (place : ℕ) (front back : List TokenView) (token : TokenView) (text : List ℕ) → Lays place (front ++ token ∷ back) text → (before behind : List ℕ) × (text ≡ before ++ spelling token.kind token.value ++ behind) × (token.index ≡ place + byte_len before)
+lays_stand : (place : ℕ) (front back : List TokenView) (token : TokenView) (text : List ℕ) → AreSpelledFrom place (front ++ token ∷ back) text → (before behind : List ℕ) × (text ≡ before ++ spelling token.kind token.value ++ behind) × (token.index ≡ place + byte_len before)
 lays_stand place [] back token text h = (h.0, h.1, h.2, h.4)
 lays_stand place (first ∷ front) back token text h =
     let own = spelling first.kind first.value in
@@ -175,7 +175,7 @@ lays_stand place (first ∷ front) back token text h =
 -- The text has each token's spelling at the token's index.
 pub lenient_stand : (text : List ℕ) (tokens front back : List TokenView) (token : TokenView) → AreLenientTokens text tokens → tokens ≡ front ++ token ∷ back → (before behind : List ℕ) × (text ≡ before ++ spelling token.kind token.value ++ behind) × (token.index ≡ byte_len before)
 lenient_stand text tokens front back token h e =
-    let stand = lays_stand 0 front back token text (subst (λ x. Lays 0 x text) e (lenient_lay text tokens h)) in
+    let stand = lays_stand 0 front back token text (subst (λ x. AreSpelledFrom 0 x text) e (lenient_lay text tokens h)) in
     let place = stand.3 in
     (stand.0, stand.1, stand.2, omega arith)
 

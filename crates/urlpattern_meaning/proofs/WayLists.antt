@@ -1,7 +1,7 @@
 -- Lists of ways: properties of all of them, and membership.
 use Rattle.std.proofs.Common.{◌≡◌, zero, suc, arith, sym, List, [], ◌∷◌, ◌++◌, map, Bool, true, false, cond, inl, inr, ◌⊎◌, ap, subst}
 use Rattle.std.specs.List.{Contains}
-use Rattle.urlpattern_meaning.specs.Ways.{Way, Choice, joined_way, continued, ordered}
+use Rattle.urlpattern_meaning.specs.Ways.{Way, WaysByText, joined_way, continued, ordered}
 
 abbrev pub Every : {A : Type 0} → (A → Type 0) → List A → Type 0
 Every P [] = Unit {0}
@@ -27,7 +27,7 @@ pub every-ordered : (P : Way → Type 0) (greedy : Bool) (round leave : List Way
 every-ordered P true round leave p q = every-append P round leave p q
 every-ordered P false round leave p q = every-append P leave round q p
 
-pub every-continued : (P Q : Way → Type 0) (next : Choice) (ways : List Way) → Every P ways
+pub every-continued : (P Q : Way → Type 0) (next : WaysByText) (ways : List Way) → Every P ways
     → ((way : Way) → P way → Every (λ more. Q (joined_way way more)) (next way.rest)) → Every Q (continued next ways)
 every-continued P Q next [] p f = tt
 every-continued P Q next (way ∷ ways) p f =
@@ -61,7 +61,7 @@ pub has-leave : (x : Way) (greedy : Bool) (round leave : List Way) → Has x lea
 has-leave x true round leave h = has-right x round leave h
 has-leave x false round leave h = has-left x leave round h
 
-pub has-continued : (next : Choice) (way more : Way) (ways : List Way) → Has way ways → Has more (next way.rest) → Has (joined_way way more) (continued next ways)
+pub has-continued : (next : WaysByText) (way more : Way) (ways : List Way) → Has way ways → Has more (next way.rest) → Has (joined_way way more) (continued next ways)
 has-continued next way more [] h g = absurd h
 has-continued next way more (other ∷ ways) (inl e) g =
     has-left _ (map (joined_way other) (next other.rest)) (continued next ways)

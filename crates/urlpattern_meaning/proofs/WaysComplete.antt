@@ -4,25 +4,25 @@ use Rattle.std.proofs.lemmas.Bool.{cond-true, cond-false}
 use Rattle.urlpattern_meaning.specs.Dialect.{character_of, Quantifier, Once, Optional, ZeroOrMore, OneOrMore, LazyOneOrMore, Items, Nothing, Item, Atom, Literal, Dot, AnyBut, Captured, Grouped, atom_group_count, AllowsGroups, AreItems, IsAtom, IsQuantified, Means, AtomMeans}
 use Rattle.urlpattern_meaning.specs.PartMeaning.{Captures}
 use Rattle.urlpattern_syntax.specs.Text.{line_feed, IsRepeated}
-use Rattle.urlpattern_meaning.specs.Ways.{Way, Choice, empty_way, continued, one_that, is_shorter, more_rounds, looped, quantified_ways, capturing, ways, atom_ways}
+use Rattle.urlpattern_meaning.specs.Ways.{Way, WaysByText, empty_way, continued, one_that, is_shorter, more_rounds, looped, quantified_ways, capturing, ways, atom_ways}
 use Rattle.urlpattern_meaning.proofs.WayLists.{Has, has-left, has-right, has-map, has-round, has-leave, has-continued}
 
 abbrev pub way_of : List ℕ → Captures → List ℕ → Way
 way_of taken captures rest = record { taken = taken; captures = captures; rest = rest }
 
 -- Each beginning of a text that `IsA` allows is among the ways of that text.
-abbrev pub IsComplete : Choice → (List ℕ → Captures → Type 0) → Type 0
+abbrev pub IsComplete : WaysByText → (List ℕ → Captures → Type 0) → Type 0
 IsComplete choice IsA = (taken : List ℕ) (captures : Captures) (rest : List ℕ) → IsA taken captures → Has (way_of taken captures rest) (choice (taken ++ rest))
 
 -- A meaning, and one of the rest.
-has-behind : (next : Choice) (ways : Choice) (first later : List ℕ) (own others : Captures) (rest : List ℕ)
+has-behind : (next : WaysByText) (ways : WaysByText) (first later : List ℕ) (own others : Captures) (rest : List ℕ)
     → Has (way_of first own (later ++ rest)) (ways (first ++ (later ++ rest))) → Has (way_of later others rest) (next (later ++ rest))
     → Has (way_of (first ++ later) (own ++ others) rest) (continued next (ways ((first ++ later) ++ rest)))
 has-behind next ways first later own others rest p q =
     subst (λ (t : List ℕ). Has (way_of (first ++ later) (own ++ others) rest) (continued next (ways t))) (sym (append_assoc first later rest))
     (has-continued next (way_of first own (later ++ rest)) (way_of later others rest) (ways (first ++ (later ++ rest))) p q)
 
-module _ (atom : Choice) (IsA : List ℕ → Captures → Type 0) (complete : IsComplete atom IsA) where
+module _ (atom : WaysByText) (IsA : List ℕ → Captures → Type 0) (complete : IsComplete atom IsA) where
   -- A round that matches something, and more rounds.
   round_here : (greedy : Bool) (m : ℕ) (c : ℕ) (first later rest : List ℕ) → IsA (c ∷ first) []
       → Has (way_of later [] rest) (more_rounds greedy atom m (later ++ rest))
@@ -74,7 +74,7 @@ module _ (atom : Choice) (IsA : List ℕ → Captures → Type 0) (complete : Is
 
 -- ---- atoms and items
 
-taken-complete : (quantifier : Quantifier) (groups : ℕ) (atom : Choice) (Is : List ℕ → Captures → Type 0) → AllowsGroups quantifier groups
+taken-complete : (quantifier : Quantifier) (groups : ℕ) (atom : WaysByText) (Is : List ℕ → Captures → Type 0) → AllowsGroups quantifier groups
     → IsComplete atom Is → IsComplete (quantified_ways quantifier groups atom) (IsQuantified quantifier groups Is)
 taken-complete Once groups atom Is allowed complete taken captures rest m = complete taken captures rest m
 taken-complete Optional groups atom Is allowed complete taken captures rest (inl m) = has-left _ (atom (taken ++ rest)) _ (complete taken captures rest m)

@@ -5,15 +5,15 @@ use Rattle.std.proofs.lemmas.Bool.{cases_Bool, cond-false, ltb-false, ltb-true}
 use Rattle.urlpattern_meaning.specs.Dialect.{character_of, Quantifier, Once, Optional, ZeroOrMore, OneOrMore, LazyOneOrMore, Items, Nothing, Item, Atom, Literal, Dot, AnyBut, Captured, Grouped, atom_group_count, AreItems, IsAtom, Means, AtomMeans}
 use Rattle.urlpattern_meaning.specs.PartMeaning.{Captures}
 use Rattle.urlpattern_syntax.specs.Text.{line_feed}
-use Rattle.urlpattern_meaning.specs.Ways.{Way, Choice, empty_way, joined_way, continued, one_that, ordered, is_shorter, more_rounds, looped, quantified_ways, capturing, ways, atom_ways}
+use Rattle.urlpattern_meaning.specs.Ways.{Way, WaysByText, empty_way, joined_way, continued, one_that, ordered, is_shorter, more_rounds, looped, quantified_ways, capturing, ways, atom_ways}
 use Rattle.urlpattern_meaning.proofs.WayLists.{Every, every-weaker, every-cond, every-ordered, every-continued}
 use Rattle.urlpattern_meaning.proofs.WaysSound.{IsSound, ways-sound, atom-sound}
 
 -- No way leaves more than the text.
-abbrev pub Falls : Choice → Type 0
+abbrev pub Falls : WaysByText → Type 0
 Falls choice = (text : List ℕ) → Every (λ way. length way.rest ≤ length text) (choice text)
 
-rounds-fall : (greedy : Bool) (atom : Choice) → Falls atom → (n : ℕ) → Falls (more_rounds greedy atom n)
+rounds-fall : (greedy : Bool) (atom : WaysByText) → Falls atom → (n : ℕ) → Falls (more_rounds greedy atom n)
 rounds-fall greedy atom falls zero text = (omega arith, tt)
 rounds-fall greedy atom falls (suc n) text =
     every-ordered (λ way. length way.rest ≤ length text) greedy _ _
@@ -62,10 +62,10 @@ module _ (s : List ℕ) where
   cut-over f rests (m ∷ ms) xs us every p =
       inl (subst (λ r. length r < length s) (sym (rests m)) every.0, cut-over f rests ms xs us every.1 p)
 
-  abbrev pub IsCut : Choice → Choice → Type 0
+  abbrev pub IsCut : WaysByText → WaysByText → Type 0
   IsCut next short = (inner : List ℕ) → Cut (next (inner ++ s)) (short inner)
 
-  pub cut-continued : (next short : Choice) → Falls next → IsCut next short → (xs us : List Way) → Cut xs us → Cut (continued next xs) (continued short us)
+  pub cut-continued : (next short : WaysByText) → Falls next → IsCut next short → (xs us : List Way) → Cut xs us → Cut (continued next xs) (continued short us)
   cut-continued next short falls cut [] us e = ap (continued short) e
   cut-continued next short falls cut (way ∷ xs) us (inl (less, p)) =
       cut-over (joined_way way) (λ more. refl) (next way.rest) (continued next xs) (continued short us)
@@ -115,7 +115,7 @@ module _ (s : List ℕ) where
       not_less : nat_lt (length rest) (length inner) ≡ false → length inner ≤ length rest
       not_less e = ltb-false _ _ e
 
-  module _ (greedy : Bool) (atom : Choice) (falls : Falls atom) (cut : IsCut atom atom) where
+  module _ (greedy : Bool) (atom : WaysByText) (falls : Falls atom) (cut : IsCut atom atom) where
     -- The ways after a round are cut as those of `long` and `none` are.
     goes_on : (long short none : List ℕ → List Way) (inner : List ℕ) → IsCut none none
         → ((rest : List ℕ) → length rest < length inner → Cut (long (rest ++ s)) (short rest))
@@ -128,7 +128,7 @@ module _ (s : List ℕ) where
         by true false e f = absurd cc
         by false true e f = absurd cc
 
-    no_more : (xs : List Way) → (next : Choice) → ((rest : List ℕ) → next rest ≡ []) → continued next xs ≡ []
+    no_more : (xs : List Way) → (next : WaysByText) → ((rest : List ℕ) → next rest ≡ []) → continued next xs ≡ []
     no_more [] next none = refl
     no_more (way ∷ xs) next none = rw (none way.rest) (no_more xs next none)
 
@@ -170,7 +170,7 @@ module _ (s : List ℕ) where
 
   -- ---- atoms and items
 
-  pub taken-cut : (quantifier : Quantifier) (groups : ℕ) (atom : Choice) → Falls atom → IsCut atom atom → IsCut (quantified_ways quantifier groups atom) (quantified_ways quantifier groups atom)
+  pub taken-cut : (quantifier : Quantifier) (groups : ℕ) (atom : WaysByText) → Falls atom → IsCut atom atom → IsCut (quantified_ways quantifier groups atom) (quantified_ways quantifier groups atom)
   taken-cut Once groups atom falls cut inner = cut inner
   taken-cut Optional groups atom falls cut inner = cut-append (atom (inner ++ s)) _ (atom inner) _ (cut inner) (cut-empty_way groups inner)
   taken-cut ZeroOrMore groups atom falls cut inner =

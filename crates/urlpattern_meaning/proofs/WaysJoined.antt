@@ -5,7 +5,7 @@ use Rattle.std.proofs.lemmas.List.{map-append, map-id}
 use Rattle.std.proofs.lemmas.Simd.{map-map}
 use Rattle.urlpattern_meaning.specs.Dialect.{Items, Nothing, Item, Literal, Once, character_of, atom_group_count}
 use Rattle.urlpattern_meaning.specs.PartMeaning.{Captures}
-use Rattle.urlpattern_meaning.specs.Ways.{Way, Choice, empty_way, joined_way, continued, quantified_ways, ways, atom_ways, first_way, first_way_by}
+use Rattle.urlpattern_meaning.specs.Ways.{Way, WaysByText, empty_way, joined_way, continued, quantified_ways, ways, atom_ways, first_way, first_way_by}
 use Rattle.urlpattern_meaning.proofs.PartTrees.{character, put}
 use Rattle.urlpattern_meaning.proofs.TreeMeaning.{character_same}
 use Rattle.urlpattern_meaning.proofs.WaysComplete.{way_of}
@@ -18,11 +18,11 @@ map-same f g (x ∷ xs) e = ap₂ ◌∷◌ (e x) (map-same f g xs e)
 
 -- ---- items after items
 
-continued-same : (next other : Choice) (xs : List Way) → ((text : List ℕ) → next text ≡ other text) → continued next xs ≡ continued other xs
+continued-same : (next other : WaysByText) (xs : List Way) → ((text : List ℕ) → next text ≡ other text) → continued next xs ≡ continued other xs
 continued-same next other [] e = refl
 continued-same next other (way ∷ xs) e = ap₂ ◌++◌ (ap (map (joined_way way)) (e way.rest)) (continued-same next other xs e)
 
-continued-both : (next : Choice) (xs ys : List Way) → continued next (xs ++ ys) ≡ continued next xs ++ continued next ys
+continued-both : (next : WaysByText) (xs ys : List Way) → continued next (xs ++ ys) ≡ continued next xs ++ continued next ys
 continued-both next [] ys = refl
 continued-both next (way ∷ xs) ys =
     ap (λ l. map (joined_way way) (next way.rest) ++ l) (continued-both next xs ys)
@@ -32,7 +32,7 @@ joined_thrice : (way next more : Way) → joined_way way (joined_way next more) 
 joined_thrice way next more =
     ap₂ (λ t c. way_of t c more.rest) (sym (append_assoc way.taken next.taken more.taken)) (sym (append_assoc way.captures next.captures more.captures))
 
-joined_all : (way : Way) (next : Choice) (xs : List Way) → map (joined_way way) (continued next xs) ≡ continued next (map (joined_way way) xs)
+joined_all : (way : Way) (next : WaysByText) (xs : List Way) → map (joined_way way) (continued next xs) ≡ continued next (map (joined_way way) xs)
 joined_all way next [] = refl
 joined_all way next (other ∷ xs) =
     map-append (joined_way way) (map (joined_way other) (next other.rest)) (continued next xs)
@@ -41,7 +41,7 @@ joined_all way next (other ∷ xs) =
     ∙ map-same (λ more. joined_way way (joined_way other more)) (joined_way (joined_way way other)) (next other.rest) (joined_thrice way other))
     (joined_all way next xs)
 
-pub continued-twice : (next last : Choice) (xs : List Way) → continued (λ text. continued last (next text)) xs ≡ continued last (continued next xs)
+pub continued-twice : (next last : WaysByText) (xs : List Way) → continued (λ text. continued last (next text)) xs ≡ continued last (continued next xs)
 continued-twice next last [] = refl
 continued-twice next last (way ∷ xs) =
     ap₂ ◌++◌ (joined_all way last (next way.rest)) (continued-twice next last xs)

@@ -4,14 +4,14 @@ use Rattle.std.proofs.Common.{◌≡◌, ℕ, zero, suc, ◌+◌, List, [], ◌�
 use Rattle.urlpattern_meaning.specs.Dialect.{character_of, Quantifier, Once, Optional, ZeroOrMore, OneOrMore, LazyOneOrMore, Items, Nothing, Item, Atom, Literal, Dot, AnyBut, Captured, Grouped, group_count, atom_group_count, AllowsGroups, AreItems, IsAtom, IsQuantified, Means, AtomMeans}
 use Rattle.urlpattern_meaning.specs.PartMeaning.{Captures}
 use Rattle.urlpattern_syntax.specs.Text.{IsRepeated}
-use Rattle.urlpattern_meaning.specs.Ways.{Way, Choice, empty_way, one_that, is_shorter, more_rounds, looped, quantified_ways, capturing, ways, atom_ways}
+use Rattle.urlpattern_meaning.specs.Ways.{Way, WaysByText, empty_way, one_that, is_shorter, more_rounds, looped, quantified_ways, capturing, ways, atom_ways}
 use Rattle.urlpattern_meaning.proofs.WayLists.{Every, every-append, every-map, every-weaker, every-cond, every-ordered, every-continued}
 
 -- The way cuts the text in two, and `IsA` allows the first part with its captures.
 abbrev pub IsSound : List ℕ → (List ℕ → Captures → Type 0) → Way → Type 0
 IsSound text IsA way = (text ≡ way.taken ++ way.rest) × IsA way.taken way.captures
 
-abbrev pub AreSound : Choice → (List ℕ → Captures → Type 0) → Type 0
+abbrev pub AreSound : WaysByText → (List ℕ → Captures → Type 0) → Type 0
 AreSound choice IsA = (text : List ℕ) → Every (IsSound text IsA) (choice text)
 
 -- The text is the matches of two ways and the rest after both.
@@ -25,7 +25,7 @@ AreRounds IsA text captures = (n : ℕ) × IsRepeated (λ substring. IsA substri
 abbrev AreMoreRounds : (List ℕ → Captures → Type 0) → List ℕ → Captures → Type 0
 AreMoreRounds IsA text captures = (n : ℕ) × IsRepeated (λ substring. IsA substring []) (suc n) text × (captures ≡ [])
 
-module _ (atom : Choice) (IsA : List ℕ → Captures → Type 0) (sound : AreSound atom IsA) (bare : (text : List ℕ) (captures : Captures) → IsA text captures → captures ≡ []) where
+module _ (atom : WaysByText) (IsA : List ℕ → Captures → Type 0) (sound : AreSound atom IsA) (bare : (text : List ℕ) (captures : Captures) → IsA text captures → captures ≡ []) where
   one_more : (way more : Way) → IsA way.taken way.captures → AreRounds IsA more.taken more.captures → AreMoreRounds IsA (way.taken ++ more.taken) (way.captures ++ more.captures)
   one_more way more p q = (
     q.0,
@@ -89,7 +89,7 @@ mutual
 
 -- ---- atoms and items
 
-pub taken-sound : (quantifier : Quantifier) (groups : ℕ) (atom : Choice) (Is : List ℕ → Captures → Type 0) → AllowsGroups quantifier groups
+pub taken-sound : (quantifier : Quantifier) (groups : ℕ) (atom : WaysByText) (Is : List ℕ → Captures → Type 0) → AllowsGroups quantifier groups
     → ((text : List ℕ) (captures : Captures) → Is text captures → length captures ≡ groups)
     → AreSound atom Is → AreSound (quantified_ways quantifier groups atom) (IsQuantified quantifier groups Is)
 taken-sound Once groups atom Is allowed count sound text = sound text

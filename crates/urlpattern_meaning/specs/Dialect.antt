@@ -13,7 +13,8 @@ use Rattle.urlpattern_syntax.specs.Text.{is_among, line_feed, IsRepeated}
 pub data Character : Type 0 where
   Plain Escaped : ℕ → Character
 
--- The repetition of an atom. Greedy and lazy mean the same texts.
+-- How often an atom occurs. `LazyOneOrMore` means what the greedy `OneOrMore` means, but tries
+-- fewer repetitions first.
 pub data Quantifier : Type 0 where
   Once Optional ZeroOrMore OneOrMore LazyOneOrMore : Quantifier
 
@@ -23,8 +24,8 @@ mutual
     Nothing : Items
     Item : Atom → Quantifier → Items → Items
 
-  -- A character; any but a line feed; any but one character; brackets that capture; brackets that
-  -- do not.
+  -- A literal character; any character but a line feed; any character but one; a group that
+  -- captures; a group that does not.
   pub data Atom : Type 0 where
     Literal : Character → Atom
     Dot : Atom
@@ -33,17 +34,17 @@ mutual
 
 -- ---- the texts of trees
 
--- The character without its backslash.
+-- The character itself, without a backslash.
 abbrev pub character_of : Character → ℕ
 character_of (Plain c) = c
 character_of (Escaped c) = c
 
--- A character as it is spelled.
+-- The spelling of a character, with a backslash if it has one.
 abbrev pub character_text : Character → List ℕ
 character_text (Plain c) = c ∷ []
 character_text (Escaped c) = codes "\\" ++ c ∷ []
 
--- A quantifier as it is spelled.
+-- The spelling of a quantifier.
 abbrev pub quantifier_text : Quantifier → List ℕ
 quantifier_text Once = []
 quantifier_text Optional = codes "?"
@@ -52,13 +53,13 @@ quantifier_text OneOrMore = codes "+"
 quantifier_text LazyOneOrMore = codes "+?"
 
 abbrev mutual
-  -- The items as they are spelled.
+  -- The spelling of the items.
   pub items_text : Items → List ℕ
   items_text Nothing = []
   items_text (Item atom quantifier items) =
       atom_text atom ++ quantifier_text quantifier ++ items_text items
 
-  -- An atom as it is spelled.
+  -- The spelling of an atom.
   pub atom_text : Atom → List ℕ
   atom_text (Literal character) = character_text character
   atom_text Dot = codes "."
@@ -69,12 +70,12 @@ abbrev mutual
 -- ---- which trees are allowed
 
 abbrev mutual
-  -- The number of capturing brackets.
+  -- The number of capturing groups in the items.
   pub group_count : Items → ℕ
   group_count Nothing = 0
   group_count (Item atom quantifier items) = atom_group_count atom + group_count items
 
-  -- The number of capturing brackets of an atom.
+  -- The number of capturing groups in an atom, with the atom itself.
   pub atom_group_count : Atom → ℕ
   atom_group_count (Literal character) = 0
   atom_group_count Dot = 0
@@ -82,35 +83,37 @@ abbrev mutual
   atom_group_count (Captured items) = suc (group_count items)
   atom_group_count (Grouped items) = group_count items
 
--- A mark needs a backslash, a slash may have one, and any other character has none.
+-- The literal character is spelled as the dialect allows: a special character with a backslash, a
+-- slash with or without one, any other character without.
 abbrev pub IsCharacter : Character → Type 0
 IsCharacter (Plain c) = ¬ IsTrue (is_among regexp_marks c)
 IsCharacter (Escaped c) = IsTrue (is_among (regexp_marks ++ codes "/") c)
 
--- The characters that need a backslash in a class.
+-- The characters that need a backslash in a character class, as in `[^`..`]`.
 abbrev pub class_marks : List ℕ
 class_marks = codes "[\\"
 
--- In a class a mark or a slash may have a backslash, and any character but `[` and the backslash
--- may have none.
+-- The character of a class is spelled as the dialect allows: a special character or a slash may
+-- have a backslash, and any character but `[` and the backslash may be without.
 abbrev pub IsClassCharacter : Character → Type 0
 IsClassCharacter (Plain c) = ¬ IsTrue (is_among class_marks c)
 IsClassCharacter (Escaped c) = IsTrue (is_among (regexp_marks ++ codes "/") c)
 
--- An atom that may be repeated captures nothing.
+-- The quantifier may follow an atom with this number of capturing groups: only an atom without
+-- groups may be repeated.
 abbrev pub AllowsGroups : Quantifier → ℕ → Type 0
 AllowsGroups Once groups = Unit {0}
 AllowsGroups Optional groups = Unit {0}
 AllowsGroups quantifier groups = groups ≡ 0
 
 abbrev mutual
-  -- The characters and quantifiers of the items are allowed.
+  -- The characters of the items are spelled, and the quantifiers placed, as the dialect allows.
   pub AreItems : Items → Type 0
   AreItems Nothing = Unit {0}
   AreItems (Item atom quantifier items) =
       IsAtom atom × AllowsGroups quantifier (atom_group_count atom) × AreItems items
 
-  -- The characters and the items of the atom are allowed.
+  -- The character or the items of the atom are as the dialect allows.
   pub IsAtom : Atom → Type 0
   IsAtom (Literal character) = IsCharacter character
   IsAtom Dot = Unit {0}
@@ -118,22 +121,22 @@ abbrev mutual
   IsAtom (Captured items) = AreItems items
   IsAtom (Grouped items) = AreItems items
 
--- The tree of a whole text.
+-- The text is `^`, the spelling of the tree and `$`, and the tree is as the dialect allows.
 abbrev pub IsTreeOf : List ℕ → Items → Type 0
 IsTreeOf text tree = (text ≡ codes "^" ++ items_text tree ++ codes "$") × AreItems tree
 
--- The text has a tree.
+-- The text is the regular expression of a tree of the dialect.
 abbrev pub HasTree : List ℕ → Type 0
 HasTree text = (tree : Items) × IsTreeOf text tree
 
 -- ---- what trees mean
 
--- A single character other than `c`.
+-- The text is a single character other than `c`.
 abbrev pub IsOneBut : ℕ → List ℕ → Type 0
 IsOneBut c text = (other : ℕ) × (text ≡ other ∷ []) × IsTrue (not (other == c))
 
--- The text matches an atom of meaning `Atom`, with this number of groups, under the quantifier. An
--- atom that is skipped leaves its groups None.
+-- An atom with the meaning `Atom` and `groups` capturing groups, under the quantifier, matches the
+-- whole text, with these captures. An atom that is skipped leaves its groups None.
 abbrev pub IsQuantified : Quantifier → (groups : ℕ) → (List ℕ → Captures → Type 0) → List ℕ
     → Captures → Type 0
 IsQuantified Once groups Atom text captures = Atom text captures
@@ -170,21 +173,22 @@ abbrev mutual
 
 -- ---- engines
 
--- The text has exactly one tree.
+-- The text is the regular expression of `tree`, and of no other tree.
 pub record IsOnlyTreeOf (text : List ℕ) (tree : Items) : Type 0 where
   pub is_tree : IsTreeOf text tree
   pub only : (other : Items) → IsTreeOf text other → other ≡ tree
 
--- The text has exactly one tree, which means each text with exactly the captures that the parts
--- have there.
+-- `regexp` is the regular expression of exactly one tree, which matches exactly the texts that the
+-- parts match, with the same captures.
 abbrev pub HasMeaningOf : (regexp : List ℕ) → OptionsView → List PartView → Type 0
 HasMeaningOf regexp options parts =
     (tree : Items) × IsOnlyTreeOf regexp tree
     × ((text : List ℕ) (captures : Captures) → Means tree text captures
     ↔ PartsMean options parts text captures)
 
--- The results of an engine for texts of characters are what the one tree of its own text means:
--- captures that the tree has there, or None where it has none.
+-- `answer`, the results of an engine for the regular expression `regexp`, is what the one tree of
+-- `regexp` means: for each text of characters, captures with which the tree matches the text, or
+-- None if it does not match the text.
 pub record Follows (regexp : List ℕ) (answer : List ℕ → Option Captures) : Type 0 where
   pub tree : Items
   pub is_tree : IsOnlyTreeOf regexp tree

@@ -1,9 +1,9 @@
--- Regular expressions of parts without custom ones.
+-- Regular expressions of parts none of which is custom.
 use Rattle.std.specs.Prelude.{◌≡◌, ℕ, List}
 use Rattle.urlpattern_meaning.specs.PartMeaning.{AreGenerated}
 use Rattle.urlpattern_syntax.specs.{Options.OptionsView, Parts.PartView, RegexpText.regexp_text}
 
--- The text is, under some options, the regular expression of parts of which none is custom.
+-- Under some options, `regexp` is the regular expression of parts none of which is custom.
 abbrev pub IsGenerated : List ℕ → Type 0
 IsGenerated regexp =
     (options : OptionsView) × (parts : List PartView)

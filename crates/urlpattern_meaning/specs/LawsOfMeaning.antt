@@ -12,8 +12,9 @@ use Rattle.urlpattern_syntax.specs.RegexpText.{IsWildcard, group_names, regexp_t
 
 -- ---- lists of parts
 
--- Parts match a plain fixed text at either end, where one is removed there, and between them what
--- the remaining parts match, with the same captures.
+-- If `front` and `back` are the plain fixed texts removed from the ends of `parts`, and `middle`
+-- remains, then `parts` match exactly the texts that are the text of `front`, a text that `middle`
+-- matches, and the text of `back`, with the same captures.
 abbrev pub PlainEndsAreRemoved : Type 0
 PlainEndsAreRemoved =
     (options : OptionsView) (parts : List PartView) (front : Option PartView)
@@ -23,7 +24,7 @@ PlainEndsAreRemoved =
     ↔ ((inner : List ℕ) × (text ≡ end_text front ++ inner ++ end_text back)
     × PartsMean options middle inner captures)
 
--- A meaning of parts has as many captures as the parts have names.
+-- Wherever parts match a text, there are as many captures as the parts have names of groups.
 abbrev pub CapturesHaveNames : Type 0
 CapturesHaveNames =
     (options : OptionsView) (parts : List PartView) (text : List ℕ) (captures : Captures) →
@@ -31,21 +32,24 @@ CapturesHaveNames =
 
 -- ---- copies of a wildcard
 
--- Copies are captured as one text: all of them but the first prefix and the last suffix.
+-- Copies of a wildcard, at least one and as many as its modifier allows, match their text with a
+-- single capture: the text without the first prefix and the last suffix.
 abbrev pub CopiesAreOneCapture : Type 0
 CopiesAreOneCapture = (options : OptionsView) (part : PartView) (n : ℕ) (text : List ℕ) →
     IsWildcard part.kind → Allows part.modifier (suc n) → AreCopies options part (suc n) text →
     (inner : List ℕ) × (text ≡ part.prefix ++ inner ++ part.suffix)
     × PartMeans options part text (Some inner ∷ [])
 
--- A wildcard with no copies has one capture too.
+-- A wildcard whose modifier allows no copies matches the empty text with a single capture,
+-- `capture_of_no_copies`.
 abbrev pub NoCopiesAreOneCapture : Type 0
 NoCopiesAreOneCapture = (options : OptionsView) (part : PartView) →
     IsWildcard part.kind
     → Allows part.modifier 0
     → PartMeans options part [] (capture_of_no_copies part ∷ [])
 
--- A wildcard captures nothing else.
+-- A wildcard that matches a text has a single capture: the text without the first prefix and the
+-- last suffix, or else, of an empty text, `capture_of_no_copies`.
 abbrev pub WildcardsCaptureNothingElse : Type 0
 WildcardsCaptureNothingElse =
     (options : OptionsView) (part : PartView) (text : List ℕ) (captures : Captures) →
@@ -56,12 +60,13 @@ WildcardsCaptureNothingElse =
 
 -- ---- trees of the dialect
 
--- `Says` holds of each tree, each text and each list of captures.
+-- `Says` holds of each tree of the dialect, each text and each list of captures.
 abbrev pub OfEachTree : (Says : Items → (text : List ℕ) → Captures → Type 0) → Type 0
 OfEachTree Says =
     (tree : Items) → AreItems tree → (text : List ℕ) (captures : Captures) → Says tree text captures
 
--- The ways of a tree are exactly its meanings of the beginnings of a text.
+-- The ways of a tree in a text are exactly the beginnings of the text that the tree matches, each
+-- with captures by which it matches and the rest of the text.
 abbrev pub WaysAreMeanings : Type 0
 WaysAreMeanings = (tree : Items) → AreItems tree → (text : List ℕ) (way : Way) →
     Contains (ways tree text) way
@@ -69,7 +74,8 @@ WaysAreMeanings = (tree : Items) → AreItems tree → (text : List ℕ) (way : 
 
 -- ---- the regular expression of parts
 
--- The tree of the regular expression means a text with captures exactly where the parts do.
+-- Where no part is custom, the tree of the regular expression of the parts matches exactly the
+-- texts that the parts match, with the same captures.
 abbrev pub TreesMeanTheParts : Type 0
 TreesMeanTheParts =
     (options : OptionsView) (parts : List PartView) (tree : Items) (text : List ℕ)
@@ -78,7 +84,8 @@ TreesMeanTheParts =
     AreGenerated parts → IsTreeOf (regexp_text options parts) tree →
     Means tree text captures ↔ PartsMean options parts text captures
 
--- An engine follows the regular expression exactly where it returns what the parts mean.
+-- Where no part is custom, `answer`, the results of an engine, follows the regular expression of
+-- the parts exactly if it is what the parts mean, for each text of characters.
 abbrev pub FollowingIsAgreeing : Type 0
 FollowingIsAgreeing =
     (options : OptionsView) (parts : List PartView) (answer : List ℕ → Option Captures)
@@ -87,13 +94,14 @@ FollowingIsAgreeing =
     Follows (regexp_text options parts) answer
     ↔ ((text : List ℕ) → IsTrue (all_scalars text) → Agrees options parts text (answer text))
 
--- Two results that are the first way are equal.
+-- At most one result is that of the first way in which the tree of the parts matches a text.
 abbrev pub FirstWayIsOne : Type 0
 FirstWayIsOne =
     (options : OptionsView) (parts : List PartView) (text : List ℕ)
     → AtMostOne (IsFirstOf options parts text)
 
--- A result that is the first way is what the parts mean.
+-- Where no part is custom, the result of the first way in which the tree of the parts matches a
+-- text is what the parts mean.
 abbrev pub FirstWayIsMeant : Type 0
 FirstWayIsMeant =
     (options : OptionsView) (parts : List PartView) (text : List ℕ) (result : Option Captures) →
@@ -101,8 +109,8 @@ FirstWayIsMeant =
 
 -- ---- matchers, of any type of engines' values
 
--- `Says` holds of each matcher, the parts that it is made from, and any results of engines' values
--- of this type.
+-- `Says` holds of each matcher, the options and parts that it is made from, and any function
+-- `answer` from engines' values of the type `E` to their results.
 abbrev pub OfEachMatcher : (E : Type 0)
     → (Says : (answer : E → List ℕ → Option Captures) → OptionsView → List PartView → MatcherView E
     → Type 0)
@@ -113,8 +121,9 @@ OfEachMatcher E Says =
     →
     HasShapeOf options parts matcher → Says answer options parts matcher
 
--- The matcher returns what the parts mean, custom or not, if an engine that is called returns what
--- the parts left to it mean.
+-- If case is kept, and the matcher's engine, if it has one, accepted its regular expression and
+-- returns what the parts that are left to it mean, then the matcher returns what the parts mean,
+-- custom or not, for each text of characters without line feed.
 abbrev pub ReturnsWhereEnginesAgree : {E : Type 0} → (answer : E → List ℕ → Option Captures)
     → OptionsView → List PartView → MatcherView E → Type 0
 ReturnsWhereEnginesAgree answer options parts matcher =

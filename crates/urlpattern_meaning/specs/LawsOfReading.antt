@@ -1,5 +1,5 @@
--- Laws of tokens, pieces, readings and printed patterns. For a statement about an encoding, the law
--- says for which encodings it holds.
+-- Laws of tokens, of pieces, of the parts that texts read as, and of printed patterns. A statement
+-- about an encoding is a law under each list of results, or under each callback.
 use Rattle.std.specs.Prelude.{◌≡◌, ◌≢◌, ◌⊎◌, ℕ, ◌<◌, List, ◌∷◌, ◌++◌, Err}
 use Rattle.urlpattern_meaning.specs.Laws.{EncodingResults, HasRequestedResults, ReturnsOnce, ReturnsOnceGivenMemory, HasOutcome, HasSomeOutcome, LacksResult, Outcome, listed}
 use Rattle.urlpattern_meaning.specs.Printing.{Keeps, encoded_texts, joined, printed}
@@ -16,12 +16,12 @@ abbrev pub FaultsAreOne : Type 0
 FaultsAreOne = (text : List ℕ) (fault other : FaultView) (place another : ℕ) →
     IsFault text fault place → IsFault text other another → (fault ≡ other) × (place ≡ another)
 
--- No text has both strict tokens and a fault.
+-- No text has both strict tokens and a first fault.
 abbrev pub TokensExcludeFaults : Type 0
 TokensExcludeFaults = (text : List ℕ) (tokens : List TokenView) (fault : FaultView) (place : ℕ) →
     AreTokens text tokens → ¬ IsFault text fault place
 
--- `Says` holds of each strict token of each text, and the tokens after it.
+-- `Says` holds of each text, each of its strict tokens, and the list of tokens after that one.
 abbrev pub OfEachToken : (Says : (text : List ℕ) → TokenView → (later : List TokenView) → Type 0)
     → Type 0
 OfEachToken Says =
@@ -29,14 +29,14 @@ OfEachToken Says =
     → AreTokens text (front ++ token ∷ later)
     → Says text token later
 
--- Each token begins after the one before it.
+-- Each token of a text has a lesser index than each later token.
 abbrev pub IndicesRise : Type 0
 IndicesRise = (text : List ℕ) (front between back : List TokenView) (token later : TokenView) →
     AreTokens text (front ++ token ∷ (between ++ later ∷ back)) → token.index < later.index
 
 -- ---- pieces
 
--- Tokens have at most one list of pieces, with one ending.
+-- Tokens are at most one list of pieces, with one ending, under a prefix code point.
 abbrev pub PiecesAreOne : Type 0
 PiecesAreOne =
     (point : List ℕ) (tokens : List TokenView) (pieces others : List Piece) (ending other : Ending)
@@ -45,7 +45,7 @@ PiecesAreOne =
     → ArePieces point tokens others other
     → (pieces ≡ others) × (ending ≡ other)
 
--- The tokens of a text have a list of pieces.
+-- The tokens of a text are a list of pieces with an ending, under any prefix code point.
 abbrev pub TokensHavePieces : Type 0
 TokensHavePieces = (point text : List ℕ) (tokens : List TokenView) →
     AreTokens text tokens
@@ -53,18 +53,18 @@ TokensHavePieces = (point text : List ℕ) (tokens : List TokenView) →
 
 -- ---- encodings
 
--- The statement holds of each encoding that is a list of texts with their results.
+-- `Sentence` holds of each encoding that is a list of texts with their results.
 abbrev pub UnderEachList : (Sentence : Encoding → Type 0) → Type 0
 UnderEachList Sentence = (answers : EncodingResults) → Sentence (listed answers)
 
--- The statement holds of the results that each callback of a type may return.
+-- `Sentence` holds of the encoding of each callback of the type `F`.
 abbrev pub UnderEachCallback : {F : Type 0} → Calls F → (Sentence : Encoding → Type 0) → Type 0
 UnderEachCallback {F} calls Sentence = (callback : F) → Sentence (encoding_by calls callback)
 
 -- ---- readings and rejections
 
--- At most one value has the property for a text, where the encoding has at most one result for each
--- text.
+-- At most one value has the property `Has` for a text under options, where the encoding has at most
+-- one result for each text.
 abbrev pub HaveOneAtMost : {A : Type 0}
     → (Has : (text : List ℕ) → OptionsView → Encoding → A → Type 0)
     → Encoding → Type 0
@@ -72,19 +72,20 @@ HaveOneAtMost {A} Has encoding =
     (text : List ℕ) (options : OptionsView) (value other : A) → ReturnsOnce encoding →
     Has text options encoding value → Has text options encoding other → value ≡ other
 
--- A text has at most one outcome, where the encoding has at most one result for each text.
+-- A text has at most one outcome, parts or an error, where the encoding has at most one result for
+-- each text.
 abbrev pub OutcomesAreOne : Encoding → Type 0
 OutcomesAreOne encoding = HaveOneAtMost HasOutcome encoding
 
--- No text has both a reading and a rejection, where the encoding has at most one result for each
+-- No text both reads as parts and is rejected, where the encoding has at most one result for each
 -- text.
 abbrev pub ReadingsExcludeRejections : Encoding → Type 0
 ReadingsExcludeRejections encoding =
     (text : List ℕ) (options : OptionsView) (parts : List PartView) (error : ErrorView) →
     ReturnsOnce encoding → Reads text options encoding parts → ¬ Rejects text options encoding error
 
--- Other than that memory ran out, a text has at most one outcome where the encoding has at most one
--- result for each text.
+-- A text has at most one outcome where the encoding has at most one result for each text, not
+-- counting, in either, that memory ran out.
 abbrev pub OutcomesAreOneGivenMemory : Encoding → Type 0
 OutcomesAreOneGivenMemory encoding =
     (text : List ℕ) (options : OptionsView) (outcome other : Outcome)
@@ -95,17 +96,19 @@ OutcomesAreOneGivenMemory encoding =
     → HasOutcome text options encoding other
     → outcome ≡ other
 
--- Every text has an outcome, or else the encoding is called with a text for which it has no result.
+-- Every text has an outcome, parts or an error, or else, while it is parsed, the encoding is called
+-- with a text for which it has no result.
 abbrev pub OutcomesLackOnlyResults : Encoding → Type 0
 OutcomesLackOnlyResults encoding = (text : List ℕ) (options : OptionsView) →
     HasSomeOutcome text options encoding ⊎ LacksResult text options encoding
 
--- Every text has an outcome where the encoding has a result for each text that it is called with.
+-- Every text has an outcome, parts or an error, where the encoding has a result for each text that
+-- it is called with while the text is parsed.
 abbrev pub TextsWithResultsHaveOutcomes : Encoding → Type 0
 TextsWithResultsHaveOutcomes encoding = (text : List ℕ) (options : OptionsView) →
     HasRequestedResults text options encoding → HasSomeOutcome text options encoding
 
--- `Says` holds of the parts of each reading.
+-- `Says` holds of the options and parts, wherever a text reads as the parts under the options.
 abbrev pub OfEachReading : (Says : OptionsView → List PartView → Type 0) → Encoding → Type 0
 OfEachReading Says encoding =
     (text : List ℕ) (options : OptionsView) (parts : List PartView)
@@ -114,27 +117,29 @@ OfEachReading Says encoding =
 
 -- ---- printed patterns
 
--- Parts that were read under standard options, with texts that may be printed, are printable.
+-- Parts that a text reads as under standard options are printable, if no fixed text is empty, and
+-- no fixed text, prefix or suffix has a character that is skipped between tokens.
 abbrev pub ReadPartsArePrintable : Encoding → Type 0
 ReadPartsArePrintable encoding = (text : List ℕ) (options : OptionsView) (parts : List PartView) →
     WereRead text options encoding parts → IsPrintable options parts
 
--- A property of a printed pattern, which is the text, and of the parts that it was printed from.
-abbrev pub Saying : Type 1
-Saying = (text : List ℕ) → OptionsView → Encoding → List PartView → Type 0
+-- A property of a printed pattern, `text`, of options and an encoding, and of the parts that the
+-- pattern was printed from.
+abbrev pub PrintedProperty : Type 1
+PrintedProperty = (text : List ℕ) → OptionsView → Encoding → List PartView → Type 0
 
--- `Says` holds of the printed pattern of all printable parts, under each list of results that keeps
--- their texts.
-abbrev pub OfPrintableParts : Saying → Type 0
+-- `Says` holds of the printed pattern of each list of printable parts, under each list of encoding
+-- results that keeps the texts of the parts.
+abbrev pub OfPrintableParts : PrintedProperty → Type 0
 OfPrintableParts Says =
     (options : OptionsView) (answers : EncodingResults) (parts : List PartView) →
     IsPrintable options parts
     → Keeps (listed answers) parts
     → Says (printed options parts) options (listed answers) parts
 
--- `Says` holds of the printed pattern of parts that were read under one list of results, under each
--- list that keeps their texts.
-abbrev pub OfPartsThatWereRead : Saying → Type 0
+-- `Says` holds of the printed pattern of parts that a text was read as under one list of encoding
+-- results (`WereRead`), under each list that keeps the texts of the parts.
+abbrev pub OfPartsThatWereRead : PrintedProperty → Type 0
 OfPartsThatWereRead Says =
     (text : List ℕ) (options : OptionsView) (first answers : EncodingResults)
     (parts : List PartView)
@@ -143,24 +148,24 @@ OfPartsThatWereRead Says =
     → Keeps (listed answers) parts
     → Says (printed options parts) options (listed answers) parts
 
--- The printed pattern may be read as the joined parts, where the encoding may return each of their
--- texts unchanged.
+-- The printed pattern of printable parts may be read as the joined parts, where the encoding may
+-- return each of their texts unchanged.
 abbrev pub PrintedMayReadAsJoined : Encoding → Type 0
 PrintedMayReadAsJoined encoding = (options : OptionsView) (parts : List PartView) →
     IsPrintable options parts
     → MayKeep encoding parts
     → ReadsAsJoined (printed options parts) options encoding parts
 
--- The printed pattern is read as nothing else, where the encoding changes none of the texts of the
--- joined parts.
+-- The printed pattern of printable parts reads as nothing but the joined parts, where the encoding
+-- changes none of their texts.
 abbrev pub PrintedReadsOnlyAsJoined : Encoding → Type 0
 PrintedReadsOnlyAsJoined encoding = (options : OptionsView) (parts : List PartView) →
     IsPrintable options parts
     → KeepsOrFails encoding parts
     → ReadsOnlyAsJoined (printed options parts) options encoding parts
 
--- The printed pattern is rejected only by an error that the encoding may return for one of the
--- texts of the joined parts.
+-- The printed pattern of printable parts is rejected only by an error that the encoding may return
+-- for one of the texts of the joined parts.
 abbrev pub PrintedFailsByTheEncoding : Encoding → Type 0
 PrintedFailsByTheEncoding encoding =
     (options : OptionsView) (parts : List PartView) (error : ErrorView) →

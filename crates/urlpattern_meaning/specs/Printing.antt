@@ -11,60 +11,68 @@ pub use Rattle.urlpattern_syntax.specs.PatternText.{escaped_pattern, pattern_mar
 
 -- ---- tests of parts
 
--- A name that the pattern gives, not a number.
+-- Whether the name of the part is given by a pattern: it does not begin with a digit, as the number
+-- of a group without a given name does.
 abbrev pub has_custom_name : PartView → Bool
 has_custom_name part = not (begins_with is_ascii_digit part.name)
 
+-- Whether the kind is a segment wildcard.
 abbrev pub is_segment : PartType → Bool
 is_segment PartType.SegmentWildcard = true
 is_segment kind = false
 
--- A name alone: a segment with a name that the pattern gives.
+-- Whether the part is a segment with a given name, which is printed as a name alone, such as `:id`.
 abbrev pub is_name_alone : PartView → Bool
 is_name_alone part = is_segment part.kind && has_custom_name part
 
--- The last character, as a text.
+-- The last character of a text, as a text, or the empty text.
 abbrev pub last_of : List ℕ → List ℕ
 last_of [] = []
 last_of (c ∷ []) = c ∷ []
 last_of (c ∷ d ∷ text) = last_of (d ∷ text)
 
+-- The first part of the list, or None if the list is empty.
 abbrev pub first_part : List PartView → Option PartView
 first_part [] = None
 first_part (part ∷ parts) = Some part
 
 -- ---- when a part needs braces
 
--- The part has a suffix.
+-- Whether the part has a suffix.
 abbrev pub has_suffix : PartView → Bool
 has_suffix part = not (is_empty part.suffix)
 
--- The part has a prefix other than the prefix code point.
+-- Whether the part has a prefix other than the prefix code point.
 abbrev pub has_other_prefix : OptionsView → PartView → Bool
 has_other_prefix options part =
     not (is_empty part.prefix) && not (bytes_eq part.prefix options.prefix)
 
--- The text of the next part, printed without braces, begins with a name character or a bracket,
--- which a name before it would take.
+-- Whether the start of `next`, printed without braces, would be parsed with a name directly before
+-- it: as more of the name, or as its regular expression.
 abbrev pub continues_name : PartView → Bool
 continues_name next =
     is_empty next.prefix && is_empty next.suffix
     && (if is_fixed_text next.kind then begins_with is_name_part next.value
     else not (has_custom_name next))
 
--- The part is a name alone, and would take the beginning of the next part.
+-- Whether the part is a name alone without a modifier, and the start of the next part, printed
+-- without braces, would be parsed with it. At the end of the list the next part is None.
 abbrev pub absorbs_next : PartView → Option PartView → Bool
 absorbs_next part None = false
 absorbs_next part (Some next) =
     is_name_alone part && is_unmodified part.modifier && continues_name next
 
--- The part has no prefix, and would take the last character of the fixed text before it as one.
+-- Whether the part has no prefix, and the part before it is a fixed text that ends with the prefix
+-- code point, which without braces could be parsed as the prefix. At the start of the list the part
+-- before it is None.
 abbrev pub absorbs_before : OptionsView → Option PartView → PartView → Bool
 absorbs_before options None part = false
 absorbs_before options (Some before) part =
     is_empty part.prefix && is_fixed_text before.kind && not (is_empty before.value)
     && bytes_eq (last_of before.value) options.prefix
 
+-- Whether the part, a group, needs braces between the parts `before` and `next`, None at an end of
+-- the list.
 abbrev pub needs_braces : OptionsView → (before : Option PartView) → PartView
     → (next : Option PartView) → Bool
 needs_braces options before part next =
@@ -73,17 +81,22 @@ needs_braces options before part next =
 
 -- ---- the text of a part
 
--- An asterisk after the part before is not the modifier of that part.
-abbrev pub admits_asterisk : Option PartView → Bool
-admits_asterisk None = true
-admits_asterisk (Some before) = is_fixed_text before.kind || not (is_unmodified before.modifier)
+-- Whether an asterisk directly after the part, or first in a pattern (None), is parsed as a
+-- wildcard, not as a modifier of the part.
+abbrev pub is_wildcard_after : Option PartView → Bool
+is_wildcard_after None = true
+is_wildcard_after (Some before) = is_fixed_text before.kind || not (is_unmodified before.modifier)
 
--- A full wildcard may be printed as an asterisk.
+-- Whether the part, if it is a full wildcard, may be printed as an asterisk: it has no given name,
+-- and the asterisk cannot be parsed as a modifier of the part `before`. `braces` says whether the
+-- part is in braces.
 abbrev pub is_asterisk : (before : Option PartView) → PartView → (braces : Bool) → Bool
 is_asterisk before part braces =
-    not (has_custom_name part) && (admits_asterisk before || braces || not (is_empty part.prefix))
+    not (has_custom_name part) && (is_wildcard_after before || braces || not (is_empty part.prefix))
 
--- The regular expression or asterisk of a part of this kind, which follows its name.
+-- What is printed after the name of a part of this kind: the regular expression in parentheses, an
+-- asterisk for a full wildcard if `asterisk` is set (`is_asterisk`), or nothing for a segment with
+-- a given name. A fixed text has neither.
 abbrev pub printed_match : OptionsView → PartType → PartView → (asterisk : Bool) → List ℕ
 printed_match options PartType.FixedText part asterisk = []
 printed_match options PartType.Regexp part asterisk = captured part.value
@@ -92,21 +105,23 @@ printed_match options PartType.SegmentWildcard part asterisk =
 printed_match options PartType.FullWildcard part asterisk =
     if asterisk then codes "*" else captured full_wildcard
 
--- The name after a colon, if the pattern gives the name.
+-- A colon and the name of the part, or nothing if no pattern gives the name.
 abbrev pub printed_name : PartView → List ℕ
 printed_name part = if has_custom_name part then codes ":" ++ part.name else []
 
--- The suffix, which a backslash separates from a name before it.
+-- The suffix of the part, escaped for a pattern, after a backslash if the suffix would otherwise be
+-- parsed as more of the name before it.
 abbrev pub printed_suffix : PartView → List ℕ
 printed_suffix part =
     (if is_name_alone part && begins_with is_name_part part.suffix then codes "\\" else [])
     ++ escaped_pattern part.suffix
 
--- The text, between braces or not.
+-- The text, between braces if `braces` is set.
 abbrev pub in_braces : Bool → List ℕ → List ℕ
 in_braces braces text = if braces then codes "{" ++ text ++ codes "}" else text
 
--- A group with its modifier, between braces or not.
+-- The pattern text of a group with its modifier, between braces if `braces` is set
+-- (`needs_braces`), after the part `before` or at the start of the list (None).
 abbrev pub printed_group : OptionsView → (before : Option PartView) → PartView
     → (braces : Bool) → List ℕ
 printed_group options before part braces =
@@ -115,20 +130,20 @@ printed_group options before part braces =
     ++ printed_match options part.kind part (is_asterisk before part braces) ++ printed_suffix part)
     ++ modifier_text part.modifier
 
--- A fixed text, in braces where it has a modifier.
+-- The pattern text of a fixed text, between braces and with its modifier if it has one.
 abbrev pub printed_fixed : PartView → List ℕ
 printed_fixed part =
     in_braces (not (is_unmodified part.modifier)) (escaped_pattern part.value)
     ++ modifier_text part.modifier
 
--- A part between its neighbours.
+-- The pattern text of a part between the parts `before` and `next`, None at an end of the list.
 unfoldable pub printed_part : OptionsView → (before : Option PartView) → PartView
     → (next : Option PartView) → List ℕ
 printed_part options before part next =
     if is_fixed_text part.kind then printed_fixed part
     else printed_group options before part (needs_braces options before part next)
 
--- The parts after the part `before`.
+-- The pattern text of a list of parts after the part `before`, or at the start of a pattern (None).
 abbrev pub printed_after : OptionsView → (before : Option PartView) → List PartView → List ℕ
 printed_after options before [] = []
 printed_after options before (part ∷ parts) =
@@ -140,14 +155,15 @@ printed options parts = printed_after options None parts
 
 -- ---- the parts that the printed text is read as
 
--- A part before others, made one with the next if both are plain fixed texts.
+-- The list of a part and the parts after it, in which the part and the next are one if both are
+-- plain fixed texts, that is, fixed texts without a modifier.
 abbrev pub joined_with : PartView → List PartView → List PartView
 joined_with part [] = part ∷ []
 joined_with part (next ∷ parts) =
     if is_plain part && is_plain next then record part { value = part.value ++ next.value } ∷ parts
     else part ∷ next ∷ parts
 
--- The parts, with neighbouring plain fixed texts made one.
+-- The parts, with neighbouring plain fixed texts joined into one.
 abbrev pub joined : List PartView → List PartView
 joined [] = []
 joined (part ∷ parts) = joined_with part (joined parts)
@@ -157,7 +173,8 @@ abbrev pub HaveTexts : List PartView → Type 0
 HaveTexts [] = Unit {0}
 HaveTexts (part ∷ parts) = (IsTrue (is_fixed_text part.kind) → part.value ≢ []) × HaveTexts parts
 
--- The texts of parts that are encoded.
+-- The texts that a parser passes to the encoding for these parts: the values of fixed texts, and
+-- the prefixes and suffixes of groups.
 abbrev pub encoded_texts : List PartView → List (List ℕ)
 encoded_texts parts =
     flat_map
@@ -171,6 +188,7 @@ KeepsTexts encoding (text ∷ texts) =
     ((answer : Result (List ℕ) ErrorView) → encoding text answer ↔ (answer ≡ Ok text))
     × KeepsTexts encoding texts
 
--- The encoding keeps the texts of the joined parts, and the empty text.
+-- The encoding keeps the texts of the joined parts, and the empty text: the only result for each is
+-- the text itself.
 abbrev pub Keeps : Encoding → List PartView → Type 0
 Keeps encoding parts = KeepsTexts encoding ([] ∷ encoded_texts (joined parts))

@@ -9,7 +9,7 @@ use Rattle.std.proofs.lemmas.List.Elements.{Contains-append_left, Contains-push,
 use Rattle.urlpattern_parser.specs.declared.parser.given_names.GivenNames.{GivenNames}
 use Rattle.urlpattern_parser.specs.GivenNames.{has_name, has_bytes}
 use Rattle.urlpattern_syntax.specs.Options.{OptionsView}
-use Rattle.urlpattern_syntax.specs.Parsing.{AddsParts, IsGiven, PartListView, pending_items}
+use Rattle.urlpattern_syntax.specs.Parsing.{AddsParts, BeginsAsName, PartListView, pending_items}
 use Rattle.urlpattern_parser.specs.Readers.{KnowsNames}
 use Rattle.urlpattern_syntax.specs.Reading.{Encoding, Item}
 use Rattle.urlpattern_syntax.specs.RegexpText.{group_names}
@@ -46,7 +46,7 @@ module _ (names : List (List ℕ)) (given : GivenNames) (number : ℕ) (knows : 
   }
 
   -- A name is added to the names.
-  pub knows_name : (new : GivenNames) (name : Bor (List ℕ)) → IsUtf8 name.now → IsGiven (chars name.now) → ((other : List ℕ) → has_name new other ≡ (has_bytes other name || has_name given other)) →
+  pub knows_name : (new : GivenNames) (name : Bor (List ℕ)) → IsUtf8 name.now → BeginsAsName (chars name.now) → ((other : List ℕ) → has_name new other ≡ (has_bytes other name || has_name given other)) →
       KnowsNames (names ++ chars name.now ∷ []) new number
   knows_name new name u g added = record {
     named = λ other v o. (

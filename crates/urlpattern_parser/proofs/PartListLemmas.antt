@@ -15,7 +15,7 @@ use Rattle.urlpattern_syntax.proofs.TokenWords.{FailsTokens, ReadsTokens, joined
 use Rattle.urlpattern_syntax.specs.Parsing.{AddsItem, AddsParts, FailsItem, IsTokenList, PartListView, item_demands, pending_items}
 use Rattle.urlpattern_syntax.specs.Errors.{MemoryOr}
 use Rattle.urlpattern_syntax.specs.Pieces.{ArePieces, BeginsWithKind, Ending, IsEnding, IsPiece, Piece, is_placeholder, is_text, Ending as endings, Piece as kinds_of_piece}
-use Rattle.urlpattern_syntax.specs.Reading.{AreMet, AreParts, Capture, Encoding, Expect, FirstFails, Fixed, Item, demands, demands_after, encode_fixed, item, items_from, items_of, joined_items, next_number, number_after, with_text}
+use Rattle.urlpattern_syntax.specs.Reading.{AreMet, AreParts, Capture, Encoding, Expect, FirstFails, Fixed, Item, demands, demands_after, fixed_text_demands, item, items_from, items_of, joined_items, next_number, number_after, with_text}
 use Rattle.urlpattern_syntax.specs.RegexpText.{group_names}
 use Rattle.urlpattern_syntax.specs.Tokens.{TokenView}
 use Rattle.urlpattern_syntax.proofs.PiecesExist.{pieces_exist}
@@ -157,7 +157,7 @@ module _ (options : OptionsView) (encoding : Encoding) (tokens rest : List Token
 
   -- ---- the end
 
-  met_pending : (names : List (List ℕ)) (pending : List ℕ) (found : TokenView) → found.kind ≡ End → AreMet encoding (item_demands names (pending_items pending)) → AreMet encoding (encode_fixed pending ++ Expect End found ∷ [])
+  met_pending : (names : List (List ℕ)) (pending : List ℕ) (found : TokenView) → found.kind ≡ End → AreMet encoding (item_demands names (pending_items pending)) → AreMet encoding (fixed_text_demands pending ++ Expect End found ∷ [])
   met_pending names [] found e h = (e, tt)
   met_pending names (c ∷ pending) found e h = (h.0, (e, tt))
 
@@ -177,9 +177,9 @@ module _ (options : OptionsView) (encoding : Encoding) (tokens rest : List Token
             (AreParts-append options encoding r.items (pending_items old.pending) old.parts a.added r.are_parts a.are_parts));
       }
 
-  pub fails_end : (found : TokenView) (error : Error) → IsEnding rest (endings.Stops found) → MemoryOr (FirstFails encoding (encode_fixed old.pending ++ Expect End found ∷ [])) error → MemoryOr (FailsTokens tokens options encoding) error
+  pub fails_end : (found : TokenView) (error : Error) → IsEnding rest (endings.Stops found) → MemoryOr (FirstFails encoding (fixed_text_demands old.pending ++ Expect End found ∷ [])) error → MemoryOr (FailsTokens tokens options encoding) error
   fails_end found error is_ending h =
-      MemoryOr-weaker (FirstFails encoding (encode_fixed old.pending ++ Expect End found ∷ [])) (FailsTokens tokens options encoding) error
+      MemoryOr-weaker (FirstFails encoding (fixed_text_demands old.pending ++ Expect End found ∷ [])) (FailsTokens tokens options encoding) error
       (λ view f. fails_after [] (endings.Stops found) (pending_items old.pending) view is_ending (with_text-nil old.pending)
       (subst (λ x. FirstFails encoding x view) (sym (demands-pending (item_names r.items) old.pending found)) f)) h
 

@@ -13,7 +13,7 @@ use Rattle.urlpattern_syntax.specs.Parsing.{AddsItem, AddsParts, BeginsWithPiece
 use Rattle.urlpattern_syntax.specs.Errors.{MemoryOr}
 use Rattle.urlpattern_parser.specs.Readers.{FaultOr, HasTokensLeft, IsNext, StartsText, Consumes, reader_text}
 use Rattle.urlpattern_syntax.specs.Pieces.{IsEnding, Piece, Ending as endings}
-use Rattle.urlpattern_syntax.specs.Reading.{Encoding, Expect, FirstFails, Reads, Rejects, encode_fixed, item, number_after}
+use Rattle.urlpattern_syntax.specs.Reading.{Encoding, Expect, FirstFails, Reads, Rejects, fixed_text_demands, item, number_after}
 use Rattle.urlpattern_syntax.specs.Tokens.{AreTokens, ReportsFault, TokenView, fault_view, token_view}
 use Rattle.urlpattern_parser.proofs.PartListLemmas.{HasRead, fails_end, fails_open, fails_piece, nothing_read, reads_end, reads_piece, reads_row}
 use Rattle.urlpattern_syntax.proofs.ReadingLemmas.{MemoryOr-weaker}
@@ -115,7 +115,7 @@ module _ (options : OptionsView) (encoding : Encoding) (text : List ℕ) where
           are_parts = reads.are_parts;
         }
 
-    pub end_fails : (error : Error) → Consumes old new (λ tokens rest. HasEndingAt tokens endings.Stops rest) → reader_text old ≡ text → FaultOr new (FirstFails encoding (encode_fixed list.pending ++ Expect End (token_view new.token) ∷ [])) error → MemoryOr (Rejects text options encoding) error
+    pub end_fails : (error : Error) → Consumes old new (λ tokens rest. HasEndingAt tokens endings.Stops rest) → reader_text old ≡ text → FaultOr new (FirstFails encoding (fixed_text_demands list.pending ++ Expect End (token_view new.token) ∷ [])) error → MemoryOr (Rejects text options encoding) error
     end_fails error takes same (inl h) = reports_refuses text options encoding error (subst (λ x. ReportsFault x error) (ap chars takes.whole ∙ same) h)
     end_fails error takes same (inr (left, h)) =
         let t = takes.gives left.0 left.1 in

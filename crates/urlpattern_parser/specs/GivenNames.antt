@@ -4,11 +4,11 @@ use Rattle.std.specs.{Borrow.Bor, BTreeSet.contains_by, List.list_any, Ordering.
 use Rattle.std.specs.Cmp.Lexicographic.{slice_cmp}
 use Rattle.urlpattern_parser.specs.declared.parser.given_names.GivenNames.{GivenNames}
 
--- The text's bytes are these.
+-- Whether the bytes of the text are equal to `bytes`.
 abbrev pub has_bytes : List ℕ → Bor (List ℕ) → Bool
 has_bytes bytes text = bytes_eq text.now bytes
 
--- The name of these bytes is in the set.
+-- Whether the set contains the name with these bytes.
 abbrev pub has_name : GivenNames → List ℕ → Bool
 has_name names bytes =
     list_any (has_bytes bytes) names.few.items

@@ -13,7 +13,7 @@ use Rattle.urlpattern_syntax.specs.declared.error.Error.{Error}
 use Rattle.urlpattern_syntax.specs.Errors.{MemoryOr}
 use Rattle.urlpattern_parser.specs.declared.parser.given_names.GivenNames.{GivenNames}
 use Rattle.urlpattern_parser.specs.GivenNames.{has_name}
-use Rattle.urlpattern_syntax.specs.Parsing.{IsTokenList, IsModifierSpelled, IsNameSpelled, IsGiven, BeginsWithPlaceholder, IsPieceNamed, BeginsWithCharacters, BeginsWithRow, BeginsWithClose, BeginsWithPiece, HasEndingAt, PartListView}
+use Rattle.urlpattern_syntax.specs.Parsing.{IsTokenList, IsModifierSpelled, IsNameSpelled, BeginsAsName, BeginsWithPlaceholder, IsPieceNamed, BeginsWithCharacters, BeginsWithRow, BeginsWithClose, BeginsWithPiece, HasEndingAt, PartListView}
 use Rattle.urlpattern_syntax.specs.Parts.{parts_view}
 use Rattle.urlpattern_syntax.specs.declared.parser.PartModifier.{PartModifier}
 use Rattle.urlpattern_syntax.specs.Text.{option_text, text_of}
@@ -21,15 +21,16 @@ use Rattle.urlpattern_syntax.specs.Pieces.{Piece, Placeholder, PlaceholderKindVi
 use Rattle.urlpattern_syntax.specs.Reading.{Item, Capture, name_or}
 use Rattle.urlpattern_syntax.specs.Tokens.{AreTokens, ReportsFault, TokenView, token_view}
 
--- The text that is read.
+-- The whole text that the reader reads.
 abbrev pub reader_text : Reader → List ℕ
 reader_text reader = cursor_text reader.cursor
 
--- A bound on the number of tokens that are left, without End.
+-- An upper bound of the number of tokens that are left, without End.
 abbrev pub reader_left : Reader → ℕ
 reader_left reader = length reader.cursor.rest.now + tokens_left reader.token.kind
 
--- The tokens that are left: the first, and those of the rest of the text.
+-- `tokens` are those that the reader has not consumed: its first token, and the tokens of the rest
+-- of the text, if the first is not End.
 pub record HasTokensLeft (reader : Reader) (tokens : List TokenView) : Type 0 where
   pub more : List TokenView
   pub first : tokens ≡ token_view reader.token ∷ more
@@ -38,13 +39,15 @@ pub record HasTokensLeft (reader : Reader) (tokens : List TokenView) : Type 0 wh
       ⊎ ((reader.token.kind ≢ End)
       × AreTokensAfter (reader_text reader) (cursor_rest reader.cursor) more)
 
--- The reader is at a place of its text, and the token before this place is spelled as its kind is.
+-- The reader is at a place between the tokens of its text, and its first token, which ends before
+-- that place, has the value of a modifier or a name if it is one.
 pub record IsAtPlace (reader : Reader) : Type 0 where
   pub place : IsPlace (reader_text reader) (cursor_rest reader.cursor)
   pub mark : IsModifierSpelled (token_view reader.token)
   pub name : IsNameSpelled (token_view reader.token)
 
--- Consuming tokens relates those that are left (`rest`) to those that were left before (`tokens`).
+-- The reader `old` consumes tokens and becomes `new`. `Is` relates the tokens that are left in
+-- `old` to those that are left in `new`.
 pub record Consumes (old new : Reader) (Is : (tokens rest : List TokenView) → Type 0) : Type 0 where
   pub whole : new.cursor.input.now ≡ old.cursor.input.now
   pub stands : IsAtPlace new
@@ -52,7 +55,7 @@ pub record Consumes (old new : Reader) (Is : (tokens rest : List TokenView) → 
   pub gives : (rest : List TokenView) → HasTokensLeft new rest
       → (tokens : List TokenView) × HasTokensLeft old tokens × Is tokens rest
 
--- All tokens of the text are left.
+-- The reader has consumed no token of the text.
 pub record StartsText (text : List ℕ) (reader : Reader) : Type 0 where
   pub whole : reader_text reader ≡ text
   pub stands : IsAtPlace reader
@@ -80,19 +83,21 @@ piece_view (PieceValue.TextGroup text modifier) = Piece.TextGroup (text_of text)
 piece_view (PieceValue.Group before placeholder after modifier) =
     Piece.Group (text_of before) (placeholder_view placeholder) (text_of after) modifier
 
--- A placeholder between texts, as an item.
+-- The item of a placeholder between the texts `before` and `after`, where `number` earlier
+-- placeholders have no name.
 abbrev pub group_item : (before : List ℕ) → PlaceholderValue → (after : List ℕ) → PartModifier → ℕ
     → Item
 group_item before value after modifier number =
     Capture before (name_or (option_text value.name) number) (matched_view value.matched) after
     modifier
 
--- The name of the piece, if it has one, is one that a pattern gives.
+-- If a piece with a name was found, the name begins as a name in a pattern does.
 abbrev pub IsNextNamed : Next → Type 0
 IsNextNamed (Next.Piece piece) = IsPieceNamed (piece_view piece)
 IsNextNamed other = Unit {0}
 
--- The next piece of the tokens, or their ending.
+-- `Next` says what `tokens` begin with under the prefix code point `point`: a piece or characters
+-- before `rest`, or an ending, whose token is the first of `rest`.
 abbrev pub IsNext : (point : List ℕ) → (tokens : List TokenView) → Next
     → (rest : List TokenView) → Type 0
 IsNext point tokens (Next.Piece piece) rest = BeginsWithPiece point tokens (piece_view piece) rest
@@ -101,30 +106,33 @@ IsNext point tokens (Next.Characters first more) rest =
 IsNext point tokens Next.Stops rest = HasEndingAt tokens Ending.Stops rest
 IsNext point tokens Next.LacksClose rest = HasEndingAt tokens Ending.LacksClose rest
 
--- The next piece or ending of these tokens, after tokens that are the prefix.
+-- `Next` says what the tokens of `prefix` and then `tokens` begin with: `IsNext` holds of all these
+-- tokens, under each prefix code point that allows this prefix.
 abbrev pub IsNextAfter : (prefix : List ℕ) → (tokens : List TokenView) → Next
     → (rest : List TokenView) → Type 0
 IsNextAfter prefix tokens next rest =
     (point : List ℕ) (before : List TokenView) → IsPrefixOf point before prefix
     → IsNext point (before ++ tokens) next rest
 
--- A placeholder is consumed.
+-- The reader `old` consumes the placeholder and becomes `new`.
 abbrev pub ConsumesPlaceholder : (old new : Reader) → PlaceholderValue → Type 0
 ConsumesPlaceholder old new value =
     Consumes old new (λ tokens rest. BeginsWithPlaceholder tokens (placeholder_view value) rest)
 
--- The first token, a character, is consumed with more characters, of these values.
-abbrev pub ConsumesRow : (old new : Reader) → (more : Bor (List ℕ)) → Type 0
-ConsumesRow old new more =
+-- The reader `old` consumes its first token, a character, and the characters `more`, which may be
+-- empty, and becomes `new`.
+abbrev pub ConsumesCharacters : (old new : Reader) → (more : Bor (List ℕ)) → Type 0
+ConsumesCharacters old new more =
     Consumes old new (λ tokens rest.
     BeginsWithCharacters tokens (token_view old.token) (chars more.now) rest)
 
--- The closing brace of a group and its modifier are consumed.
+-- The reader `old` consumes the closing brace of a group and its modifier, and becomes `new`.
 abbrev pub ConsumesClose : (old new : Reader) → PartModifier → Type 0
 ConsumesClose old new modifier =
     Consumes old new (λ tokens rest. BeginsWithClose tokens modifier rest)
 
--- Fewer tokens are left after a piece or characters are consumed.
+-- If a piece or characters were found, and so consumed, `new` is less than `old`. The two are the
+-- upper bounds of the number of tokens left (`reader_left`), after and before.
 abbrev pub IsShorter : (new old : ℕ) → Next → Type 0
 IsShorter new old (Next.Piece piece) = new < old
 IsShorter new old (Next.Characters first more) = new < old
@@ -138,15 +146,16 @@ part_list_view list = record {
   number = list.next_numeric_name;
 }
 
--- The names so far: the set keeps those that the pattern gives, and the others are numbers below
--- `number`.
+-- `names` are the names that are used: `given` has exactly those that the pattern gives, and no
+-- number from `number` on, below 2^64, is among them.
 pub record KnowsNames (names : List (List ℕ)) (given : GivenNames) (number : ℕ) : Type 0 where
-  pub named : (name : List ℕ) → IsUtf8 name → IsGiven (chars name) → Contains names (chars name)
+  pub named : (name : List ℕ) → IsUtf8 name → BeginsAsName (chars name)
+      → Contains names (chars name)
       ↔ IsTrue (has_name given name)
   pub numbered : (other : ℕ) → number ≤ other → other < 2 ^ 64 → ¬ Contains names (decimal other)
 
--- Memory ran out, or the error is the first fault of the text, or the rest has tokens and `Is`
--- holds of the error.
+-- The error is that memory ran out, or the first fault of the text, or, where the rest of the text
+-- has no fault, one of which `Is` holds.
 abbrev pub FaultOr : Reader → (ErrorView → Type 0) → Error → Type 0
 FaultOr reader Is error =
     ReportsFault (reader_text reader) error

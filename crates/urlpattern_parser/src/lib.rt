@@ -5,4 +5,4 @@ mod body;
 pub mod parser;
 pub mod tokenizer;
 
-pub use body::{RefusedBody, split_body};
+pub use body::{BodyError, split_body};

@@ -1,4 +1,5 @@
-//! The parts of a pattern text, parsed from its tokens.
+//! The parts of a pattern text, parsed from its tokens. A fault of a text is a `TokenizerError`: no
+//! token begins at a place of the text.
 //!
 //! <https://urlpattern.spec.whatwg.org/#parts-and-part-lists>
 ghost use Rattle.std.specs.Prelude.{◌≤◌, ◌≡◌, Result, IfOk, IfErr, OnOk};
@@ -40,8 +41,8 @@ struct PatternParser<'o, F> {
 /// Parses a pattern text into its parts.
 ///
 /// Each fixed text, prefix and suffix is passed to the callback, which may be called in any order.
-/// The error is the first fault of the text, with its place in bytes; else the first demand of its
-/// pieces that is not met, which may be the callback's own error; or that memory ran out.
+/// The error is the first fault of the text, with its place in bytes; else, part by part, the first
+/// error of the callback, duplicate name or unexpected token; or that memory ran out.
 ///
 /// <https://urlpattern.spec.whatwg.org/#parse-a-pattern-string>
 pub fn parse_pattern_string<F: Fn(&str) -> Result<String, Error> + Drop>(
@@ -66,7 +67,7 @@ pub fn parse_pattern_string<F: Fn(&str) -> Result<String, Error> + Drop>(
 }
 
 impl<F: Fn(&str) -> Result<String, Error>> PatternParser<'_, F> {
-    /// Parses the parts of a text of which no token is consumed.
+    /// Parses the text of a reader that has consumed no token into its parts.
     fn part_list(&self, reader: &mut Reader<'_>) -> Result<Vec<Part>, Error>
         requires callable { F.IsAlwaysCallable self.now.encoding_callback }
         requires starts { StartsText (reader_text reader.old) reader.old }
@@ -101,7 +102,11 @@ impl<F: Fn(&str) -> Result<String, Error>> PatternParser<'_, F> {
         }
     }
 
-    /// Adds the pending text at the token with which no piece begins, which has to be `End`.
+    /// Adds the pending text of `list` as a part, where no piece begins with the next token of
+    /// `reader`.
+    ///
+    /// The error is the first fault of the text; else that of the callback for the pending text;
+    /// else that the token is not `End`; or that memory ran out.
     fn finish(&self, list: &mut PartList<'_>, reader: &Reader<'_>) -> Result<(), Error>
         requires callable { F.IsAlwaysCallable self.now.encoding_callback }
         requires stands { IsAtPlace reader.now }
@@ -120,7 +125,7 @@ impl<F: Fn(&str) -> Result<String, Error>> PatternParser<'_, F> {
         Ok(())
     }
 
-    /// Returns the callback's result for a text.
+    /// Returns the result of the encoding callback for a text.
     #[inline(always)]
     fn encode(&self, text: &str) -> Result<String, Error>
         requires { F.IsAlwaysCallable self.now.encoding_callback }
@@ -132,8 +137,9 @@ impl<F: Fn(&str) -> Result<String, Error>> PatternParser<'_, F> {
         (self.encoding_callback)(text)
     }
 
-    /// Returns the kind of a placeholder's part, and its value: the body of a custom regular
-    /// expression that is not a wildcard.
+    /// Returns the kind and the value of the part of a placeholder that matches `matched`. The
+    /// value is the body of a custom regular expression that is not spelled as a wildcard,
+    /// otherwise empty.
     #[inline(always)]
     fn kind_and_value(&self, matched: PlaceholderKind<'_>) -> Result<(PartType, String), AllocError>
         ensures kind { IfOk result (λ found.
@@ -148,7 +154,9 @@ impl<F: Fn(&str) -> Result<String, Error>> PatternParser<'_, F> {
         }
     }
 
-    /// Returns the kind and the value of a part with this regular expression.
+    /// Returns the kind and the value of the part of a custom regular expression: a wildcard, with
+    /// an empty value, if `regexp` is spelled as one, otherwise `Regexp` with `regexp` as the
+    /// value.
     fn kind_by_regexp(&self, regexp: &str) -> Result<(PartType, String), AllocError>
         ensures kind { IfOk result (λ found.
             found.0 ≡ kind_of (parser_options self.now) (chars regexp.now)) }
@@ -165,8 +173,9 @@ impl<F: Fn(&str) -> Result<String, Error>> PatternParser<'_, F> {
     }
 }
 
-/// Returns the first fault of the text that is parsed, if it has one, and otherwise this error.
-/// `OutOfMemory` stays as it is.
+/// Returns the error to report for `error`, which was found before the tokens were read to the end:
+/// the first fault of the text, if it has one, otherwise `error`. `OutOfMemory` is reported before
+/// a fault.
 fn first_fault(reader: &Reader<'_>, error: Error) -> Error
     requires { IsAtPlace reader.now }
     ensures { FaultOr reader.now (λ view. view ≡ error_view error) result }
@@ -180,8 +189,8 @@ fn first_fault(reader: &Reader<'_>, error: Error) -> Error
     }
 }
 
-/// Returns the error that a token of this kind was expected in place of `found`, or that memory ran
-/// out.
+/// Returns the error that a token of the kind `kind` was expected in place of `found`, or that
+/// memory ran out.
 fn expected_token(alloc: Global, kind: TokenType, found: Token<'_>) -> Error
     ensures { MemoryOr (λ error.
         error ≡ ErrorView.ExpectedToken kind found.entry.kind (chars found.entry.value.now))

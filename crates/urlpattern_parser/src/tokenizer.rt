@@ -1,4 +1,5 @@
-//! The tokens of a pattern text.
+//! The tokens of a pattern text. A fault of a text is a `TokenizerError`: no token begins at a
+//! place of the text.
 //!
 //! <https://urlpattern.spec.whatwg.org/#tokens>
 ghost use Rattle.std.specs.Prelude.{map, IfOk, IfErr};

@@ -5,7 +5,7 @@ use Rattle.urlpattern_matcher.specs.declared.component.{Component.Component, Com
 use Rattle.urlpattern_matcher.specs.declared.regexp.RegExp.{Ghosts as Engine}
 use Rattle.urlpattern_compile.proofs.CompiledLemmas.{kept_compiled}
 use Rattle.urlpattern_compile.specs.Compiled.{AreCompiled, HasEngine, IsComponentCompiled, IsPathKind, IsPatternOfInit, settings_of}
-use Rattle.urlpattern_compile.specs.KeptComponents.{AreCompiledKeeping, IsKeptOfInit}
+use Rattle.urlpattern_compile.specs.KeptComponents.{AreCompiledWithParts, IsInitCompiledWithParts}
 use Rattle.urlpattern_compile.specs.PatternViews.{eight_view}
 use Rattle.urlpattern_components.specs.declared.eight.ComponentName.TheVariants.{Protocol}
 use Rattle.urlpattern_components.specs.declared.eight.Eight.{Eight}
@@ -20,7 +20,7 @@ use Rattle.urlpattern_syntax.specs.declared.parts.ComponentParts.{ComponentParts
 
 module _ {E : Type 0} (engine : Engine E) (made : Eight (ComponentWithParts E)) (components : Eight (Component E)) (parts : PatternParts) (separate_parts : AreSeparated made components parts) where
   -- The components are made of their parts.
-  pub own_parts : (asked : UrlPatternOptions) (values : Values) → AreCompiledKeeping engine asked values made → AreMadeOfParts engine parts (eight_view components)
+  pub own_parts : (asked : UrlPatternOptions) (values : Values) → AreCompiledWithParts engine asked values made → AreMadeOfParts engine parts (eight_view components)
   own_parts asked values kept = λ name.
       let is = kept.are_kept name in
       let own = (at made name).kept in
@@ -33,7 +33,7 @@ module _ {E : Type 0} (engine : Engine E) (made : Eight (ComponentWithParts E)) 
       }
 
   -- The values are compiled to these components.
-  pub parted_compiled : (asked : UrlPatternOptions) (values : Values) → AreCompiledKeeping engine asked values made → AreCompiled engine asked values (eight_view components)
+  pub parted_compiled : (asked : UrlPatternOptions) (values : Values) → AreCompiledWithParts engine asked values made → AreCompiled engine asked values (eight_view components)
   parted_compiled asked values kept = record {
     hierarchical = kept.hierarchical;
     path_kind = subst (λ (c : Component E). IsPathKind engine.answer values (component_view c).matcher kept.hierarchical) (sym (separate_parts.components_are Protocol)) kept.path_kind;
@@ -42,7 +42,7 @@ module _ {E : Type 0} (engine : Engine E) (made : Eight (ComponentWithParts E)) 
         (kept_compiled engine (settings_of asked values kept.hierarchical name) (at made name) (kept.are_kept name));
   }
 
-  module _ (init : UrlPatternInit) (asked : UrlPatternOptions) (is : IsKeptOfInit engine init asked made) where
+  module _ (init : UrlPatternInit) (asked : UrlPatternOptions) (is : IsInitCompiledWithParts engine init asked made) where
     pub parts_are_own : AreMadeOfParts engine parts (eight_view components)
     parts_are_own = own_parts asked is.0 is.2
 

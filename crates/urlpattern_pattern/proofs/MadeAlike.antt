@@ -81,8 +81,8 @@ module _ {E : Type 0} (IsEngine : List ℕ → Result E ErrorView → Type 0) (o
   pub made_alike : (parts : List PartView) (matcher other : MatcherView E) → (made : IsMadeOf IsEngine options parts matcher) → IsMadeOf IsEngine options parts other →
       AreAlike (end_text made.front) made.middle (end_text made.back) matcher other
   made_alike parts matcher other made also =
-      let same = front_alike parts made.front also.front made.middle also.middle made.back also.back made.are_peeled.cut also.are_peeled.cut
-      made.are_peeled.front_removed also.are_peeled.front_removed made.are_peeled.back_removed also.are_peeled.back_removed in
+      let same = front_alike parts made.front also.front made.middle also.middle made.back also.back made.are_stripped.cut also.are_stripped.cut
+      made.are_stripped.front_removed also.are_stripped.front_removed made.are_stripped.back_removed also.are_stripped.back_removed in
       between_alike (end_text made.front) made.middle (end_text made.back) matcher other made.is_made
       (subst (λ (front : Option PartView). IsMadeBetween IsEngine options (end_text front) made.middle (end_text made.back) other) (sym same.fronts)
       (subst (λ (middle : List PartView). IsMadeBetween IsEngine options (end_text also.front) middle (end_text made.back) other) (sym same.middles)

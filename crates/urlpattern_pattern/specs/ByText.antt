@@ -1,5 +1,5 @@
--- What patterns return, by their pattern texts: the first way of the parts that the texts are
--- parsed to.
+-- What patterns return, derived from their pattern texts. A *way* is one way in which a regular
+-- expression matches a text; the first way is the one that a backtracking engine finds first.
 use Rattle.std.specs.Prelude.{◌≡◌, ◌↔◌, ◌⊎◌, ℕ, Any, Bool, false, List, [], Option, None, Some, Ok, IsTrue, codes, unwrap_or}
 use Rattle.urlpattern_canonical.specs.Canonical.{special_schemes}
 use Rattle.urlpattern_matcher.specs.{Components.ComponentView, Components.FlagsAgree, FirstWays.ReturnsFirstWays, FirstWays.EachReturnsFirst}
@@ -21,19 +21,22 @@ use Rattle.urlpattern_matches.specs.MatchInput.{input_texts}
 use Rattle.urlpattern_pattern.specs.Patterns.{PatternView}
 use Rattle.urlpattern_pattern.specs.MatchMeaning.{IsExecuted, IsFoundByMeaning, ReadsAs}
 
--- The pattern text has no custom regular expression.
+-- The pattern text of `settings` has no custom regular expression: each list of parts that it is
+-- parsed to is without one.
 abbrev pub ReadsNoCustom : ParseSettings → Type 0
 ReadsNoCustom settings = (parts : List PartView) → ReadsAs settings parts → AreGenerated parts
 
--- A component has a meaning: its pattern text has no custom regular expression, and case is kept.
+-- The component of `settings` has a meaning: its pattern text has no custom regular expression, and
+-- case is kept. Its parts then say which texts match, with which captures.
 pub record HasMeaning (settings : ParseSettings) : Type 0 where
   pub generated : ReadsNoCustom settings
   pub case_kept : settings.options.ignore_case ≡ false
 
 -- ---- first ways
 
--- The pattern text reads as parts, and the captures are those of the first way in which the parts
--- match the whole text, or None if there is none.
+-- `captures` are the captures of the first way in which the parts of the pattern text of `settings`
+-- match the whole of `text`, or None if no way exists. The parts mean `text` with these captures;
+-- None: the parts do not mean `text`.
 pub record IsFirstWay (settings : ParseSettings) (text : List ℕ) (captures : Option Captures) : Type
     0 where
   pub parts : List PartView
@@ -41,8 +44,8 @@ pub record IsFirstWay (settings : ParseSettings) (text : List ℕ) (captures : O
   pub is_first : IsFirstOf settings.options parts text captures
   pub is_meant : Agrees settings.options parts text captures
 
--- The result of a component is that of the first way of its text: its groups are the names of the
--- parts, with the captures.
+-- `result` is the result of the first way for the component of `settings` and its text `text`: its
+-- groups have the names of the parts, and the captures of the first way.
 pub record IsFirstResult (settings : ParseSettings) (text : List ℕ) (result : ResultView) : Type 0
   where
     pub captures : Captures
@@ -51,9 +54,9 @@ pub record IsFirstResult (settings : ParseSettings) (text : List ℕ) (result : 
 
 -- ---- matches
 
--- What is found in eight texts follows from the pattern texts. In a match, each component whose
--- pattern text has a meaning, and whose text is a line, has the result of the first way. Without a
--- match, if all components are of this kind, one of them has no way for its text.
+-- The result of matching `texts` follows from the pattern texts of `settings`. In a match, each
+-- component that has a meaning, and whose text is a line, has the result of the first way. Without
+-- a match, if all components are of this kind, one of them has no way for its text.
 abbrev pub IsFoundByText : (settings : ComponentName → ParseSettings) → Texts
     → Option (ComponentName → ResultView) → Type 0
 IsFoundByText settings texts (Some result) =
@@ -65,9 +68,9 @@ IsFoundByText settings texts None =
 
 -- ---- patterns
 
--- The component returns what its pattern text says: it has the names of the parts that the text
--- reads as, and for a line, a text of characters without line feed, its matcher returns their first
--- way.
+-- `compiled` returns what the pattern text of `settings` says: its groups have the names of the
+-- parts that the text is parsed to, and for each text of characters without line feed its matcher
+-- returns the captures of the first way of these parts.
 pub record ReturnsByText {E : Type 0} (answer : E → List ℕ → Option Captures)
     (settings : ParseSettings) (compiled : ComponentView E) : Type 0 where
   pub parts : List PartView
@@ -75,8 +78,8 @@ pub record ReturnsByText {E : Type 0} (answer : E → List ℕ → Option Captur
   pub has_names : compiled.group_name_list ≡ group_names parts
   pub answers : ReturnsFirstWays answer settings.options parts compiled.matcher
 
--- The pathname of these values is hierarchical: the protocol is empty, its pattern text matches a
--- special scheme, or the pathname begins with a slash.
+-- By the pattern texts `values`, the pathname is hierarchical: the protocol is empty, its pattern
+-- text matches a special scheme, or the pathname begins with a slash.
 abbrev pub IsHierarchicalByText : UrlPatternOptions → Values → Type 0
 IsHierarchicalByText asked values =
     (values.protocol ≡ Some [])
@@ -86,9 +89,9 @@ IsHierarchicalByText asked values =
     special_schemes
     ⊎ IsTrue (begins_with (is_mark (codes "/")) (unwrap_or values.pathname []))
 
--- The pattern returns what the texts of this init say: each component does whose pattern text has a
--- meaning. The protocol's matcher decides whether the pathname is hierarchical, and so does its
--- pattern text if that has a meaning.
+-- `pattern`, compiled from `init` with the options `asked`, returns what its pattern texts say:
+-- each component that has a meaning does. `hierarchical` is whether the pathname is hierarchical:
+-- the protocol's matcher decides, and its pattern text decides alike if it has a meaning.
 pub record ReturnsByItsText {E : Type 0} (answer : E → List ℕ → Option Captures)
     (init : UrlPatternInit) (asked : UrlPatternOptions) (pattern : PatternView E) : Type 0 where
   pub values : Values
@@ -102,8 +105,8 @@ pub record ReturnsByItsText {E : Type 0} (answer : E → List ℕ → Option Cap
       →
       ReturnsByText answer (settings_of asked values hierarchical component) (pattern component)
 
--- If a component has a meaning and calls an engine, the engine's value returns the first way of the
--- parts between prefix and suffix.
+-- In each component that has a meaning, a matcher that needs an engine has the engine's value,
+-- which returns the first way of the parts between prefix and suffix.
 abbrev pub EnginesReturnFirst : {E : Type 0} → (answer : E → List ℕ → Option Captures)
     → (settings : ComponentName → ParseSettings) → PatternView E → Type 0
 EnginesReturnFirst answer settings pattern =
@@ -111,15 +114,16 @@ EnginesReturnFirst answer settings pattern =
     → ReadsAs (settings component) parts →
     ReturnsFirstInMiddle answer (settings component).options parts (pattern component).matcher.inner
 
--- Each matcher that the engine made with the flags of its options returns first ways, without a
--- premise on the engine.
+-- Each matcher that `engine` made of parts, none of them custom, with case kept and without the
+-- flag `i`, returns first ways. Nothing is assumed of what the engine accepts or returns.
 abbrev pub MakesFirstWays : {E : Type 0} → Engine E → Type 0
 MakesFirstWays engine = EachReturnsFirst engine (λ options flags inner. FlagsAgree options flags)
 
 -- ---- the result of `exec_once`
 
--- The init is compiled to a pattern with which this is found in the input. The result is what the
--- pattern texts mean; with an engine that makes first ways it follows from the pattern texts.
+-- `found` is what `exec_once` returns: `init` is compiled to a pattern, and `exec` of the pattern
+-- returns `found` for `input`. The result is what the pattern texts mean; with an engine that makes
+-- first ways it follows from the pattern texts. Inputs that are too long for `url` are left out.
 pub record IsExecutedByMeaning {E : Type 0} (engine : Engine E) (init : UrlPatternInit)
     (asked : UrlPatternOptions) (input : UrlPatternMatchInput)
     (found : Option (ComponentName → ResultView)) : Type 0 where
@@ -138,7 +142,8 @@ pub record IsExecutedByMeaning {E : Type 0} (engine : Engine E) (init : UrlPatte
       → IsFoundByText (settings_of asked (by_text firsts).values (by_text firsts).hierarchical)
       texts found
 
--- `ReturnsByItsText`, of the init into which this constructor string and its base URL are split.
+-- `ReturnsByItsText` for the init that the constructor string `text` and the base URL `base` are
+-- split into.
 abbrev pub ReturnsByTextOf : {E : Type 0} → Engine E → (text : List ℕ) → (base : Option (List ℕ))
     → UrlPatternOptions → PatternView E → Type 0
 ReturnsByTextOf engine text base asked pattern =

@@ -1,4 +1,5 @@
--- The laws on patterns that return what their texts say.
+-- The laws on patterns that return what their pattern texts say, in the sense of
+-- `ReturnsByItsText`.
 use Rattle.std.specs.Prelude.{◌≡◌, ℕ, false, List, Ok, Option, None, Some}
 use Rattle.urlpattern_matcher.specs.Components.{ComponentView}
 use Rattle.urlpattern_matcher.specs.declared.regexp.RegExp.{Ghosts as Engine}
@@ -19,8 +20,8 @@ use Rattle.urlpattern_pattern.specs.Patterns.{PatternView}
 
 -- ---- patterns that return what their texts say
 
--- A compiled pattern returns what its texts say, if the values of the engine that it calls return
--- first ways.
+-- A compiled pattern returns what its pattern texts say, if the engine's values that it calls
+-- return first ways.
 abbrev pub PatternsReturnByText : {E : Type 0} → Engine E → Type 0
 PatternsReturnByText {E} engine =
     (init : UrlPatternInit) (asked : UrlPatternOptions) (values : Values) (pattern : PatternView E)
@@ -29,8 +30,9 @@ PatternsReturnByText {E} engine =
     EnginesReturnFirst engine.answer (settings_of asked values compiled.hierarchical) pattern
     → ReturnsByItsText engine.answer init asked pattern
 
--- A compiled pattern returns what its texts say, if the engine accepted, in the sense of
--- `Accepted`, what the components without custom regular expressions need.
+-- A pattern that is compiled from an init returns what its pattern texts say, if `Accepted`, a
+-- premise on what the engine accepted, holds of the inner matcher of each component without custom
+-- regular expression.
 abbrev pub AcceptedPatternsReturnByText : {E : Type 0} → Engine E
     → (Accepted : InnerView E → Type 0) → Type 0
 AcceptedPatternsReturnByText {E} engine Accepted =
@@ -41,7 +43,8 @@ AcceptedPatternsReturnByText {E} engine Accepted =
     →
     ReturnsByItsText engine.answer init asked pattern
 
--- A pattern that returns what its texts say does so for eight texts.
+-- What a pattern finds in eight texts follows from its pattern texts, if the pattern returns what
+-- these say.
 abbrev pub FindingsAreByText : {E : Type 0} → (answer : E → List ℕ → Option Captures) → Type 0
 FindingsAreByText {E} answer =
     (init : UrlPatternInit) (asked : UrlPatternOptions) (pattern : PatternView E)
@@ -51,8 +54,8 @@ FindingsAreByText {E} answer =
     →
     IsFoundByText (settings_of asked by.values by.hierarchical) texts found
 
--- A pattern that returns what its texts say does so for an input with texts, none of them too long
--- for `url`.
+-- What `exec` returns for an input follows from the pattern texts, if the pattern returns what
+-- these say, and the input has texts, none of them too long for `url`.
 abbrev pub InputFindingsAreByText : {E : Type 0} → (answer : E → List ℕ → Option Captures) → Type 0
 InputFindingsAreByText {E} answer =
     (init : UrlPatternInit) (asked : UrlPatternOptions) (pattern : PatternView E)
@@ -61,19 +64,20 @@ InputFindingsAreByText {E} answer =
     input_texts input ≡ Ok texts → ¬ IsLongInput input → IsExecuted answer pattern input found →
     IsFoundByText (settings_of asked by.values by.hierarchical) texts found
 
--- All pattern texts have a meaning, and all texts are lines.
+-- Each component has a meaning, and each of `texts` is a line: characters without line feed.
 abbrev pub AllHaveMeaning : (settings : ComponentName → ParseSettings) → Texts → Type 0
 AllHaveMeaning settings texts =
     (component : ComponentName) → HasMeaning (settings component) × IsLine (at texts component)
 
--- The two results are equal, or both are None.
+-- `found` and `other` are both None, or results with equal texts and captures for each component.
 abbrev pub IsSameFinding : (found other : Option (ComponentName → ResultView)) → Type 0
 IsSameFinding None None = Unit {0}
 IsSameFinding (Some result) (Some other) =
     (component : ComponentName) → IsSameResult (result component) (other component)
 IsSameFinding found other = ⊥
 
--- Two results by the same pattern texts, for the same eight texts, are equal.
+-- Two results for `texts` that follow from the pattern texts are equal, if each component has a
+-- meaning and each text is a line.
 abbrev pub FindingsAreOne : Type 0
 FindingsAreOne =
     (settings : ComponentName → ParseSettings) (texts : Texts)
@@ -84,8 +88,8 @@ FindingsAreOne =
     → IsFoundByText settings texts other
     → IsSameFinding found other
 
--- Two patterns that return what the texts of one init say find the same, also over different
--- engines.
+-- Two patterns, also of different engines, find equal results in eight texts, if both return what
+-- the pattern texts of `init` say, each component has a meaning and each text is a line.
 abbrev pub PatternsReturnAlike : {E F : Type 0} → (answer : E → List ℕ → Option Captures)
     → (other : F → List ℕ → Option Captures) → Type 0
 PatternsReturnAlike {E} {F} answer other =
@@ -101,7 +105,7 @@ PatternsReturnAlike {E} {F} answer other =
 
 -- ---- parts
 
--- A pattern text reads as one list of parts.
+-- Two lists of parts that one pattern text is parsed to are equal.
 abbrev pub ReadingsAsAreOne : Type 0
 ReadingsAsAreOne =
     (settings : ParseSettings) (parts others : List PartView) → ReadsAs settings parts

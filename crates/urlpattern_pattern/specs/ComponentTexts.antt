@@ -1,4 +1,5 @@
--- The text of a component of a pattern whose groups capture the given texts.
+-- The text of one component of a pattern, written from the component's parts so that its groups
+-- capture given texts.
 use Rattle.std.specs.Prelude.{◌≡◌, ℕ, List, MatchOption, Option}
 use Rattle.urlpattern_compile.specs.PatternViews.{eight_view}
 use Rattle.urlpattern_components.specs.declared.eight.ComponentName.{ComponentName}
@@ -13,22 +14,23 @@ use Rattle.urlpattern_compare.specs.declared.pattern_parts.PatternParts.{Pattern
 use Rattle.urlpattern_syntax.specs.ComponentParts.{kept_options, kept_parts}
 use Rattle.urlpattern_syntax.specs.Parts.{PartView}
 
--- The parts of one component.
+-- The parts of the component `component`.
 abbrev pub parts_in : PatternParts → ComponentName → List PartView
 parts_in parts component = kept_parts (at parts.components component)
 
--- How a component of these parts is written with these groups.
+-- How the text of `component` is written from its parts: with which options and which canonical
+-- form, and with which texts of `groups`.
 abbrev pub settings_in : PatternParts → List GivenView → ComponentName → WriteSettings
 settings_in parts groups component =
     settings_for component (kept_options (at parts.components component)) (parts_in parts component)
     groups
 
--- The pattern has parts, and the predicate holds of them.
+-- The pattern was not put together by hand, so it has parts, and `Holds` is true of the parts.
 abbrev pub HasParts : {E : Type 0} → UrlPattern E → (PatternParts → Type 0) → Type 0
 HasParts pattern Holds = MatchOption pattern.parts ⊥ Holds
 
--- The text is written from the component's parts with these groups and is canonical, and the
--- component's matcher finds these groups in it.
+-- `text` is written from the parts of `component` with the texts of `groups` and is canonical, and
+-- the component's matcher captures the requested texts in it.
 abbrev pub GeneratesText : {E : Type 0} → (answer : E → List ℕ → Option Captures) → UrlPattern E
     → ComponentName → List GivenView → (text : List ℕ) → Type 0
 GeneratesText answer pattern component groups text =
@@ -36,8 +38,8 @@ GeneratesText answer pattern component groups text =
     HasText answer (eight_view pattern.components component).matcher
     (settings_in parts groups component) (parts_in parts component) text)
 
--- Why the component has no text with these groups: the pattern was put together by hand, or what is
--- wrong with the groups and parts.
+-- `error` says why `component` has no text with `groups`: the pattern was put together by hand, or
+-- what is wrong with groups and parts.
 abbrev pub RejectsGroups : {E : Type 0} → (answer : E → List ℕ → Option Captures) → UrlPattern E
     → ComponentName → List GivenView → GenerateError → Type 0
 RejectsGroups answer pattern component groups error =

@@ -1,5 +1,5 @@
--- The parts that a compiled pattern keeps: its texts read as these parts, and its components are
--- made of them.
+-- The parts that a compiled pattern keeps: its pattern texts are parsed to these parts, and its
+-- components are made of them.
 use Rattle.std.specs.Prelude.{◌≡◌, ℕ, Bool, List, Ok, Option, Some}
 use Rattle.urlpattern_matcher.specs.declared.component.{Component.Component, ComponentWithParts.ComponentWithParts}
 use Rattle.urlpattern_matcher.specs.declared.regexp.RegExp.{Ghosts as Engine}
@@ -17,14 +17,14 @@ use Rattle.urlpattern_compare.specs.declared.pattern_parts.PatternParts.{Pattern
 use Rattle.urlpattern_syntax.specs.ComponentParts.{kept_options, kept_parts}
 use Rattle.urlpattern_syntax.specs.declared.parts.ComponentParts.{ComponentParts}
 
--- The pattern text reads as the parts, under the options and the canonical form of this manner.
+-- `kept` has the options of `settings`, and parts that the pattern text of `settings` is parsed to.
 pub record AreReadBySettings (settings : ParseSettings) (kept : ComponentParts) : Type 0 where
   pub options_are : kept_options kept ≡ settings.options
   pub reads : ReadsAs settings (kept_parts kept)
 
--- The pattern has the parts that its texts read as, and all fields of each component are made of
--- them. The texts are the values of this init, and the protocol decides whether the pathname is
--- hierarchical.
+-- `pattern` keeps the parts that its pattern texts are parsed to, and all fields of each component
+-- are made of them. The pattern texts are the values of `init`, the options are `asked`, and the
+-- protocol decides whether the pathname is hierarchical.
 pub record KeepsPartsOf {E : Type 0} (engine : Engine E) (init : UrlPatternInit)
     (asked : UrlPatternOptions) (pattern : UrlPattern E) : Type 0 where
   pub parts : PatternParts
@@ -38,14 +38,16 @@ pub record KeepsPartsOf {E : Type 0} (engine : Engine E) (init : UrlPatternInit)
       → AreReadBySettings (settings_of asked values hierarchical name) (at parts.components name)
   pub are_made : AreMadeOfParts engine parts (pattern_view pattern)
 
--- The pattern has the parts of the init of this constructor string and base URL.
+-- `KeepsPartsOf` for the init that the constructor string `text` and the base URL `base` are split
+-- into.
 abbrev pub KeepsPartsOfText : {E : Type 0} → Engine E → (text : List ℕ) → (base : Option (List ℕ))
     → UrlPatternOptions → UrlPattern E → Type 0
 KeepsPartsOfText engine text base asked pattern =
     (init : UrlPatternInit) × IsInitOfText engine text base init
     × KeepsPartsOf engine init asked pattern
 
--- The components and the parts of these components with parts.
+-- `made` is separated: `components` has its components, and `parts` the parts that they were made
+-- of.
 pub record AreSeparated {E : Type 0} (made : Eight (ComponentWithParts E))
     (components : Eight (Component E)) (parts : PatternParts) : Type 0 where
   pub components_are : (name : ComponentName) → at components name ≡ (at made name).component

@@ -1,4 +1,5 @@
--- The URL of a pattern whose groups capture the given texts, and why there is none.
+-- The URL that `link` writes from the parts of a pattern, so that its groups capture given texts,
+-- and the reasons why no such URL exists.
 use Rattle.std.specs.Prelude.{◌≡◌, ◌++◌, All, ℕ, Bool, IsTrue, List, ◌∷◌, MatchBool, MatchOption, MatchResult, bytes_eq, Option, Some, None, Result, Ok}
 use Rattle.std.specs.List.{list_any}
 use Rattle.std.specs.declared.alloc.Global.{Global}
@@ -26,27 +27,29 @@ use Rattle.urlpattern_generate.specs.declared.no_link.NoLink.TheVariants.{Compon
 
 -- ---- links
 
--- Each text is that of its component's parts with these groups.
+-- Each of `texts` is written from the parts of its component with the texts of `groups`.
 abbrev pub AreWritten : PatternParts → List GivenView → Texts → Type 0
 AreWritten parts groups texts =
     (component : ComponentName)
     → IsWritten (settings_in parts groups component) (parts_in parts component) (at texts component)
 
--- The matcher of a component finds the expected captures in its text.
+-- The matcher of `component` captures in its text what `groups` requests.
 abbrev pub IsConfirmed : {E : Type 0} → (answer : E → List ℕ → Option Captures) → PatternView E
     → PatternParts → List GivenView → Texts → ComponentName → Type 0
 IsConfirmed answer pattern parts groups texts component =
     FindsRequested answer (pattern component).matcher (settings_in parts groups component)
     (parts_in parts component) (at texts component)
 
--- The matcher of a component finds other captures in its text, or does not match.
+-- The matcher of `component` captures in its text something other than `groups` requests, or does
+-- not match the text.
 abbrev pub IsOther : {E : Type 0} → (answer : E → List ℕ → Option Captures) → PatternView E
     → PatternParts → List GivenView → Texts → ComponentName → Type 0
 IsOther answer pattern parts groups texts component =
     FindsOther answer (pattern component).matcher (settings_in parts groups component)
     (parts_in parts component) (at texts component)
 
--- Whether the matcher of a component finds the expected captures in its text.
+-- `is` is true if the matcher of `component` captures in its text what `groups` requests, and false
+-- if the matcher captures other texts or does not match.
 abbrev pub DecidesConfirmed : {E : Type 0} → Bool
     → (answer : E → List ℕ → Option Captures) → PatternView E → PatternParts → List GivenView
     → Texts → ComponentName → Type 0
@@ -54,7 +57,8 @@ DecidesConfirmed is answer pattern parts groups texts component =
     MatchBool is (IsConfirmed answer pattern parts groups texts component)
     (IsOther answer pattern parts groups texts component)
 
--- The first component whose matcher does not find the expected captures, or None.
+-- The option is the first component, in the order of the standard, whose matcher does not capture
+-- in its text what `groups` requests. None: each matcher does.
 abbrev pub IsConfirmedBefore : {E : Type 0} → (answer : E → List ℕ → Option Captures)
     → PatternView E → PatternParts → List GivenView → Texts → Option ComponentName → Type 0
 IsConfirmedBefore answer pattern parts groups texts None =
@@ -64,9 +68,9 @@ IsConfirmedBefore answer pattern parts groups texts (Some component) =
     × All (IsConfirmed answer pattern parts groups texts) before
     × IsOther answer pattern parts groups texts component
 
--- The URL is the link of a pattern of these parts: each of its texts is that of the parts with
--- these groups, the matchers find the expected captures in the texts, and the texts, put together,
--- are parsed to the URL.
+-- `url` is the link of a pattern with the parts `parts`: each of its texts is written from the
+-- parts with the texts of `groups`, the matchers capture in them what `groups` requests, and the
+-- texts, put together, are parsed to `url`.
 pub record IsLinkOf {E : Type 0} (answer : E → List ℕ → Option Captures) (pattern : PatternView E)
     (parts : PatternParts) (groups : List GivenView) (url : Parts) : Type 0 where
   pub are_written : AreWritten parts groups (texts_of_url url)
@@ -74,7 +78,7 @@ pub record IsLinkOf {E : Type 0} (answer : E → List ℕ → Option Captures) (
       → IsConfirmed answer pattern parts groups (texts_of_url url) component
   pub is_read : IsReadOfTexts (texts_of_url url) url
 
--- The URL is the link of the pattern with these groups.
+-- `url` is the link of the pattern for `groups`.
 abbrev pub IsLink : {E : Type 0} → (answer : E → List ℕ → Option Captures) → UrlPattern E
     → List GivenView → Parts → Type 0
 IsLink answer pattern groups url =
@@ -82,14 +86,15 @@ IsLink answer pattern groups url =
 
 -- ---- captures of the link
 
--- In each match of the URL the group of this name has this capture.
+-- In each match of `url`, the group `name` of `component` captures `capture`.
 abbrev pub IsCapturedBy : {E : Type 0} → (answer : E → List ℕ → Option Captures) → PatternView E
     → Parts → ComponentName → (name capture : List ℕ) → Type 0
 IsCapturedBy answer pattern url component name capture =
     (result : ComponentName → ResultView) → IsMatch answer pattern (inputs.Url url) result
     → (result component).group name ≡ Some (Some capture)
 
--- In each match of the URL, the groups with a given text capture the canonical form of that text.
+-- In each match of `url`, each group to which `groups` gives a text captures the canonical form of
+-- that text.
 abbrev pub ReturnsGiven : {E : Type 0} → (answer : E → List ℕ → Option Captures) → UrlPattern E
     → List GivenView → Parts → Type 0
 ReturnsGiven answer pattern groups url = (component : ComponentName) (name text : List ℕ) →
@@ -103,7 +108,8 @@ ReturnsGiven answer pattern groups url = (component : ComponentName) (name text 
 
 -- ---- errors
 
--- The result for a component: the text of its parts with these groups, or why it has none.
+-- `result` is the text of `component`, written from its parts with the texts of `groups`, or the
+-- reason why it cannot be written.
 abbrev pub HasPartsText : PatternParts → List GivenView → ComponentName
     → Result (CowStr Global) GenerateError → Type 0
 HasPartsText parts groups component result =
@@ -111,8 +117,8 @@ HasPartsText parts groups component result =
     IsWritten (settings_in parts groups component) (parts_in parts component) (cow_text text))
     (CannotWrite component (settings_in parts groups component) (parts_in parts component))
 
--- The texts are those of a URL, and the component is the first whose matcher does not find the
--- expected captures.
+-- A URL has the texts that are written from the parts with `groups`, and `component` is the first
+-- whose matcher does not capture in its text what `groups` requests.
 abbrev pub IsReadOtherwise : {E : Type 0} → (answer : E → List ℕ → Option Captures) → PatternView E
     → PatternParts → List GivenView → ComponentName → Type 0
 IsReadOtherwise answer pattern parts groups component =
@@ -120,8 +126,9 @@ IsReadOtherwise answer pattern parts groups component =
     × IsReadOfTexts (texts_of_url url) url
     × IsConfirmedBefore answer pattern parts groups (texts_of_url url) (Some component)
 
--- Why a pattern of these parts has no link: the first component without a text, that no URL has the
--- texts, the first component that would be read with other groups, or that memory ran out.
+-- `error` says why a pattern with the parts `parts` has no link: the first component without a
+-- text, that no URL has the texts, the first component that captures other texts than `groups`
+-- requests, or that memory ran out.
 abbrev pub RejectsLinkOf : {E : Type 0} → (answer : E → List ℕ → Option Captures) → PatternView E
     → PatternParts → List GivenView → NoLink → Type 0
 RejectsLinkOf answer pattern parts groups (Component (generating.ReadOtherwise component)) =
@@ -133,8 +140,8 @@ RejectsLinkOf answer pattern parts groups OutOfMemory = Unit {0}
 RejectsLinkOf answer pattern parts groups error =
     (texts : Texts) × AreWritten parts groups texts × RejectsTexts texts error
 
--- Why the pattern has no link: it was put together by hand, or what is wrong with its parts and the
--- groups.
+-- `error` says why the pattern has no link: the pattern was put together by hand, or what is wrong
+-- with its parts and the groups.
 abbrev pub RejectsLink : {E : Type 0} → (answer : E → List ℕ → Option Captures) → UrlPattern E
     → List GivenView → NoLink → Type 0
 RejectsLink answer pattern groups error =

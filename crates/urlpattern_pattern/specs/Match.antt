@@ -15,7 +15,8 @@ use Rattle.urlpattern_components.specs.Eight.{Texts, at}
 
 -- ---- matches
 
--- Each component's matcher returns these captures for its text.
+-- Each component's matcher returns `captures` for its text. `answer` is what an engine's value
+-- returns for a text.
 abbrev pub AreResults : {E : Type 0} → (answer : E → List ℕ → Option Captures) → PatternView E
     → Texts → (captures : ComponentName → Captures) → Type 0
 AreResults answer pattern texts captures =
@@ -30,8 +31,8 @@ DoesNotMatch answer pattern texts =
     (component : ComponentName)
     × Returns answer (pattern component).matcher (at texts component) None
 
--- The pattern matches eight texts with this result, where `answer` is what the values of engines
--- return: each matcher returns captures, and they are those of the groups.
+-- The pattern matches `texts` with the result `result`: each matcher returns captures for its text,
+-- and the result has the texts and, by the names of the groups, these captures.
 pub record IsMatchOf {E : Type 0} (answer : E → List ℕ → Option Captures) (pattern : PatternView E)
     (texts : Texts) (result : ComponentName → ResultView) : Type 0 where
   pub captures : ComponentName → Captures
@@ -40,7 +41,8 @@ pub record IsMatchOf {E : Type 0} (answer : E → List ℕ → Option Captures) 
       → IsResultOf (pattern component).group_name_list (captures component) (at texts component)
       (result component)
 
--- The groups of each component, in order: its names, with the captures that its matcher returns.
+-- `groups` are the groups of each component, in order: each name with the capture that the
+-- component's matcher returns.
 abbrev pub AreGroupsInOrder : {E : Type 0} → (answer : E → List ℕ → Option Captures) → PatternView E
     → Texts → (groups : ComponentName → List (List ℕ × Option (List ℕ))) → Type 0
 AreGroupsInOrder answer pattern texts groups =
@@ -49,13 +51,13 @@ AreGroupsInOrder answer pattern texts groups =
     × Returns answer (pattern component).matcher (at texts component) (Some captures)
     × (groups component ≡ zip (pattern component).group_name_list captures)
 
--- Each of the eight texts matches.
+-- Each component's matcher matches its text.
 abbrev pub AreMatched : {E : Type 0} → (answer : E → List ℕ → Option Captures) → PatternView E
     → Texts → Type 0
 AreMatched answer pattern texts =
     (component : ComponentName) → IsMatched answer (pattern component).matcher (at texts component)
 
--- The pattern matches the texts of the input, with this result.
+-- The pattern matches the texts of the input with the result `result`.
 abbrev pub IsMatch : {E : Type 0} → (answer : E → List ℕ → Option Captures) → PatternView E
     → UrlPatternMatchInput → (result : ComponentName → ResultView) → Type 0
 IsMatch answer pattern input result =
@@ -76,19 +78,21 @@ HasNoMatch answer pattern input =
 
 -- ---- results of calls
 
--- Whether the pattern matches the input.
+-- `matched` is what `test` returns: true if the pattern matches the input, and false if it does
+-- not.
 abbrev pub TestsInput : {E : Type 0} → (answer : E → List ℕ → Option Captures) → PatternView E
     → UrlPatternMatchInput → Bool → Type 0
 TestsInput answer pattern input matched =
     MatchBool matched (HasMatch answer pattern input) (HasNoMatch answer pattern input)
 
--- Whether the pattern matches eight texts.
+-- `matched` is true if the pattern matches the eight texts, and false if it does not.
 abbrev pub TestsTexts : {E : Type 0} → (answer : E → List ℕ → Option Captures) → PatternView E
     → Texts → Bool → Type 0
 TestsTexts answer pattern texts matched =
     MatchBool matched (AreMatched answer pattern texts) (DoesNotMatch answer pattern texts)
 
--- What is found in the input, in this view, is a match, or None if there is none.
+-- `found` is what a call returns for the input: a result whose view is a match, or None if the
+-- pattern does not match the input.
 abbrev pub FindsInInput : {E R : Type 0} → (view : R → ComponentName → ResultView)
     → (answer : E → List ℕ → Option Captures) → PatternView E → UrlPatternMatchInput → Option R
     → Type 0
@@ -96,7 +100,8 @@ FindsInInput view answer pattern input found =
     MatchOption found (HasNoMatch answer pattern input) (λ result.
     IsMatch answer pattern input (view result))
 
--- What is found in eight texts, in this view, is a match, or None if there is none.
+-- `found` is what a call returns for eight texts: a result whose view is a match, or None if the
+-- pattern does not match the texts.
 abbrev pub FindsInTexts : {E R : Type 0} → (view : R → ComponentName → ResultView)
     → (answer : E → List ℕ → Option Captures) → PatternView E → Texts → Option R → Type 0
 FindsInTexts view answer pattern texts found =
@@ -105,8 +110,8 @@ FindsInTexts view answer pattern texts found =
 
 -- ---- when memory is allocated
 
--- An engine is called for the text of a component, and each component that calls none matches its
--- text.
+-- An engine is called for the text of some component, and each component that calls no engine
+-- matches its text.
 pub record CallsAnEngine {E : Type 0} (answer : E → List ℕ → Option Captures)
     (pattern : PatternView E) (texts : Texts) : Type 0 where
   pub asked : (component : ComponentName)
@@ -116,19 +121,21 @@ pub record CallsAnEngine {E : Type 0} (answer : E → List ℕ → Option Captur
       → CallsEngine (pattern component).matcher (at texts component)
       ⊎ IsMatched answer (pattern component).matcher (at texts component)
 
--- A match is copied: an engine is called, or there is a match.
+-- A call that copies its match may allocate: an engine is called, or each component matches its
+-- text, so that the match is copied.
 abbrev pub CopiesMatch : {E : Type 0} → (answer : E → List ℕ → Option Captures) → PatternView E
     → Texts → Type 0
 CopiesMatch answer pattern texts =
     CallsAnEngine answer pattern texts ⊎ AreMatched answer pattern texts
 
--- If the input is a URL, this holds of its texts. The texts of an init are allocated anyway.
+-- If the input is a URL, `Holds` is true of its texts. The texts of an init are allocated anyway.
 abbrev pub IfUrl : (Holds : Texts → Type 0) → UrlPatternMatchInput → Type 0
 IfUrl Holds (UrlInput url) = Holds (texts_of_url url)
 IfUrl Holds (Init init) = Unit {0}
 
 -- ---- long inputs
 
--- A text that is passed to `url` is longer than those that `url` is sure to accept.
+-- A text of the input that is passed to `url` may be too long for it: it has `long_text` bytes or
+-- more.
 abbrev pub IsLongInput : UrlPatternMatchInput → Type 0
 IsLongInput input = long_text ≤ input_bytes input

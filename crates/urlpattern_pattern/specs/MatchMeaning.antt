@@ -1,5 +1,5 @@
--- What a match means in terms of pattern texts: the parts that they read as mean the texts of the
--- input, and the groups are the names of these parts, with their captures.
+-- What a match means in terms of pattern texts. Parts *mean* a text, with captures, if they can
+-- match it one after the other.
 use Rattle.std.specs.Prelude.{◌≡◌, ⊤, ℕ, false, List, Option, Some, None, MatchOption, IsTrue}
 use Rattle.std.specs.Str.{all_scalars}
 use Rattle.urlpattern_init.specs.declared.init.{UrlPatternMatchInput.UrlPatternMatchInput}
@@ -17,7 +17,8 @@ use Rattle.urlpattern_components.specs.Eight.{Texts, at}
 
 -- ---- what a pattern text means
 
--- The pattern text means the text: the parts that it reads as mean it, with these captures.
+-- The pattern text of `settings` means `text`: the parts that it is parsed to mean `text`, with
+-- `captures`.
 pub record IsMeant (settings : ParseSettings) (text : List ℕ) : Type 0 where
   pub parts : List PartView
   pub captures : Captures
@@ -26,9 +27,9 @@ pub record IsMeant (settings : ParseSettings) (text : List ℕ) : Type 0 where
 
 -- ---- premises, and what is found
 
--- The premises on a compiled component and a text: no custom regular expression, case that is kept,
--- characters without line feed, and an engine, where one is needed, that accepted its regular
--- expression and follows it.
+-- The premises on which what `compiled` returns for `text` is what its pattern text means: no
+-- custom regular expression, case that is kept, characters without line feed, and an engine, where
+-- one is needed, that accepted its regular expression and follows it.
 pub record MeaningPremises {E : Type 0} (answer : E → List ℕ → Option Captures)
     (settings : ParseSettings) (compiled : ComponentView E) (text : List ℕ) : Type 0 where
   pub generated : compiled.has_regexp_group ≡ false
@@ -38,10 +39,10 @@ pub record MeaningPremises {E : Type 0} (answer : E → List ℕ → Option Capt
   pub follows : (parts : List PartView) → ReadsAs settings parts
       → FollowsMiddle answer settings.options parts compiled.matcher.inner
 
--- What is found in eight texts is what the pattern texts mean. In a match, the result of each
--- component that meets the premises is a meaning of its text: its groups are the names of the
--- parts, with the captures. Without a match, if all components meet the premises, the pattern texts
--- do not mean all eight texts.
+-- The result of matching `texts` is what the pattern texts of `settings` mean. In a match, the
+-- pattern text of each component that meets the premises means its text, and the result has the
+-- names of the parts, with the captures. Without a match, if all components meet the premises, the
+-- pattern texts do not mean all eight texts.
 abbrev pub IsFoundByMeaning : {E : Type 0} → (answer : E → List ℕ → Option Captures)
     → (settings : ComponentName → ParseSettings) → PatternView E → Texts
     → Option (ComponentName → ResultView) → Type 0
@@ -59,7 +60,8 @@ IsFoundByMeaning answer settings pattern texts None =
 
 -- ---- the result of `exec`
 
--- A match of the input, or None if there is none.
+-- `found` is what `exec` returns: a match of the input, or None if the pattern does not match the
+-- input.
 abbrev pub IsExecuted : {E : Type 0} → (answer : E → List ℕ → Option Captures) → PatternView E
     → UrlPatternMatchInput → Option (ComponentName → ResultView) → Type 0
 IsExecuted answer pattern input found =
@@ -67,9 +69,9 @@ IsExecuted answer pattern input found =
 
 -- ---- the default engine
 
--- The premises on a component that was compiled by `regex::Regex`, and on a text: those of
--- `MeaningPremises`, but of the engine only that it accepted its regular expression, where one is
--- needed.
+-- The premises on which a component that was compiled with `regex::Regex` returns for `text` what
+-- its pattern text means: those of `MeaningPremises`, but of the engine only that it accepted its
+-- regular expression, where one is needed.
 pub record RegexPremises (settings : ParseSettings) (compiled : ComponentView Regex) (text : List ℕ)
     : Type 0 where
   pub generated : compiled.has_regexp_group ≡ false

@@ -7,27 +7,29 @@ use Rattle.urlpattern_meaning.specs.PartMeaning.{Captures}
 use Rattle.urlpattern_components.specs.declared.eight.ComponentName.{ComponentName}
 use Rattle.urlpattern_components.specs.Eight.{Texts, at, components}
 
--- The components before this one, in the order of the standard, match their texts.
+-- The components before `component`, in the order of the standard, match their texts.
 abbrev pub MatchesBefore : {E : Type 0} → (answer : E → List ℕ → Option Captures) → PatternView E
     → Texts → ComponentName → Type 0
 MatchesBefore answer pattern texts component =
     (before after : List ComponentName) × (components ≡ before ++ component ∷ after)
     × All (λ earlier. IsMatched answer (pattern earlier).matcher (at texts earlier)) before
 
--- The component is the first that does not match its text.
+-- `component` is the first, in the order of the standard, that does not match its text.
 abbrev pub IsMismatch : {E : Type 0} → (answer : E → List ℕ → Option Captures) → PatternView E
     → Texts → ComponentName → Type 0
 IsMismatch answer pattern texts component =
     MatchesBefore answer pattern texts component
     × Returns answer (pattern component).matcher (at texts component) None
 
--- The first component that does not match its text, or None if each matches.
+-- `found` is what `mismatch` returns: the first component that does not match its text, or None if
+-- each component matches.
 abbrev pub FindsMismatch : {E : Type 0} → (answer : E → List ℕ → Option Captures) → PatternView E
     → Texts → Option ComponentName → Type 0
 FindsMismatch answer pattern texts found =
     MatchOption found (AreMatched answer pattern texts) (IsMismatch answer pattern texts)
 
--- An engine is called for the text of a component, and the components before it match their texts.
+-- An engine is called for the text of some component, and all components before it match their
+-- texts.
 abbrev pub CallsInTurn : {E : Type 0} → (answer : E → List ℕ → Option Captures) → PatternView E
     → Texts → Type 0
 CallsInTurn answer pattern texts =

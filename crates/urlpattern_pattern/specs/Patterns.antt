@@ -16,7 +16,7 @@ components_of pattern = pattern.components
 abbrev pub pattern_view : {E : Type 0} → UrlPattern E → ComponentName → ComponentView E
 pattern_view pattern = eight_view (components_of pattern)
 
--- If the result is a pattern, this holds of it.
+-- If `result` is a pattern, `Holds` is true of the pattern's view. Nothing is said of an error.
 abbrev pub IfPattern : {E Fault : Type 0} → Result (UrlPattern E) Fault → (PatternView E → Type 0)
     → Type 0
 IfPattern result Holds = IfOk result (λ pattern. Holds (pattern_view pattern))

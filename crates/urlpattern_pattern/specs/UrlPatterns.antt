@@ -16,19 +16,20 @@ pub record UrlPattern (E : Type 0) : Type 0 where
   pub components : Eight (Component E)
   pub parts : Option PatternParts
 
--- All five fields of the component are made of the parts by this engine, which accepted what the
--- component needs.
+-- All five fields of `component` are made by `engine` of the options and parts of `kept`, and the
+-- engine accepted each regular expression that the component needs.
 pub record IsMadeOfParts {E : Type 0} (engine : Engine E) (kept : ComponentParts)
     (component : ComponentView E) : Type 0 where
   pub is_component : IsComponentOf engine (kept_options kept) (kept_parts kept) component
   pub has_engine : HasEngine component
 
--- Each component is made of its parts.
+-- Each component of `pattern` is made of its parts of `parts`.
 abbrev pub AreMadeOfParts : {E : Type 0} → Engine E → PatternParts → PatternView E → Type 0
 AreMadeOfParts engine parts pattern =
     (name : ComponentName) → IsMadeOfParts engine (at parts.components name) (pattern name)
 
--- If the pattern has parts, its components are made of them.
+-- If the pattern has parts, its components are made of them. A pattern without parts was put
+-- together by hand.
 abbrev pub HasOwnParts : {E : Type 0} → Engine E → UrlPattern E → Type 0
 HasOwnParts engine pattern =
     IfSome pattern.parts (λ parts. AreMadeOfParts engine parts (eight_view pattern.components))

@@ -1,4 +1,4 @@
-//! URL patterns: their eight components.
+//! The type of URL patterns: eight compiled components, and the parts that they were made of.
 ghost use Rattle.std.specs.Prelude.{◌≡◌, IfSome, None, Some, option_copied};
 ghost use Rattle.std.specs.Str.{chars};
 ghost use Rattle.urlpattern_compile.specs.PatternViews.{eight_view};
@@ -110,7 +110,7 @@ impl<R: RegExp> UrlPattern<R> {
         with_fields!(Self, components, parts)
     }
 
-    /// Returns the pattern of components with the parts that they were made of.
+    /// Returns the pattern of `components`. `parts` are the parts that the components were made of.
     fn with_parts(components: Eight<Component<R>>, parts: PatternParts) -> Self
         requires { AreMadeOfParts R.RegExp parts (eight_view components) }
         ensures components { components_of result ≡ components }
@@ -177,7 +177,7 @@ impl<R: RegExp> UrlPattern<R> {
         }
     }
 
-    /// Returns the component of this name.
+    /// Returns the component that `name` names.
     pub fn get(&self, name: ComponentName) -> &Component<R>
         ensures { result.now ≡ at (components_of self.now) name }
     {
@@ -240,7 +240,7 @@ impl<R: RegExp> UrlPattern<R> {
         &self.hash.pattern_string
     }
 
-    /// Whether a component has a custom regular expression.
+    /// Whether at least one component has a custom regular expression, such as `(\d+)`.
     ///
     /// <https://urlpattern.spec.whatwg.org/#dom-urlpattern-hasregexpgroups>
     pub fn has_regexp_groups(&self) -> bool
@@ -253,8 +253,8 @@ impl<R: RegExp> UrlPattern<R> {
 }
 
 impl<R: RegExp> Drop for UrlPattern<R> {
-    /// Drops the components. Where a pattern goes out of scope, the prover handles one call in
-    /// place of eight.
+    /// Drops the fields. Where a pattern goes out of scope, the prover handles one call in place of
+    /// one for each field.
     fn drop(self) {
         let Self {
             protocol: _protocol,

@@ -6,7 +6,7 @@ use Rattle.serde_json.specs.Data.{Data, string}
 use Rattle.serde_json.specs.Find.{get}
 use Rattle.serde_json.specs.View.{items_of}
 use Rattle.urlpattern_plain.specs.PatternJson.{capture_read, character_read, component_read, component_tree, filter_tree, inner_read, inner_tree, matcher_read, matcher_tree, only, pattern_read, pattern_tree, texts_of_items, texts_read}
-use Rattle.urlpattern_plain.specs.Values.{PlainComponentView, HasFilter, HasFilters, PlainInnerView, PlainMatcherView, PlainPatternView, literal, regexp, single_capture}
+use Rattle.urlpattern_plain.specs.Values.{PlainComponentView, HasScalarFilter, HaveScalarFilters, PlainInnerView, PlainMatcherView, PlainPatternView, literal, regexp, single_capture}
 use Rattle.urlpattern_plain.proofs.PatternLemmas.{pattern_from}
 use Rattle.urlpattern_inputs.specs.Trees.{found_read, flag_read, member_read, optional_read, text_read}
 use Rattle.urlpattern_inputs.proofs.EachLemmas.{read_each-all}
@@ -25,14 +25,14 @@ capture_from : (tree : Data) (filter : Option ℕ) (allow_empty : Bool) → opti
 unfolding capture_read
 capture_from tree filter allow_empty f a = rw (f, a) refl
 
-pub inner_again : (inner : PlainInnerView) → HasFilter inner → inner_read (inner_tree inner) ≡ Some inner
+pub inner_again : (inner : PlainInnerView) → HasScalarFilter inner → inner_read (inner_tree inner) ≡ Some inner
 unfolding inner_read
 inner_again (literal bytes) h = refl
 inner_again (single_capture filter allow_empty) h =
     capture_from (inner_tree (single_capture filter allow_empty)) filter allow_empty (filter_again filter h) refl
 inner_again (regexp bytes) h = refl
 
-inner_within : (prefix suffix : List ℕ) (inner : PlainInnerView) → HasFilter inner → inner_read (matcher_tree (record { prefix = prefix; suffix = suffix; inner = inner })) ≡ Some inner
+inner_within : (prefix suffix : List ℕ) (inner : PlainInnerView) → HasScalarFilter inner → inner_read (matcher_tree (record { prefix = prefix; suffix = suffix; inner = inner })) ≡ Some inner
 unfolding inner_read
 inner_within prefix suffix (literal bytes) h = refl
 inner_within prefix suffix (single_capture filter allow_empty) h =
@@ -53,7 +53,7 @@ suffix_again prefix suffix (literal bytes) = refl
 suffix_again prefix suffix (single_capture filter allow_empty) = refl
 suffix_again prefix suffix (regexp bytes) = refl
 
-pub matcher_again : (matcher : PlainMatcherView) → HasFilter matcher.inner → matcher_read (matcher_tree matcher) ≡ Some matcher
+pub matcher_again : (matcher : PlainMatcherView) → HasScalarFilter matcher.inner → matcher_read (matcher_tree matcher) ≡ Some matcher
 matcher_again matcher h =
     matcher_from (matcher_tree matcher) matcher
     (prefix_again matcher.prefix matcher.suffix matcher.inner)
@@ -75,7 +75,7 @@ component_from : (tree : Data) (component : PlainComponentView)
 unfolding component_read
 component_from tree component pattern_string regexp_string matcher group_name_list = rw (pattern_string, regexp_string, matcher, group_name_list) refl
 
-pub component_again : (component : PlainComponentView) → HasFilter component.matcher.inner → component_read (component_tree component) ≡ Some component
+pub component_again : (component : PlainComponentView) → HasScalarFilter component.matcher.inner → component_read (component_tree component) ≡ Some component
 component_again component h = component_from (component_tree component) component refl refl (matcher_again component.matcher h) (texts_again component.group_name_list)
 
 -- ---- patterns
@@ -86,7 +86,7 @@ member_again : (pattern : PlainPatternView) (name : ComponentName)
 member_again pattern Protocol = refl
 member_again pattern name = refl
 
-pub pattern_again : (pattern : PlainPatternView) → HasFilters pattern → pattern_read (pattern_tree pattern) ≡ Some pattern
+pub pattern_again : (pattern : PlainPatternView) → HaveScalarFilters pattern → pattern_read (pattern_tree pattern) ≡ Some pattern
 pattern_again pattern h =
     pattern_from (pattern_tree pattern) pattern
     (read_each-all (λ name. member_read component_read (name_text name) (pattern_tree pattern)) pattern.components (λ name. rw (member_again pattern name) (component_again (at pattern.components name) (h name))))

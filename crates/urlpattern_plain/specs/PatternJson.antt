@@ -1,4 +1,5 @@
--- The JSON of plain patterns: the tree of each plain value, and the value read from a tree.
+-- The JSON of plain patterns: the tree of each plain value, and the value read from a tree. `None`
+-- is read from a tree of another shape.
 use Rattle.std.specs.Prelude.{ℕ, if◌then◌else◌, List, [], ◌∷◌, ◌++◌, Option, None, Some, option_map, map, codes, encode_utf8}
 use Rattle.std.specs.Str.{bytes_eq, chars}
 use Rattle.serde_json.specs.Data.{Data, null, boolean, string, array, Items, no_items, item}
@@ -10,12 +11,13 @@ use Rattle.urlpattern_components.specs.Eight.{at, name_text}
 
 -- ---- trees
 
--- A string of one character, or null.
+-- The tree of a filter, the character that a captured text may not contain: a string of one
+-- character, or null if there is no filter.
 abbrev pub filter_tree : Option ℕ → Data
 filter_tree None = null
 filter_tree (Some character) = string (encode_utf8 character)
 
--- The members of an inner matcher.
+-- The members of the tree of an inner matcher: its kind, and the fields of that kind.
 abbrev pub inner_members : PlainInnerView → List (List ℕ × Option Data)
 inner_members (literal bytes) =
     (codes "kind", Some (string (codes "literal"))) ∷ (codes "literal", Some (string bytes)) ∷ []
@@ -31,7 +33,7 @@ inner_members (regexp bytes) =
 abbrev pub inner_tree : PlainInnerView → Data
 inner_tree inner = object_of (inner_members inner)
 
--- The tree of a matcher, with the members of its inner matcher.
+-- The tree of a matcher: prefix, suffix, and the members of its inner matcher.
 abbrev pub matcher_tree : PlainMatcherView → Data
 matcher_tree matcher = object_of (
     (codes "prefix", Some (string matcher.prefix))
@@ -47,7 +49,7 @@ component_tree component = object_of (
     ∷ (codes "groupNameList", Some (array (items_of (map string component.group_name_list))))
     ∷ [])
 
--- The tree of a pattern, with a member for each component.
+-- The tree of a pattern: a member for each component, and `hasRegexpGroups`.
 abbrev pub pattern_tree : PlainPatternView → Data
 pattern_tree pattern = object_of (
     each_member (λ name. Some (component_tree (at pattern.components name)))
@@ -55,24 +57,25 @@ pattern_tree pattern = object_of (
 
 -- ---- reading
 
--- The character of a text that has exactly one.
+-- The character of a text of one character, `None` for any other text.
 abbrev pub only : List ℕ → Option ℕ
 only [] = None
 only (character ∷ []) = Some character
 only (character ∷ other ∷ rest) = None
 
--- The character read from a tree.
+-- The character read from a tree, a string of one character.
 abbrev pub character_read : Data → Option ℕ
 character_read tree = as_str tree >>= λ bytes. only (chars bytes)
 
--- The capturing matcher read from a tree.
+-- The matcher with a single capture, read from the members of a tree. The filter may be missing or
+-- null.
 unfoldable pub capture_read : Data → Option PlainInnerView
 capture_read tree = do
   filter ← optional_read character_read (codes "filter") tree
   allow_empty ← flag_read (codes "allowEmpty") tree
   Some (single_capture filter allow_empty)
 
--- The inner matcher of this kind read from a tree.
+-- The inner matcher read from a tree whose kind is this text.
 abbrev pub kind_read : Data → List ℕ → Option PlainInnerView
 kind_read tree kind =
     if bytes_eq kind (codes "literal") then option_map literal (text_read (codes "literal") tree)
@@ -80,7 +83,7 @@ kind_read tree kind =
     else if bytes_eq kind (codes "regExp") then option_map regexp (text_read (codes "regexp") tree)
     else None
 
--- The inner matcher read from a tree.
+-- The inner matcher read from a tree, by the kind that the tree names.
 unfoldable pub inner_read : Data → Option PlainInnerView
 inner_read tree = text_read (codes "kind") tree >>= kind_read tree
 
@@ -92,7 +95,7 @@ matcher_read tree = do
   inner ← inner_read tree
   Some (record { prefix = prefix; suffix = suffix; inner = inner })
 
--- The texts, if each item is a string.
+-- The texts of an array, `None` if an item is not a string.
 abbrev pub texts_of_items : Items → Option (List (List ℕ))
 texts_of_items no_items = Some []
 texts_of_items (item tree rest) = do
@@ -100,7 +103,7 @@ texts_of_items (item tree rest) = do
   others ← texts_of_items rest
   Some (first ∷ others)
 
--- The texts read from a tree.
+-- The texts read from a tree, an array of strings.
 abbrev pub texts_read : Data → Option (List (List ℕ))
 texts_read tree = as_array tree >>= texts_of_items
 

@@ -1,4 +1,5 @@
--- The plain value of a compiled component: each engine is replaced by the text that it was made of.
+-- Compiled components as plain data: each engine is replaced by the text that it was made of, which
+-- `text_made_of` returns.
 use Rattle.std.specs.Prelude.{ℕ, List, [], Result, Ok, Err}
 use Rattle.urlpattern_matcher.specs.Components as compiled
 use Rattle.urlpattern_meaning.specs.Matching as matching
@@ -10,7 +11,7 @@ abbrev pub engine_text : {E : Type 0} → (text_made_of : E → List ℕ) → Re
 engine_text text_made_of (Ok engine) = text_made_of engine
 engine_text text_made_of (Err error) = []
 
--- The plain value of an inner matcher.
+-- An inner matcher as plain data.
 abbrev pub plain_inner : {E : Type 0} → (text_made_of : E → List ℕ) → matching.InnerView E
     → PlainInnerView
 plain_inner text_made_of (matching.Literal text) = literal text
@@ -18,7 +19,7 @@ plain_inner text_made_of (matching.SingleCapture filter may_be_empty) =
     single_capture filter may_be_empty
 plain_inner text_made_of (matching.RegExp engine) = regexp (engine_text text_made_of engine)
 
--- The plain value of a matcher.
+-- A matcher as plain data.
 abbrev pub plain_matcher : {E : Type 0} → (text_made_of : E → List ℕ) → matching.MatcherView E
     → PlainMatcherView
 plain_matcher text_made_of matcher = record {
@@ -27,7 +28,7 @@ plain_matcher text_made_of matcher = record {
   inner = plain_inner text_made_of matcher.inner;
 }
 
--- The plain value of a component.
+-- A component as plain data.
 abbrev pub plain_component : {E : Type 0} → (text_made_of : E → List ℕ) → compiled.ComponentView E
     → PlainComponentView
 plain_component text_made_of component = record {

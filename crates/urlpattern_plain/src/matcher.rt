@@ -20,19 +20,21 @@ use urlpattern_matcher::matcher;
 use urlpattern_matcher::regexp::RegExp;
 use urlpattern_syntax::Error;
 
-/// The matcher of a component: a prefix, a suffix, and what matches between them.
+/// The matcher of a component, as plain data: a prefix, a suffix, and what matches between them.
 #[derive(Debug, Clone, PartialEq, Eq, Drop, Serialize, Deserialize)]
 #[serde(rename_all = "camelCase")]
 pub struct Matcher {
     /// The text with which a matched text begins.
     pub prefix: String,
-    /// The text with which a matched text ends, after the prefix and what is between.
+    /// The text with which a matched text ends. Prefix and suffix do not overlap.
     pub suffix: String,
-    /// What matches between prefix and suffix. In JSON its keys are beside theirs.
+    /// What matches between prefix and suffix. In JSON its keys are in the object of the matcher.
     #[serde(flatten)]
     pub inner: InnerMatcher,
 }
 
+/// What the text between prefix and suffix is matched by.
+///
 /// With `path` as the plain component of `/users/:id`:
 ///
 /// ```rust inner_matcher
@@ -50,22 +52,23 @@ pub enum InnerMatcher {
         /// The text.
         literal: String,
     },
-    /// Any text, which is captured.
+    /// Any text without the character `filter`, if there is one. The text is captured.
     SingleCapture {
-        /// A character that the text may not contain.
+        /// A character that the text may not contain. `None`: any character may occur.
         filter: Option<char>,
         /// Whether the text may be empty.
         allow_empty: bool,
     },
     /// What a regular expression matches, with its captures.
     RegExp {
-        /// The regular expression, empty if an engine rejected it.
+        /// The text of the regular expression, empty if an engine rejected it.
         regexp: String,
     },
 }
 
 impl Matcher {
-    /// Returns the plain value of a matcher.
+    /// Converts a compiled matcher to plain data, with the text of its engine in place of the
+    /// engine, if it has one.
     pub fn from_matcher<R: RegExp>(
         alloc: Global,
         matcher: matcher::Matcher<R>,
@@ -107,6 +110,7 @@ impl Matcher {
         read_or_none(Self::read(alloc, value))
     }
 
+    /// Reads a matcher from JSON, or returns why there is none.
     #[tactic(auto, unfolding(crate::specs::PatternJson::matcher_read))]
     pub(crate) fn read(alloc: Global, value: &Value) -> Result<Self, Unread>
         ensures { ReturnsRead plain_matcher_view result (matcher_read (view value.now)) }
@@ -120,8 +124,8 @@ impl Matcher {
 }
 
 impl InnerMatcher {
-    /// Returns the plain value of an inner matcher: the text of an engine, empty if the engine is
-    /// an error.
+    /// Converts an inner matcher to plain data: an engine becomes the text that it was made of, an
+    /// error the empty text.
     pub fn from_inner<R: RegExp>(
         alloc: Global,
         inner: matcher::InnerMatcher<R>,
@@ -156,7 +160,7 @@ impl InnerMatcher {
         Ok(Value::Object(members))
     }
 
-    /// Puts `kind`, and the keys of that kind, into an object.
+    /// Puts `kind`, and the keys of that kind, into the members of an object.
     fn put_members(&self, members: &mut Map<String, Value>, alloc: Global) -> Result<(), AllocError>
         ensures { OnOk result (GainAll members.old.entries members.new.entries
             (inner_members (plain_inner_view self.now))) }
@@ -191,7 +195,8 @@ impl InnerMatcher {
         read_or_none(Self::read(alloc, value))
     }
 
-    /// Reads the keys of the kind that the object names.
+    /// Reads an inner matcher from JSON, by the kind that the object names, or returns why there is
+    /// none.
     #[tactic(auto, unfolding(crate::specs::PatternJson::inner_read))]
     fn read(alloc: Global, value: &Value) -> Result<Self, Unread>
         ensures { ReturnsRead plain_inner_view result (inner_read (view value.now)) }
@@ -210,6 +215,8 @@ impl InnerMatcher {
         }
     }
 
+    /// Reads a `SingleCapture` from the keys `filter`, which may be missing or null, and
+    /// `allowEmpty`.
     #[tactic(auto, unfolding(crate::specs::PatternJson::capture_read))]
     fn read_capture(value: &Value) -> Result<Self, Unread>
         ensures { ReturnsRead plain_inner_view result (capture_read (view value.now)) }
@@ -223,7 +230,7 @@ impl InnerMatcher {
     }
 }
 
-/// The text that an engine was made of, or the empty text in place of an error.
+/// Returns the text that an engine was made of, or the empty text for an error.
 pub(crate) fn engine_text<R: RegExp>(
     alloc: Global,
     engine: &Result<R, Error>,

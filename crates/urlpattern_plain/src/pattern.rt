@@ -1,4 +1,4 @@
-//! A whole pattern as plain data.
+//! A whole pattern and its components, as plain data.
 
 ghost use Rattle.std.specs.Prelude.{◌≡◌, IfOk, OnOk, Some, option_map};
 ghost use Rattle.serde_json.specs.View.{view};
@@ -25,7 +25,7 @@ use urlpattern_matcher::component::Component;
 use urlpattern_matcher::regexp::RegExp;
 use urlpattern_syntax::Error;
 
-/// A pattern for each of a URL's components.
+/// A compiled pattern as plain data: a pattern for each of a URL's components.
 ///
 /// From a constructor string to plain data:
 ///
@@ -38,30 +38,30 @@ use urlpattern_syntax::Error;
 #[derive(Debug, PartialEq, Eq, Drop, Serialize, Deserialize)]
 #[serde(rename_all = "camelCase")]
 pub struct UrlPattern {
-    /// The scheme.
+    /// The pattern of the protocol.
     pub protocol: UrlPatternComponent,
-    /// The user name.
+    /// The pattern of the username.
     pub username: UrlPatternComponent,
-    /// The password.
+    /// The pattern of the password.
     pub password: UrlPatternComponent,
-    /// The host.
+    /// The pattern of the hostname.
     pub hostname: UrlPatternComponent,
-    /// The port.
+    /// The pattern of the port.
     pub port: UrlPatternComponent,
-    /// The path.
+    /// The pattern of the pathname.
     pub pathname: UrlPatternComponent,
-    /// The query.
+    /// The pattern of the search.
     pub search: UrlPatternComponent,
-    /// The fragment.
+    /// The pattern of the hash.
     pub hash: UrlPatternComponent,
     /// Whether any component has a custom regular expression.
     pub has_regexp_groups: bool,
 }
 
-/// The pattern of one component.
+/// The pattern of one component, as plain data.
 ///
-/// A component whose regular expression was rejected has an empty text for it. The expression of a
-/// path:
+/// The text of the component's regular expression is empty if an engine rejected the expression.
+/// The expression of a path:
 ///
 /// ```rust plain
 /// let path = &users.pathname;
@@ -70,11 +70,11 @@ pub struct UrlPattern {
 #[derive(Debug, PartialEq, Eq, Drop, Serialize, Deserialize)]
 #[serde(rename_all = "camelCase")]
 pub struct UrlPatternComponent {
-    /// The pattern text, as it is printed.
+    /// The printed pattern text.
     pub pattern_string: String,
     /// The regular expression of the whole component, empty if an engine rejected it.
     pub regexp_string: String,
-    /// The matcher.
+    /// What matches the text of the component.
     pub matcher: Matcher,
     /// The names of the groups, in the order of their captures.
     pub group_name_list: Vec<String>,
@@ -117,6 +117,7 @@ impl UrlPattern {
         read_or_none(Self::read(alloc, value))
     }
 
+    /// Reads a pattern from JSON, or returns why there is none.
     #[tactic(auto, unfolding(crate::specs::PatternJson::pattern_read))]
     fn read(alloc: Global, value: &Value) -> Result<Self, Unread>
         ensures { ReturnsRead plain_pattern_view result (pattern_read (view value.now)) }
@@ -126,7 +127,7 @@ impl UrlPattern {
         Ok(Self::from_eight(components, has_regexp_groups))
     }
 
-    /// Creates a pattern from eight components.
+    /// Creates a pattern from eight components, and whether any has a custom regular expression.
     pub fn from_eight(components: Eight<UrlPatternComponent>, has_regexp_groups: bool) -> Self
         ensures components { component_patterns result ≡ components }
         ensures groups { result.has_regexp_groups ≡ has_regexp_groups }
@@ -134,7 +135,7 @@ impl UrlPattern {
         with_fields!(Self, components, has_regexp_groups)
     }
 
-    /// The component with this name.
+    /// Returns the component with this name.
     pub fn get(&self, name: ComponentName) -> &UrlPatternComponent
         ensures { result.now ≡ at (component_patterns self.now) name }
     {
@@ -158,7 +159,8 @@ impl Clone for UrlPatternComponent {
 }
 
 impl UrlPatternComponent {
-    /// Returns the plain value of a component: the texts of its engines, empty for an error.
+    /// Converts a compiled component to plain data, with the text of each engine in place of the
+    /// engine, and an empty text in place of an error.
     pub fn from_component<R: RegExp>(alloc: Global, component: Component<R>) -> Result<Self, Error>
         ensures plain { IfOk result (λ plain.
             component_by text_of plain
@@ -201,6 +203,7 @@ impl UrlPatternComponent {
         read_or_none(Self::read(alloc, value))
     }
 
+    /// Reads a component from JSON, or returns why there is none.
     #[tactic(auto, unfolding(crate::specs::PatternJson::component_read))]
     fn read(alloc: Global, value: &Value) -> Result<Self, Unread>
         ensures { ReturnsRead plain_component_view result (component_read (view value.now)) }
@@ -214,7 +217,7 @@ impl UrlPatternComponent {
     }
 }
 
-/// Puts a component into an object.
+/// Puts the JSON of a component, under `name`, into the members of an object.
 fn put_component(
     members: &mut Map<String, Value>,
     alloc: Global,
@@ -229,7 +232,7 @@ fn put_component(
     Ok(serde_json::put(members, alloc, name, tree)?)
 }
 
-/// The component of a member.
+/// Reads a component from the member `name` of an object, or returns why there is none.
 fn component_field(alloc: Global, tree: &Value, name: &str) -> Result<UrlPatternComponent, Unread>
     ensures { ReturnsRead plain_component_view result
         (member_read component_read name.now (view tree.now)) }
@@ -237,7 +240,7 @@ fn component_field(alloc: Global, tree: &Value, name: &str) -> Result<UrlPattern
     UrlPatternComponent::read(alloc, member(tree, name)?)
 }
 
-/// The matcher of a member.
+/// Reads a matcher from the member `name` of an object, or returns why there is none.
 fn matcher_field(alloc: Global, tree: &Value, name: &str) -> Result<Matcher, Unread>
     ensures { ReturnsRead plain_matcher_view result
         (member_read matcher_read name.now (view tree.now)) }

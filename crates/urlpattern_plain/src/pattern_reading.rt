@@ -11,7 +11,8 @@ use serde_json::Value;
 use std::alloc::Global;
 use urlpattern_inputs::json_reading::{Unread, member};
 
-/// Reads an optional member, a text of one character. `None`: the member is missing or null.
+/// Reads a character from the member `name` of an object, a string of one character. `None`: the
+/// member is missing or null.
 pub(crate) fn optional_character_field(tree: &Value, name: &str) -> Result<Option<char>, Unread>
     ensures { ReturnsRead (λ found. found) result
         (optional_read character_read name.now (view tree.now)) }
@@ -31,7 +32,7 @@ pub(crate) fn optional_character_field(tree: &Value, name: &str) -> Result<Optio
     }
 }
 
-/// The character of a text that has exactly one.
+/// Returns the character of a text of one character. `None`: the text is empty or longer.
 fn only(text: &str) -> Option<char>
     ensures { result ≡ only (chars text.now) }
 {
@@ -43,7 +44,7 @@ fn only(text: &str) -> Option<char>
     }
 }
 
-/// The texts of a member.
+/// Reads texts from the member `name` of an object, an array of strings.
 pub(crate) fn texts_field(alloc: Global, tree: &Value, name: &str) -> Result<Vec<String>, Unread>
     ensures { ReturnsRead (λ texts. map string_bytes texts.items) result
         (member_read texts_read name.now (view tree.now)) }
@@ -54,7 +55,8 @@ pub(crate) fn texts_field(alloc: Global, tree: &Value, name: &str) -> Result<Vec
     }
 }
 
-/// The texts of an array, if each item is a string.
+/// Copies the texts of an array of strings. The error is `Unread::Shape` if an item is not a
+/// string.
 fn texts_of(alloc: Global, items: &Vec<Value>) -> Result<Vec<String>, Unread>
     ensures { ReturnsRead (λ texts. map string_bytes texts.items) result
         (texts_of_items (items_view items.now.items)) }

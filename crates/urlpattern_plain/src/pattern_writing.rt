@@ -8,7 +8,8 @@ ghost use Rattle.urlpattern_plain.specs.PatternJson.{filter_tree};
 use serde_json::Value;
 use std::alloc::{AllocError, Global};
 
-/// A string of one character, or null.
+/// Returns the JSON of a filter, the character that a captured text may not contain: a string of
+/// one character, or null if there is no filter.
 pub(crate) fn filter_value(alloc: Global, filter: Option<char>) -> Result<Value, AllocError>
     ensures { IfOk result (λ tree. view tree ≡ filter_tree filter) }
 {
@@ -22,7 +23,7 @@ pub(crate) fn filter_value(alloc: Global, filter: Option<char>) -> Result<Value,
     }
 }
 
-/// An array of strings.
+/// Returns the JSON of texts: an array of strings.
 pub(crate) fn texts_value(alloc: Global, texts: &Vec<String>) -> Result<Value, AllocError>
     ensures { IfOk result (λ tree.
         view tree ≡ array (items_of (map string (map string_bytes texts.now.items)))) }

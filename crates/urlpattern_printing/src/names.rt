@@ -1,4 +1,5 @@
-//! The regular expression of a list of parts, with the names of its groups.
+//! The names of the groups of a list of parts, and with them its regular expression; and whether a
+//! part is bare.
 
 ghost use Rattle.std.specs.Prelude.{◌≡◌, ◌&&◌, length, map, not, IfOk};
 ghost use Rattle.urlpattern_printing.specs.Generated.{HasGeneratedMeaning, HaveCaptures};
@@ -12,8 +13,8 @@ use urlpattern_syntax::parser::{Options, Part, PartType};
 
 /// Returns the regular expression of a list of parts, and the names of its groups in order.
 ///
-/// Where no part is a custom regular expression, the text means exactly what the parts mean, with
-/// the same captures, as many as the names.
+/// Where no part is a custom regular expression, the regular expression matches exactly the texts
+/// that the parts match, with the same captures, one for each name.
 ///
 /// <https://urlpattern.spec.whatwg.org/#generate-a-regular-expression-and-name-list>
 pub fn generate_regular_expression_and_name_list(
@@ -52,7 +53,7 @@ pub fn generate_name_list(alloc: Global, part_list: &[Part]) -> Result<Vec<Strin
     Ok(names)
 }
 
-/// Whether the part is a group, that is, no fixed text.
+/// Whether the part is a group, that is, not a fixed text.
 fn is_group(part: &Part) -> bool
     ensures { result ≡ not (is_fixed_text part.now.kind) }
 {

@@ -6,7 +6,7 @@ ghost use Rattle.std.specs.Prelude.{◌≡◌, ◌&&◌, ◌||◌, false, IfOk};
 ghost use Rattle.std.specs.Str.{chars};
 ghost use Rattle.urlpattern_printing.specs.Neighbours.{ends_with_prefix, neighbour};
 ghost use Rattle.urlpattern_printing.specs.{NormalForms.ReadsBackIfKept, WrittenParts.group_part};
-ghost use Rattle.urlpattern_meaning.specs.Printing.{escaped_pattern, continues_name, has_custom_name, has_other_prefix, has_suffix, in_braces, is_asterisk, is_name_alone, needs_braces, printed, printed_fixed, printed_match, printed_name, printed_part, printed_suffix, absorbs_before, absorbs_next, admits_asterisk};
+ghost use Rattle.urlpattern_meaning.specs.Printing.{escaped_pattern, continues_name, has_custom_name, has_other_prefix, has_suffix, in_braces, is_asterisk, is_name_alone, needs_braces, printed, printed_fixed, printed_match, printed_name, printed_part, printed_suffix, absorbs_before, absorbs_next, is_wildcard_after};
 ghost use Rattle.urlpattern_syntax.specs.{Errors.OnlyOutOfMemory, Options.options_view, RegexpText.is_fixed_text};
 ghost use Rattle.urlpattern_syntax.specs.Parts.{part_view, parts_view};
 ghost use Rattle.urlpattern_syntax.specs.Text.{begins_with, is_name_part, text_of};
@@ -24,8 +24,9 @@ use urlpattern_syntax::writing::{Writable, Writer, written};
 
 /// Returns the pattern text of a list of parts.
 ///
-/// The text of printable parts reads as the same parts, with neighbouring plain fixed texts joined,
-/// and as nothing else, under any encoding that keeps their texts.
+/// The text of parts that are printable (`IsPrintable`) is parsed as these parts again, with
+/// neighbouring fixed texts that have no modifier joined, and as nothing else, if the encoding
+/// callback returns their texts unchanged.
 ///
 /// <https://urlpattern.spec.whatwg.org/#generate-a-pattern-string>
 pub fn generate_pattern_string(
@@ -72,7 +73,8 @@ impl Writable for PrintedText<'_> {
     }
 }
 
-/// The text of a part between its neighbours.
+/// A part that is printed. Whether it needs braces depends on the parts `previous` and `next` to
+/// it, `None` at an end of the list.
 #[derive(Clone, Copy)]
 struct PrintedPart<'a> {
     options: &'a Options,
@@ -98,7 +100,7 @@ impl Writable for PrintedPart<'_> {
 }
 
 impl PrintedPart<'_> {
-    /// Writes a fixed text, between braces if it has a modifier.
+    /// Writes a fixed text, between braces and with its modifier if it has one.
     fn write_fixed_text<W: Writer>(&self, writer: &mut W)
         requires { W.Fits writer.old (printed_fixed (part_view self.now.part.now)) }
         ensures { W.Writes writer.old (printed_fixed (part_view self.now.part.now)) writer.new }
@@ -108,7 +110,8 @@ impl PrintedPart<'_> {
         (InBraces { braces, inner }, self.part.modifier.as_str()).write_to(writer);
     }
 
-    /// Writes a part that is not a fixed text, between braces or not.
+    /// Writes a part that is not a fixed text, between braces if `braces` is set
+    /// (`needs_grouping`), and its modifier.
     fn write_group<W: Writer>(&self, writer: &mut W, braces: bool)
         requires { W.Fits writer.old (group_part self.now braces) }
         ensures { W.Writes writer.old (group_part self.now braces) writer.new }
@@ -124,7 +127,7 @@ impl PrintedPart<'_> {
     }
 }
 
-/// A text between braces, or as it is.
+/// The text `inner`, between braces if `braces` is set.
 #[derive(Clone, Copy)]
 struct InBraces<T> {
     braces: bool,
@@ -144,7 +147,7 @@ impl<T: Writable> Writable for InBraces<T> {
     }
 }
 
-/// The prefix of a part.
+/// The prefix of a part, escaped for a pattern.
 #[derive(Clone, Copy)]
 struct Prefix<'a>(&'a Part);
 
@@ -160,7 +163,8 @@ impl Writable for Prefix<'_> {
     }
 }
 
-/// A colon and the name of a part, if the pattern gives the name.
+/// A colon and the name of a part, or nothing if the name begins with a digit, as the number of a
+/// group without a given name does.
 #[derive(Clone, Copy)]
 struct Name<'a>(&'a Part);
 
@@ -175,7 +179,9 @@ impl Writable for Name<'_> {
     }
 }
 
-/// The regular expression or asterisk of a part, unless the name alone says it.
+/// What is printed after the name of a part: the regular expression in parentheses, an asterisk for
+/// a full wildcard if `asterisk` is set (`is_asterisk`), or nothing for a segment with a given
+/// name.
 #[derive(Clone, Copy)]
 struct PrintedBody<'a> {
     options: &'a Options,
@@ -200,7 +206,8 @@ impl Writable for PrintedBody<'_> {
     }
 }
 
-/// The suffix of a part, with a backslash if the name before would go on with the suffix.
+/// The suffix of a part, escaped for a pattern, after a backslash if the suffix would otherwise be
+/// parsed as more of the name before it.
 #[derive(Clone, Copy)]
 struct Suffix<'a>(&'a Part);
 
@@ -220,7 +227,9 @@ impl Writable for Suffix<'_> {
     }
 }
 
-/// Whether the part needs braces.
+/// Whether `part`, a group, needs braces between the parts `previous` and `next`, `None` at an end
+/// of the list: for a suffix, for a prefix other than the prefix code point, or to be parsed apart
+/// from a neighbour.
 fn needs_grouping(
     options: &Options,
     previous: Option<&Part>,
@@ -234,7 +243,8 @@ fn needs_grouping(
     needs_grouping_before(options, part, next) || absorbs_before(options, previous, part)
 }
 
-/// Whether the part needs braces before this next part, whatever is before the part.
+/// Whether `part`, a group, needs braces for a suffix, for a prefix other than the prefix code
+/// point, or to be parsed apart from the part `next` after it.
 fn needs_grouping_before(options: &Options, part: &Part, next: Option<&Part>) -> bool
     ensures { result
         ≡ (has_suffix (part_view part.now)
@@ -260,8 +270,9 @@ fn has_other_prefix(options: &Options, part: &Part) -> bool
     !part.prefix.is_empty() && part.prefix != options.prefix_code_point
 }
 
-/// Whether the part, printed as a name alone such as `:id`, would be read together with the start
-/// of the next part: as more of the name, or as its regular expression.
+/// Whether `part` is a name alone without a modifier, such as `:id`, and the start of `next`,
+/// printed without braces, would be parsed with it: as more of the name, or as its regular
+/// expression.
 fn absorbs_next(part: &Part, next: Option<&Part>) -> bool
     ensures { result ≡ absorbs_next (part_view part.now) (neighbour next.entry) }
 {
@@ -273,8 +284,8 @@ fn absorbs_next(part: &Part, next: Option<&Part>) -> bool
     }
 }
 
-/// Whether a name before the part would go on with the beginning of the part, or take it as its
-/// regular expression.
+/// Whether the start of `part`, printed without braces, would be parsed with a name directly before
+/// it: as more of the name, or as its regular expression.
 fn continues_name(part: &Part) -> bool
     ensures { result ≡ continues_name (part_view part.now) }
 {
@@ -285,20 +296,21 @@ fn continues_name(part: &Part) -> bool
         }
 }
 
-/// Whether the part would take the end of a fixed text before it as its prefix.
+/// Whether `part` has no prefix, and `previous` is a fixed text that ends with the prefix code
+/// point, which without braces could be parsed as the prefix of `part`.
 fn absorbs_before(options: &Options, previous: Option<&Part>, part: &Part) -> bool
     ensures { result
         ≡ absorbs_before (options_view options.now) (neighbour previous.entry)
         (part_view part.now) }
 {
     match previous {
-        Some(previous) => part.prefix.is_empty() && leaves_prefix(options, previous),
+        Some(previous) => part.prefix.is_empty() && is_text_ending_with_prefix(options, previous),
         None => false,
     }
 }
 
-/// Whether the part is a fixed text that ends with the prefix code point.
-fn leaves_prefix(options: &Options, part: &Part) -> bool
+/// Whether the part is a fixed text whose last character is the prefix code point.
+fn is_text_ending_with_prefix(options: &Options, part: &Part) -> bool
     ensures { result
         ≡ (is_fixed_text part.now.kind
         && ends_with_prefix (options_view options.now) (text_of part.now.value)) }
@@ -317,16 +329,19 @@ fn ends_with_prefix(options: &Options, text: &str) -> bool
     prefix.next() == Some(last) && prefix.as_str().is_empty()
 }
 
-/// Whether the part may be printed as an asterisk, if it is a full wildcard.
+/// Whether `part`, if it is a full wildcard, may be printed as an asterisk: it has no given name,
+/// and the asterisk cannot be parsed as a modifier of `previous`. `grouped` says whether it is in
+/// braces.
 fn is_asterisk(previous: Option<&Part>, part: &Part, grouped: bool) -> bool
     ensures { result ≡ is_asterisk (neighbour previous.entry) (part_view part.now) grouped }
 {
-    !has_custom_name(part) && (admits_asterisk(previous) || grouped || !part.prefix.is_empty())
+    !has_custom_name(part) && (is_wildcard_after(previous) || grouped || !part.prefix.is_empty())
 }
 
-/// Whether an asterisk after the part would not be its modifier.
-fn admits_asterisk(previous: Option<&Part>) -> bool
-    ensures { result ≡ admits_asterisk (neighbour previous.entry) }
+/// Whether an asterisk directly after the part `previous`, or first in a pattern (`None`), is
+/// parsed as a wildcard, not as a modifier.
+fn is_wildcard_after(previous: Option<&Part>) -> bool
+    ensures { result ≡ is_wildcard_after (neighbour previous.entry) }
 {
     match previous {
         Some(previous) => {
@@ -336,7 +351,8 @@ fn admits_asterisk(previous: Option<&Part>) -> bool
     }
 }
 
-/// Whether the part is a name alone that would go on with the beginning of its suffix.
+/// Whether the part is a name alone, such as `:id`, and the start of its suffix would be parsed as
+/// more of the name.
 fn continues_name_with_suffix(part: &Part) -> bool
     ensures { result
         ≡ (is_name_alone (part_view part.now)
@@ -345,14 +361,16 @@ fn continues_name_with_suffix(part: &Part) -> bool
     is_name_alone(part) && begins_with_name_part(&part.suffix)
 }
 
-/// Whether the part is a segment with a name that the pattern gives.
+/// Whether the part is a segment with a given name, which is printed as a name alone, such as
+/// `:id`.
 fn is_name_alone(part: &Part) -> bool
     ensures { result ≡ is_name_alone (part_view part.now) }
 {
     part.kind == PartType::SegmentWildcard && has_custom_name(part)
 }
 
-/// Whether the pattern gives the part its name, which is then no number.
+/// Whether the name of the part is given by a pattern: it does not begin with a digit, as the
+/// number of a group without a given name does.
 fn has_custom_name(part: &Part) -> bool
     ensures { result ≡ has_custom_name (part_view part.now) }
 {
@@ -362,7 +380,7 @@ fn has_custom_name(part: &Part) -> bool
     }
 }
 
-/// Whether a name would go on with the beginning of the text.
+/// Whether the text begins with a character that a name may have after its first one.
 fn begins_with_name_part(text: &str) -> bool
     ensures { result ≡ begins_with is_name_part (chars text.now) }
 {

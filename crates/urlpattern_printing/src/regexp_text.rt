@@ -28,7 +28,7 @@ pub fn generate_regular_expression(
     written(alloc, &RegexpText { part_list, options })
 }
 
-/// A text in brackets that capture.
+/// A text in parentheses: in a regular expression, a capturing group.
 #[derive(Clone, Copy)]
 pub(crate) struct Captured<T>(pub T);
 
@@ -40,7 +40,7 @@ impl<T: Writable + Copy> Writable for Captured<T> {
     }
 }
 
-/// A text in brackets that do not capture.
+/// A regular expression in a group that does not capture, `(?:`..`)`.
 #[derive(Clone, Copy)]
 struct Grouped<T>(T);
 
@@ -94,28 +94,28 @@ impl Writable for PartRegexp<'_> {
 }
 
 impl<'a> PartRegexp<'a> {
-    /// Returns the escaped value of a fixed text.
+    /// Returns the value of the part, escaped for a regular expression.
     fn value(&self) -> Escaped<'a>
         ensures { escaped_text result ≡ escaped_value self.now }
     {
         Escaped::regexp(&self.part.value, self.options)
     }
 
-    /// Returns the escaped prefix of a group.
+    /// Returns the prefix of the part, escaped for a regular expression.
     fn prefix(&self) -> Escaped<'a>
         ensures { escaped_text result ≡ escaped_prefix self.now }
     {
         Escaped::regexp(&self.part.prefix, self.options)
     }
 
-    /// Returns the escaped suffix of a group.
+    /// Returns the suffix of the part, escaped for a regular expression.
     fn suffix(&self) -> Escaped<'a>
         ensures { escaped_text result ≡ escaped_suffix self.now }
     {
         Escaped::regexp(&self.part.suffix, self.options)
     }
 
-    /// Writes a fixed text, in brackets if it has a modifier.
+    /// Writes a fixed text or, if it has a modifier, a non-capturing group of it with the modifier.
     fn write_fixed<W: Writer>(&self, writer: &mut W)
         requires { W.Fits writer.old (fixed_part self.now) }
         ensures { W.Writes writer.old (fixed_part self.now) writer.new }
@@ -126,7 +126,7 @@ impl<'a> PartRegexp<'a> {
         }
     }
 
-    /// Writes a group that has neither prefix nor suffix.
+    /// Writes a group that has neither prefix nor suffix. All copies are one capture.
     fn write_bare<W: Writer>(&self, writer: &mut W)
         requires { W.Fits writer.old (bare_part self.now) }
         ensures { W.Writes writer.old (bare_part self.now) writer.new }
@@ -142,7 +142,8 @@ impl<'a> PartRegexp<'a> {
         }
     }
 
-    /// Writes a group that has a prefix or a suffix.
+    /// Writes a group that has a prefix or a suffix. All copies are one capture, without the first
+    /// prefix and the last suffix.
     fn write_affixed<W: Writer>(&self, writer: &mut W)
         requires { W.Fits writer.old (affixed_part self.now) }
         ensures { W.Writes writer.old (affixed_part self.now) writer.new }
@@ -173,7 +174,7 @@ impl Writable for RegexpBody<'_> {
     }
 }
 
-/// A single copy of a group between its prefix and its suffix.
+/// The regular expression of a single copy of a group, captured without its prefix and its suffix.
 #[derive(Clone, Copy)]
 struct Single<'a>(PartRegexp<'a>);
 
@@ -188,8 +189,8 @@ impl Writable for Single<'_> {
     }
 }
 
-/// At least one copy of a group between its prefix and its suffix, which are also between the
-/// copies.
+/// The regular expression of one or more copies of a group, each with prefix and suffix, captured
+/// as one text without the first prefix and the last suffix.
 #[derive(Clone, Copy)]
 struct Repeated<'a>(PartRegexp<'a>);
 

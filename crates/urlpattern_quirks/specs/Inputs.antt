@@ -21,7 +21,7 @@ use Rattle.urlpattern_components.specs.Eight.{Values}
 
 -- ---- inits
 
--- The texts of a plain init.
+-- The texts of a plain init's components.
 abbrev pub plain_values : PlainInit → Values
 plain_values init = values_of (plain_init_texts init)
 
@@ -29,11 +29,12 @@ plain_values init = values_of (plain_init_texts init)
 abbrev pub plain_base : PlainInit → Option (List ℕ)
 plain_base init = option_map string_bytes init.base_url
 
--- The result is a copy of an optional text, unless memory ran out.
+-- `copied` is a copy of the optional text, unless memory ran out.
 abbrev pub IsCopyOfText : Option (List ℕ) → Result (Option (String Global)) AllocError → Type 0
 IsCopyOfText text copied = IfOk copied (λ copy. option_map text_of copy ≡ text)
 
--- The init has the texts of the plain init, and its base URL.
+-- `init` has the texts of `plain`, and the URL to which the base URL of `plain` is parsed, if there
+-- is one.
 pub record IsInitOf (plain : PlainInit) (init : UrlPatternInit) : Type 0 where
   pub has_texts : values_view init ≡ plain_values plain
   pub has_base : parsed_base (plain_base plain) ≡ Ok init.base_url
@@ -45,7 +46,8 @@ HasInitAndBase input base = ⊥
 
 -- ---- constructing
 
--- The init that a pattern is constructed from; the crate `regex` decides which protocols are
+-- A pattern is constructed from this init: what the constructor string is split into under the base
+-- URL, or what the plain init is converted to. The crate `regex` decides which protocols are
 -- special.
 abbrev pub IsConstructedFrom : StringOrInit → (base : Option (List ℕ)) → UrlPatternInit → Type 0
 IsConstructedFrom (inputs.String text) base init =
@@ -53,7 +55,7 @@ IsConstructedFrom (inputs.String text) base init =
 IsConstructedFrom (inputs.Init plain) None init = IsInitOf plain init
 IsConstructedFrom (inputs.Init plain) (Some base) init = ⊥
 
--- The input is rejected with this error.
+-- The input and the base URL are rejected with this error when a pattern is constructed.
 abbrev pub RejectsInput : StringOrInit → (base : Option (List ℕ)) → ErrorView → Type 0
 RejectsInput (inputs.String text) base error = RejectsText (chars (cow_str_bytes text)) base error
 RejectsInput (inputs.Init plain) None error =
@@ -62,39 +64,43 @@ RejectsInput (inputs.Init plain) (Some base) error = error ≡ views.BaseUrlWith
 
 -- ---- matching
 
--- What a pattern is matched against: the URL of a text, or an init.
+-- A pattern is matched against `matched`: the URL of the text under the base URL, or what the plain
+-- init is converted to.
 abbrev pub IsMatchInput : StringOrInit → (base : Option (List ℕ)) → UrlPatternMatchInput → Type 0
 IsMatchInput (inputs.String text) base (match_inputs.Url url) =
     parsed_text base (cow_str_bytes text) ≡ Ok url
 IsMatchInput (inputs.Init plain) None (match_inputs.Init init) = IsInitOf plain init
 IsMatchInput input base matched = ⊥
 
--- The input again, with the text of the base URL.
+-- `again` is a copy of the input and of the text of the base URL.
 pub record AreInputs (input : StringOrInit) (base : Option (List ℕ))
     (again : StringOrInit × Option (String Global)) : Type 0 where
   pub same_input : input_view again.0 ≡ input_view input
   pub same_base : option_map text_of again.1 ≡ option_map chars base
 
--- What a pattern is matched against, and the input again.
+-- `found` is what a pattern is matched against, and a copy of the input and of the base URL.
 abbrev pub IsProcessed : StringOrInit
     → (base : Option (List ℕ)) → UrlPatternMatchInput × (StringOrInit × Option (String Global))
     → Type 0
 IsProcessed input base found = IsMatchInput input base found.0 × AreInputs input base found.1
 
--- `url` rejects the text of the input, or the base URL.
-abbrev pub IsNoInputOf : StringOrInit → (base : Option (List ℕ)) → Type 0
-IsNoInputOf (inputs.String text) base = IsRejectedText (cow_str_bytes text) base
-IsNoInputOf (inputs.Init plain) None =
+-- No pattern can be matched against the input: `url` rejects the text or a base URL, or a text may
+-- be too long.
+abbrev pub RejectsMatchInput : StringOrInit → (base : Option (List ℕ)) → Type 0
+RejectsMatchInput (inputs.String text) base = IsRejectedText (cow_str_bytes text) base
+RejectsMatchInput (inputs.Init plain) None =
     IsRejectedByUrl (parsed_base (plain_base plain)) (text_bytes (plain_base plain))
-IsNoInputOf (inputs.Init plain) (Some base) = ⊥
+RejectsMatchInput (inputs.Init plain) (Some base) = ⊥
 
--- What a pattern is matched against, with the input again; `None` if a URL is rejected.
+-- `found` is what a pattern is matched against, and a copy of the input and of its base URL. It is
+-- `None` if `url` rejects the text or a base URL, or if a text may be too long for `url`.
 abbrev pub FindsInput : StringOrInit
     → (base : Option (List ℕ))
     → Option (UrlPatternMatchInput × (StringOrInit × Option (String Global)))
     → Type 0
-FindsInput input base found = MatchOption found (IsNoInputOf input base) (IsProcessed input base)
+FindsInput input base found =
+    MatchOption found (RejectsMatchInput input base) (IsProcessed input base)
 
--- The error is that of a base URL passed with an init.
+-- The error is `BaseUrlWithInit`, and a base URL is passed with an init.
 abbrev pub RejectsSecondBase : StringOrInit → (base : Option (List ℕ)) → ErrorView → Type 0
 RejectsSecondBase input base error = (error ≡ views.BaseUrlWithInit) × HasInitAndBase input base

@@ -1,4 +1,4 @@
--- What the functions for browsers return.
+-- Patterns as plain data, as the functions for browsers return them.
 use Rattle.std.specs.Prelude.{◌≡◌, ℕ, List, Result, IfOk}
 use Rattle.urlpattern_pattern.specs.{Patterns.PatternView, Patterns.has_regexp_groups}
 use Rattle.urlpattern_compile.specs.{Compiled.IsPatternOfInit}
@@ -15,15 +15,15 @@ use Rattle.urlpattern_syntax.specs.Text.{text_of}
 use Rattle.urlpattern_syntax.specs.Errors.{OnlyOutOfMemory}
 use Rattle.urlpattern_syntax.specs.declared.error.Error.{Error}
 
--- The result is the plain value of a component, unless memory ran out.
+-- `result` is the component as plain data, unless memory ran out.
 pub record IsPlainOf {E : Type 0} (text_made_of : E → List ℕ) (component : Component E)
     (result : Result UrlPatternComponent Error) : Type 0 where
   pub plain : IfOk result (λ value.
       plain.component_by text_of value ≡ plain_component text_made_of (component_view component))
   pub memory : OnlyOutOfMemory result
 
--- The plain value of a pattern: that of each component, and whether any has a custom regular
--- expression.
+-- A pattern as plain data: its components, and whether any has a custom regular expression.
+-- `text_made_of` returns the text of an engine's value.
 abbrev pub plain_pattern : {E : Type 0} → (text_made_of : E → List ℕ) → PatternView E
     → plain.PlainPatternView
 plain_pattern text_made_of pattern = record {
@@ -31,7 +31,7 @@ plain_pattern text_made_of pattern = record {
   has_regexp_groups = has_regexp_groups pattern;
 }
 
--- The value is the plain value of a pattern to which the init is compiled.
+-- `value` is, as plain data, a pattern to which the init is compiled.
 abbrev pub IsPlainOfInit : {E : Type 0} → Engine E → UrlPatternInit → UrlPatternOptions → UrlPattern
     → Type 0
 IsPlainOfInit {E} engine init asked value =

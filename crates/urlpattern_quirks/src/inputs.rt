@@ -20,11 +20,11 @@ use urlpattern_init::UrlPatternMatchInput;
 use urlpattern_inputs::{Inputs, StringOrInit, UrlPatternInit};
 use urlpattern_syntax::Error;
 
-/// Returns the init of a pattern, from a constructor string with an optional base URL, or from a
-/// plain init.
+/// Returns the init that a pattern is compiled from: a constructor string split under an optional
+/// base URL, or a plain init with its base URL parsed.
 ///
-/// The error is that of a rejected base URL or a rejected constructor string, `BaseUrlWithInit` if
-/// a base URL is passed with an init, or `OutOfMemory`.
+/// Fails with the error of a rejected base URL or constructor string, with `BaseUrlWithInit` if a
+/// base URL is passed with an init, or with `OutOfMemory`.
 ///
 /// <https://urlpattern.spec.whatwg.org/#url-pattern-create>
 pub fn process_construct_pattern_input(
@@ -46,7 +46,7 @@ pub fn process_construct_pattern_input(
     }
 }
 
-/// Converts a plain init, and parses its base URL.
+/// Converts a plain init to an init whose base URL is parsed. Fails if `url` rejects the base URL.
 fn init_of(alloc: Global, init: UrlPatternInit) -> Result<init::UrlPatternInit, Error>
     ensures init { IfOk result (IsInitOf init) }
     ensures refused { IfErr result
@@ -56,10 +56,11 @@ fn init_of(alloc: Global, init: UrlPatternInit) -> Result<init::UrlPatternInit, 
     Ok(init::UrlPatternInit::from_eight(init.into_eight(), base_url))
 }
 
-/// Returns what a pattern is matched against, and the input again with the text of the base URL.
-/// `None`: `url` rejects the text or a base URL.
+/// Returns what a pattern is matched against, a URL or an init with its base URL parsed, and the
+/// input as it was passed, with a copy of the base URL. `None`: `url` rejects the text or a base
+/// URL.
 ///
-/// The error is `BaseUrlWithInit` if a base URL is passed with an init, or `OutOfMemory`.
+/// Fails with `BaseUrlWithInit` if a base URL is passed with an init, or with `OutOfMemory`.
 ///
 /// <https://urlpattern.spec.whatwg.org/#url-pattern-match>
 pub fn process_match_input<'a>(
@@ -80,8 +81,8 @@ pub fn process_match_input<'a>(
     }
 }
 
-/// The URL of a text, and the text again with that of the base URL. `None`: `url` rejects the text
-/// or the base URL.
+/// Returns the URL of `text` under the base URL, and the inputs: `text`, and a copy of the base
+/// URL. `None`: `url` rejects the text or the base URL.
 fn match_text<'a>(
     alloc: Global,
     text: CowStr<'a>,
@@ -99,7 +100,8 @@ fn match_text<'a>(
     Ok(Some((UrlPatternMatchInput::Url(url), inputs)))
 }
 
-/// An init with its base URL parsed, and the init again. `None`: `url` rejects the base URL.
+/// Returns a copy of the init with its base URL parsed, and the inputs: the init itself, and no
+/// base URL. `None`: `url` rejects the base URL of the init.
 fn match_init<'a>(
     alloc: Global,
     init: UrlPatternInit,
@@ -118,7 +120,7 @@ fn match_init<'a>(
     }
 }
 
-/// A copy of an init, with this base URL.
+/// Copies the texts of a plain init to an init with this parsed base URL.
 fn copied_init(
     alloc: Global,
     init: &UrlPatternInit,
@@ -135,7 +137,7 @@ fn copied_init(
     Ok(init::UrlPatternInit::from_eight(texts, base_url))
 }
 
-/// A copy of a text, if there is one.
+/// Copies a text, if there is one.
 fn owned(alloc: Global, text: Option<&str>) -> Result<Option<String>, AllocError>
     ensures { IsCopyOfText (option_text text.entry) result }
 {

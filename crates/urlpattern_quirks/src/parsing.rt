@@ -20,7 +20,7 @@ use urlpattern_syntax::Error;
 
 /// Compiles a pattern from an init, and returns it as plain data.
 ///
-/// The error is that of compiling the pattern.
+/// Fails with the error with which the init is rejected, or with `OutOfMemory`.
 pub fn parse_pattern<R: RegExp>(
     alloc: Global,
     init: UrlPatternInit,
@@ -33,9 +33,9 @@ pub fn parse_pattern<R: RegExp>(
     plain_pattern(alloc, pattern)
 }
 
-/// Compiles a pattern from an init, with the contract of `UrlPattern::parse`.
+/// Compiles a pattern from an init, by `UrlPattern::parse` and with its contract.
 ///
-/// The error is that of compiling the pattern.
+/// Fails with the error with which the init is rejected, or with `OutOfMemory`.
 pub fn parse_pattern_as_lib<R: RegExp>(
     alloc: Global,
     init: UrlPatternInit,
@@ -50,7 +50,7 @@ pub fn parse_pattern_as_lib<R: RegExp>(
     pattern::UrlPattern::parse(alloc, init, options)
 }
 
-/// The plain value of a pattern.
+/// Converts a compiled pattern to plain data, in which each engine is replaced by its text.
 fn plain_pattern<R: RegExp>(
     alloc: Global,
     pattern: pattern::UrlPattern<R>,

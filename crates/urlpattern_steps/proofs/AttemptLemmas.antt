@@ -15,7 +15,7 @@ use Rattle.urlpattern_steps.specs.declared.step.Step.TheVariants.{OptionalGroup}
 use Rattle.urlpattern_steps.specs.declared.walk.Attempt.{Attempt}
 use Rattle.urlpattern_steps.specs.FailedStates.{IsStateOf}
 use Rattle.urlpattern_steps.specs.Walk.{captured_prefix, walk}
-use Rattle.urlpattern_steps.specs.Taken.{Extends, MatchesRest, MatchesInTurn, Untouched, with_captures}
+use Rattle.urlpattern_steps.specs.AddedCaptures.{Extends, MatchesRest, MatchesInTurn, Untouched, with_captures}
 use Rattle.urlpattern_steps.proofs.FailedLemmas.{place_within}
 use Rattle.urlpattern_steps.proofs.FollowLemmas.{plus, adds_none, end_taken, extends_more, front_shortened, plus_captured, plus_maybe, taken_adds}
 
@@ -28,18 +28,18 @@ pub untouched-then : (old now new : Attempt) → Untouched old now → Untouched
 untouched-then old now new first second = record { same = second.same ∙ first.same; whole = second.whole ∙ first.whole }
 
 -- Steps that were tried without a match have no captures.
-pub follows_none : (old new : Attempt) (is_taken : Bool) (found : Option Captures) → is_taken ≡ false → MatchesRest old new is_taken found → found ≡ None
-follows_none old new is_taken found missed follows = adds_none old.captures.items new.captures.items is_taken found missed follows.adds
+pub follows_none : (old new : Attempt) (does_match : Bool) (found : Option Captures) → does_match ≡ false → MatchesRest old new does_match found → found ≡ None
+follows_none old new does_match found missed follows = adds_none old.captures.items new.captures.items does_match found missed follows.adds
 
 -- An attempt stays untouched by steps that were tried without a match.
-pub follows_untouched : (old now new : Attempt) (is_taken : Bool) (found : Option Captures) → Untouched old now → is_taken ≡ false → MatchesRest now new is_taken found → Untouched old new
-follows_untouched old now new is_taken found before missed follows = untouched-then old now new before (record { same = follows.same missed; whole = follows.whole })
+pub follows_untouched : (old now new : Attempt) (does_match : Bool) (found : Option Captures) → Untouched old now → does_match ≡ false → MatchesRest now new does_match found → Untouched old new
+follows_untouched old now new does_match found before missed follows = untouched-then old now new before (record { same = follows.same missed; whole = follows.whole })
 
 -- The whole matches where a part of it that was tried does.
-pub follows_taken : (old now new : Attempt) (is_taken : Bool) (part whole : Option Captures) → Untouched old now → is_taken ≡ true → MatchesRest now new is_taken part
+pub follows_taken : (old now new : Attempt) (does_match : Bool) (part whole : Option Captures) → Untouched old now → does_match ≡ true → MatchesRest now new does_match part
     → ((found : Captures) → part ≡ Some found → whole ≡ Some found) → MatchesRest old new true whole
-follows_taken old now new is_taken part whole before taken follows leads = record {
-  adds = taken_adds old.captures.items now.captures.items new.captures.items is_taken part whole before.same taken follows.adds leads;
+follows_taken old now new does_match part whole before taken follows leads = record {
+  adds = taken_adds old.captures.items now.captures.items new.captures.items does_match part whole before.same taken follows.adds leads;
   same = λ e. absurd (false≢true (sym e));
   whole = follows.whole ∙ before.whole;
 }
@@ -50,8 +50,8 @@ follows_missed old now found before none = record { adds = sym (ap (plus old.cap
 
 -- The outcome of a call on a part is that of the whole.
 pub follows_later : {E : Type 0} (old now new : Attempt) (whole part : Option Captures) (result : Result Bool E) → Untouched old now → whole ≡ part
-    → IfOk result (λ is_taken. MatchesRest now new is_taken part) → IfOk result (λ is_taken. MatchesRest old new is_taken whole)
-follows_later old now new whole part (Ok is_taken) before same follows = record {
+    → IfOk result (λ does_match. MatchesRest now new does_match part) → IfOk result (λ does_match. MatchesRest old new does_match whole)
+follows_later old now new whole part (Ok does_match) before same follows = record {
   adds = follows.adds ∙ ap (λ l. plus l part) before.same ∙ ap (plus old.captures.items) (sym same);
   same = λ e. follows.same e ∙ before.same;
   whole = follows.whole ∙ before.whole;
@@ -60,8 +60,8 @@ follows_later old now new whole part (Err error) before same follows = tt
 
 -- ---- captures that stay without a match
 
-pub follows_on : (old new : Attempt) (is_taken : Bool) (found : Option Captures) → MatchesRest old new is_taken found → MatchesInTurn old new is_taken found
-follows_on old new is_taken found follows = record {
+pub follows_on : (old new : Attempt) (does_match : Bool) (found : Option Captures) → MatchesRest old new does_match found → MatchesInTurn old new does_match found
+follows_on old new does_match found follows = record {
   adds = follows.adds;
   more = λ e. ([], follows.same e ∙ sym (append-nil old.captures.items));
   whole = follows.whole;
@@ -69,16 +69,16 @@ follows_on old new is_taken found follows = record {
 
 -- A call that adds nothing without a match.
 pub call_follows_on : {E : Type 0} (old new : Attempt) (whole part : Option Captures) (result : Result Bool E) → whole ≡ part
-    → IfOk result (λ is_taken. MatchesRest old new is_taken part) → IfOk result (λ is_taken. MatchesInTurn old new is_taken whole)
-call_follows_on old new whole part (Ok is_taken) same follows = subst (MatchesInTurn old new is_taken) (sym same) (follows_on old new is_taken part follows)
+    → IfOk result (λ does_match. MatchesRest old new does_match part) → IfOk result (λ does_match. MatchesInTurn old new does_match whole)
+call_follows_on old new whole part (Ok does_match) same follows = subst (MatchesInTurn old new does_match) (sym same) (follows_on old new does_match part follows)
 call_follows_on old new whole part (Err error) same follows = tt
 
 -- The steps of an optional group have no match, and those after the group are tried.
-pub maybe_left : (ignore_case : Bool) → {E : Type 0} (old now added new : Attempt) (group : Group) (others left : List Step) (text : List ℕ) (is_taken : Bool) (result : Result Bool E) → is_taken ≡ false
-    → MatchesRest old now is_taken (walk ignore_case others text) → added.captures.items ≡ now.captures.items ++ replicate group.captures None → added.failed ≡ now.failed → left ≡ drop group.steps others
+pub maybe_left : (ignore_case : Bool) → {E : Type 0} (old now added new : Attempt) (group : Group) (others left : List Step) (text : List ℕ) (does_match : Bool) (result : Result Bool E) → does_match ≡ false
+    → MatchesRest old now does_match (walk ignore_case others text) → added.captures.items ≡ now.captures.items ++ replicate group.captures None → added.failed ≡ now.failed → left ≡ drop group.steps others
     → IfOk result (λ is_left. MatchesInTurn added new is_left (walk ignore_case left text)) → IfOk result (λ is_left. MatchesInTurn old new is_left (walk ignore_case (OptionalGroup group ∷ others) text))
-maybe_left ignore_case old now added new group others left text is_taken (Ok is_left) missed follows missing whole passed later =
-    let none = follows_none old now is_taken (walk ignore_case others text) missed follows in
+maybe_left ignore_case old now added new group others left text does_match (Ok is_left) missed follows missing whole passed later =
+    let none = follows_none old now does_match (walk ignore_case others text) missed follows in
     let before : added.captures.items ≡ old.captures.items ++ replicate group.captures None = missing ∙ ap (λ l. l ++ replicate group.captures None) (follows.same missed) in
     record {
       adds = later.adds ∙ ap (λ l. plus added.captures.items (walk ignore_case l text)) passed
@@ -88,7 +88,7 @@ maybe_left ignore_case old now added new group others left text is_taken (Ok is_
           subst (Extends old.captures.items) (sym more.1) (extends_more old.captures.items added.captures.items more.0 (replicate group.captures None, before));
       whole = later.whole ∙ whole ∙ follows.whole;
     }
-maybe_left ignore_case old now added new group others left text is_taken (Err error) missed follows missing whole passed later = tt
+maybe_left ignore_case old now added new group others left text does_match (Err error) missed follows missing whole passed later = tt
 
 -- ---- the remaining steps and text
 

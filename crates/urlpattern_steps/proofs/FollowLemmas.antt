@@ -14,7 +14,7 @@ use Rattle.urlpattern_steps.specs.declared.step.Step.{Step}
 use Rattle.urlpattern_steps.specs.declared.step.Step.TheVariants.{DotStar, Literal, OptionalGroup, LazyRun}
 use Rattle.urlpattern_steps.specs.FailedStates.{EndsWith, HasEnded}
 use Rattle.urlpattern_steps.specs.Walk.{BeginsAs, Continuation, captured_prefix, longest, shortest, up_to_first, walk}
-use Rattle.urlpattern_steps.specs.Taken.{AreAdded, Extends, Kept}
+use Rattle.urlpattern_steps.specs.AddedCaptures.{AreAdded, Extends, Kept}
 use Rattle.urlpattern_steps.proofs.SameLemmas.{one_begins}
 use Rattle.urlpattern_steps.proofs.RunLemmas.{longest_found, longest_no_more, shortest_ended}
 use Rattle.urlpattern_steps.proofs.StepLemmas.{maybe_missing}
@@ -31,17 +31,17 @@ none_added : (old new : Kept) (found : Option Captures) → AreAdded old new fal
 none_added old new None e = refl
 none_added old new (Some x) e = cc
 
-pub adds_none : (old new : Kept) (is_taken : Bool) (found : Option Captures) → is_taken ≡ false → AreAdded old new is_taken found → found ≡ None
-adds_none old new is_taken found missed adds = none_added old new found (subst (λ b. AreAdded old new b found) missed adds)
+pub adds_none : (old new : Kept) (does_match : Bool) (found : Option Captures) → does_match ≡ false → AreAdded old new does_match found → found ≡ None
+adds_none old new does_match found missed adds = none_added old new found (subst (λ b. AreAdded old new b found) missed adds)
 
 pub adds_some : (old new : Kept) (found : Option Captures) → AreAdded old new true found → (x : Captures) × (found ≡ Some x)
 adds_some old new None e = cc
 adds_some old new (Some x) e = (x, refl)
 
 -- Captures that a part adds are those of the whole, if the whole has them.
-pub taken_adds : (old now new : Kept) (is_taken : Bool) (part whole : Option Captures) → now ≡ old → is_taken ≡ true → AreAdded now new is_taken part
+pub taken_adds : (old now new : Kept) (does_match : Bool) (part whole : Option Captures) → now ≡ old → does_match ≡ true → AreAdded now new does_match part
     → ((found : Captures) → part ≡ Some found → whole ≡ Some found) → AreAdded old new true whole
-taken_adds old now new is_taken part whole same taken adds leads =
+taken_adds old now new does_match part whole same taken adds leads =
     let added : AreAdded old new true part = subst (λ l. AreAdded l new true part) same (subst (λ b. AreAdded now new b part) taken adds) in
     let found = adds_some old new part added in
     added ∙ ap (plus old) (found.1 ∙ sym (leads found.0 found.1))
@@ -94,9 +94,9 @@ end_adds ignore_case now [] false full some = absurd (some refl refl)
 end_adds ignore_case now (c ∷ rest) false full some = refl
 
 -- No step is left.
-pub end_taken : (ignore_case : Bool) (now : Kept) (left : List Step) (rest : List ℕ) (is_empty is_taken : Bool) → left ≡ [] → (is_empty ≡ true → rest ≡ []) → (is_empty ≡ false → ¬ (rest ≡ [])) → is_empty ≡ is_taken
-    → AreAdded now now is_taken (walk ignore_case left rest)
-end_taken ignore_case now left rest is_empty is_taken none full some same =
+pub end_taken : (ignore_case : Bool) (now : Kept) (left : List Step) (rest : List ℕ) (is_empty does_match : Bool) → left ≡ [] → (is_empty ≡ true → rest ≡ []) → (is_empty ≡ false → ¬ (rest ≡ [])) → is_empty ≡ does_match
+    → AreAdded now now does_match (walk ignore_case left rest)
+end_taken ignore_case now left rest is_empty does_match none full some same =
     subst (λ b. AreAdded now now b (walk ignore_case [] rest)) same (end_adds ignore_case now rest is_empty full some) ∙ sym (ap (λ l. plus now (walk ignore_case l rest)) none)
 
 -- ---- lazy runs
@@ -152,15 +152,15 @@ front_shortened text front shorter rest c scalar u e f =
     (IsUtf8-append (encode_utf8 c) rest (IsUtf8-encode c scalar) u, e ∙ ap (λ l. l ++ rest) f ∙ append_assoc shorter (encode_utf8 c) rest)
 
 -- No prefix of this length or longer has a match.
-pub longest_missed : (ignore_case : Bool) (others : List Step) (text front rest left : List ℕ) (old new : Kept) (is_taken : Bool) → text ≡ front ++ rest → text ≡ front ++ left
+pub longest_missed : (ignore_case : Bool) (others : List Step) (text front rest left : List ℕ) (old new : Kept) (does_match : Bool) → text ≡ front ++ rest → text ≡ front ++ left
     → longest ignore_case line_feed (captured_prefix (walk ignore_case others)) (chars front) (chars left) ≡ captured_prefix (walk ignore_case others) (chars front) (chars left)
-    → is_taken ≡ false → AreAdded old new is_taken (captured_prefix (walk ignore_case others) (chars front) (chars rest))
+    → does_match ≡ false → AreAdded old new does_match (captured_prefix (walk ignore_case others) (chars front) (chars rest))
     → longest ignore_case line_feed (captured_prefix (walk ignore_case others)) (chars front) (chars rest) ≡ None
-longest_missed ignore_case others text front rest left old new is_taken e f no_longer missed adds =
+longest_missed ignore_case others text front rest left old new does_match e f no_longer missed adds =
     let gives : Continuation = captured_prefix (walk ignore_case others) in
     let behind : rest ≡ left = append_cancel_left front rest left (sym e ∙ f) in
     subst (λ r. longest ignore_case line_feed gives (chars front) (chars r) ≡ gives (chars front) (chars r)) (sym behind) no_longer
-    ∙ adds_none old new is_taken (gives (chars front) (chars rest)) missed adds
+    ∙ adds_none old new does_match (gives (chars front) (chars rest)) missed adds
 
 module _ (ignore_case : Bool) (steps others : List Step) (first : steps ≡ DotStar ∷ others) where
   -- No prefix that begins with this one has a match.

@@ -10,7 +10,7 @@ use Rattle.urlpattern_syntax.proofs.StringTexts.{chars-encode}
 use Rattle.urlpattern_steps.proofs.OptionLemmas.{option_or-None}
 use Rattle.urlpattern_meaning.specs.Dialect.{Quantifier, Once, Optional, ZeroOrMore, OneOrMore, LazyOneOrMore, Items, Nothing, Item, Atom, Dot, AnyBut, Captured, Grouped, Literal, character_of, group_count}
 use Rattle.urlpattern_meaning.specs.PartMeaning.{Captures}
-use Rattle.urlpattern_meaning.specs.Ways.{Choice, empty_way, capturing, continued, is_shorter, more_rounds, looped, quantified_ways, ways_by}
+use Rattle.urlpattern_meaning.specs.Ways.{WaysByText, empty_way, capturing, continued, is_shorter, more_rounds, looped, quantified_ways, ways_by}
 use Rattle.urlpattern_syntax.specs.Text.{line_feed}
 use Rattle.urlpattern_steps.specs.ReadSteps.{IsAllBut, IsRunOf, AllowsEmptyRun}
 use Rattle.urlpattern_steps.specs.Walk.{Continuation, after_text, any_rounds, captured_prefix, from_first, longest, longest_run, longest_some, rounds, shortest, single_run, some_rounds, up_to_first}
@@ -167,7 +167,7 @@ shortest_some ignore_case end gives front text =
     at (c ∷ text) = ap (λ o. cond (is_same_character ignore_case c end) None o) (shortest_absorbed ignore_case end gives (front ++ c ∷ []) text)
 
 -- Rounds of greedy runs: later rounds are empty, and an empty round is not repeated.
-module _ (ignore_case : Bool) (end : ℕ) (atom : Choice) (takes : Takes atom (longest ignore_case end)) where
+module _ (ignore_case : Bool) (end : ℕ) (atom : WaysByText) (takes : Takes atom (longest ignore_case end)) where
   -- The result of a round, from the results for shorter texts.
   longest_round : (gives f : Continuation) (front text : List ℕ)
       → ((before rest : List ℕ) → length rest < length text → f before rest ≡ longest ignore_case end gives before rest) → f front text ≡ None
@@ -212,7 +212,7 @@ module _ (ignore_case : Bool) (end : ℕ) (atom : Choice) (takes : Takes atom (l
       ap (λ b. tried (given (beyond before h)) (cond b (more_rounds true atom n rest) [])) shorter ∙ longest_more n h before rest (omega (arith, lt)))
       (ap (λ b. tried (given (beyond front h)) (cond b (more_rounds true atom n text) [])) (not_shorter text))
     where
-      next : Choice
+      next : WaysByText
       next rest = cond (is_shorter rest text) (more_rounds true atom n rest) []
 
   longest_looped : (h : Given) (front text : List ℕ) → tried (given (beyond front h)) (looped true atom text) ≡ longest ignore_case end (bare h) front text
@@ -225,7 +225,7 @@ module _ (ignore_case : Bool) (end : ℕ) (atom : Choice) (takes : Takes atom (l
       ap (λ b. tried (given (beyond before h)) (cond b (more_rounds true atom (length rest) rest) (empty_way 0 rest ∷ []))) shorter ∙ longest_more (length rest) h before rest (omega arith))
       (ap (λ b. tried (given (beyond front h)) (cond b (more_rounds true atom (length text) text) (empty_way 0 text ∷ []))) (not_shorter text) ∙ tried_idle h front text)
     where
-      next : Choice
+      next : WaysByText
       next rest = cond (is_shorter rest text) (more_rounds true atom (length rest) rest) (empty_way 0 rest ∷ [])
 
   takes_longest_looped : Takes (looped true atom) (longest ignore_case end)
@@ -250,7 +250,7 @@ keeps-longest_run ignore_case false end = record { same = by }
     by f g front (c ∷ text) same = ap (λ o. cond (is_same_character ignore_case c end) None o) (keeps_longest ignore_case end f g (front ++ c ∷ []) text (λ before rest le. same before rest (omega (arith, le))))
 
 -- A choice of matches, with an equal round.
-takes_as : (choice : Choice) (round other : Continuation → Continuation) → ((gives : Continuation) (front text : List ℕ) → round gives front text ≡ other gives front text) → Takes choice round → Takes choice other
+takes_as : (choice : WaysByText) (round other : Continuation → Continuation) → ((gives : Continuation) (front text : List ℕ) → round gives front text ≡ other gives front text) → Takes choice round → Takes choice other
 takes_as choice round other same takes = record { takes = λ h front text. takes.takes h front text ∙ same (bare h) front text }
 
 runs_take : (ignore_case : Bool) (end : ℕ) (is_greedy : Bool) (items : Items) (quantifier : Quantifier) (may_be_empty : Bool) → IsRunOf end is_greedy items → AllowsEmptyRun is_greedy quantifier may_be_empty
@@ -280,7 +280,7 @@ takes-runs ignore_case end is_greedy items quantifier may_be_empty run is =
 abbrev capture_before : Next → Given
 capture_before next taken captures rest = option_map (λ others. (Some taken ∷ captures) ++ others) (next rest)
 
-pub captured_takes : (choice : Choice) (round : Continuation → Continuation) → Takes choice round → (next : Next) (text : List ℕ)
+pub captured_takes : (choice : WaysByText) (round : Continuation → Continuation) → Takes choice round → (next : Next) (text : List ℕ)
     → tried (before_next next) (map capturing (choice text)) ≡ round (captured_prefix next) [] text
 captured_takes choice round takes next text = tried-map (before_next next) capturing (choice text) ∙ takes.takes (capture_before next) [] text
 

@@ -7,8 +7,8 @@ use Rattle.urlpattern_steps.specs.declared.step.Step.{Step}
 use Rattle.urlpattern_steps.specs.declared.step.Step.TheVariants.{Literal, LazyRun, DotStar, OptionalGroup, GreedyRun, RepeatedLiteral, Segments}
 use Rattle.urlpattern_steps.specs.declared.step.LiteralString.{LiteralString}
 use Rattle.urlpattern_steps.specs.Walk.{Continuation, after_separator, after_text, any_rounds, captured_prefix, literals, longest, longest_run, longest_some, repeated, rounds, segmented, shortest, single_run, literal_string_text, walk, walk_after}
-use Rattle.urlpattern_steps.specs.Table.{is_capture, IsSingle, begun_of, run_end, following, given, later_of, own_count, literal_string_of, whole_of}
-use Rattle.urlpattern_steps.specs.Taken.{IsCutFor}
+use Rattle.urlpattern_steps.specs.Table.{is_capture, IsSingle, result_after_literal, run_end, following, step_continuation, result_within_run, own_count, literal_string_of, result_at_start}
+use Rattle.urlpattern_steps.specs.AddedCaptures.{IsPrefixLengthFor}
 use Rattle.urlpattern_steps.proofs.EndLemmas as ends
 use Rattle.urlpattern_steps.proofs.Rounds.{advances-after, any-unrolled, keeps-any, keeps-some}
 use Rattle.urlpattern_steps.proofs.StepLemmas.{walk_after-drop}
@@ -93,34 +93,34 @@ some_either : (b : Bool) (next : List ℕ → Option Captures) (front rest : Lis
 some_either true next front rest = some_mapped (λ others. Some front ∷ others) (next rest)
 some_either false next front rest = refl
 
-pub some_given : (ignore_case : Bool) (step : Step) (others : List Step) (front rest : List ℕ) → is_some (given ignore_case step others front rest) ≡ is_some (walk ignore_case (following step others) rest)
+pub some_given : (ignore_case : Bool) (step : Step) (others : List Step) (front rest : List ℕ) → is_some (step_continuation ignore_case step others front rest) ≡ is_some (walk ignore_case (following step others) rest)
 some_given ignore_case step others front rest = some_either (is_capture step) (walk ignore_case (following step others)) front rest
 
-alike-given : (ignore_case : Bool) (step : Step) (others : List Step) → Alike (given ignore_case step others)
+alike-given : (ignore_case : Bool) (step : Step) (others : List Step) → Alike (step_continuation ignore_case step others)
 alike-given ignore_case step others front other text = some_given ignore_case step others front text ∙ sym (some_given ignore_case step others other text)
 
 -- The result at the beginning of a step.
 abbrev pub wholly : (ignore_case : Bool) → Step → List Step → Continuation
-wholly ignore_case (Literal c) others = after_text ignore_case (c ∷ []) (given ignore_case (Literal c) others)
-wholly ignore_case (LazyRun end) others = shortest ignore_case end (given ignore_case (LazyRun end) others)
-wholly ignore_case DotStar others = longest ignore_case (run_end DotStar) (given ignore_case DotStar others)
+wholly ignore_case (Literal c) others = after_text ignore_case (c ∷ []) (step_continuation ignore_case (Literal c) others)
+wholly ignore_case (LazyRun end) others = shortest ignore_case end (step_continuation ignore_case (LazyRun end) others)
+wholly ignore_case DotStar others = longest ignore_case (run_end DotStar) (step_continuation ignore_case DotStar others)
 wholly ignore_case (OptionalGroup group) others = λ front text. walk ignore_case (OptionalGroup group ∷ others) text
-wholly ignore_case (GreedyRun run) others = longest_run ignore_case run.may_be_empty run.end (given ignore_case (GreedyRun run) others)
-wholly ignore_case (RepeatedLiteral copies) others = repeated copies.allows_zero (after_text ignore_case (literal_string_text copies.text others)) (given ignore_case (RepeatedLiteral copies) others)
+wholly ignore_case (GreedyRun run) others = longest_run ignore_case run.may_be_empty run.end (step_continuation ignore_case (GreedyRun run) others)
+wholly ignore_case (RepeatedLiteral copies) others = repeated copies.allows_zero (after_text ignore_case (literal_string_text copies.text others)) (step_continuation ignore_case (RepeatedLiteral copies) others)
 wholly ignore_case (Segments segments) others =
-    segmented ignore_case (literal_string_text segments.separator others) (single_run ignore_case segments.is_greedy segments.end) (given ignore_case (Segments segments) others)
+    segmented ignore_case (literal_string_text segments.separator others) (single_run ignore_case segments.is_greedy segments.end) (step_continuation ignore_case (Segments segments) others)
 
 pub alike-wholly : (ignore_case : Bool) (step : Step) (others : List Step) → Alike (wholly ignore_case step others)
-alike-wholly ignore_case (Literal c) others = alike-after ignore_case (c ∷ []) (given ignore_case (Literal c) others) (alike-given ignore_case (Literal c) others)
-alike-wholly ignore_case (LazyRun end) others = alike-shortest ignore_case end (given ignore_case (LazyRun end) others) (alike-given ignore_case (LazyRun end) others)
-alike-wholly ignore_case DotStar others = alike-longest ignore_case (run_end DotStar) (given ignore_case DotStar others) (alike-given ignore_case DotStar others)
+alike-wholly ignore_case (Literal c) others = alike-after ignore_case (c ∷ []) (step_continuation ignore_case (Literal c) others) (alike-given ignore_case (Literal c) others)
+alike-wholly ignore_case (LazyRun end) others = alike-shortest ignore_case end (step_continuation ignore_case (LazyRun end) others) (alike-given ignore_case (LazyRun end) others)
+alike-wholly ignore_case DotStar others = alike-longest ignore_case (run_end DotStar) (step_continuation ignore_case DotStar others) (alike-given ignore_case DotStar others)
 alike-wholly ignore_case (OptionalGroup group) others = λ front other text. refl
-alike-wholly ignore_case (GreedyRun run) others = alike-run ignore_case run.may_be_empty run.end (given ignore_case (GreedyRun run) others) (alike-given ignore_case (GreedyRun run) others)
+alike-wholly ignore_case (GreedyRun run) others = alike-run ignore_case run.may_be_empty run.end (step_continuation ignore_case (GreedyRun run) others) (alike-given ignore_case (GreedyRun run) others)
 alike-wholly ignore_case (RepeatedLiteral copies) others =
     alike-repeated copies.allows_zero (after_text ignore_case (literal_string_text copies.text others)) (alike-after ignore_case (literal_string_text copies.text others))
-    (given ignore_case (RepeatedLiteral copies) others) (alike-given ignore_case (RepeatedLiteral copies) others)
+    (step_continuation ignore_case (RepeatedLiteral copies) others) (alike-given ignore_case (RepeatedLiteral copies) others)
 alike-wholly ignore_case (Segments segments) others =
-    alike-segmented ignore_case (literal_string_text segments.separator others) segments.is_greedy segments.end (given ignore_case (Segments segments) others) (alike-given ignore_case (Segments segments) others)
+    alike-segmented ignore_case (literal_string_text segments.separator others) segments.is_greedy segments.end (step_continuation ignore_case (Segments segments) others) (alike-given ignore_case (Segments segments) others)
 
 copies_wholly : (ignore_case : Bool) (allows_zero : Bool) (c : ℕ) (characters : List ℕ) (n : ℕ) (others : List Step) (text : List ℕ)
     → repeated allows_zero (after_text ignore_case (c ∷ characters)) (λ front rest. walk_after ignore_case n others rest) [] text
@@ -152,18 +152,18 @@ own_text step literal = option_map (λ (own : LiteralString). own.first ∷ lite
 
 -- The result after the literal of a step.
 abbrev pub begins : (ignore_case : Bool) → Step → List Step → Continuation
-begins ignore_case (Literal c) others = given ignore_case (Literal c) others
-begins ignore_case (RepeatedLiteral copies) others = any_rounds (after_text ignore_case (literal_string_text copies.text others)) (given ignore_case (RepeatedLiteral copies) others)
+begins ignore_case (Literal c) others = step_continuation ignore_case (Literal c) others
+begins ignore_case (RepeatedLiteral copies) others = any_rounds (after_text ignore_case (literal_string_text copies.text others)) (step_continuation ignore_case (RepeatedLiteral copies) others)
 begins ignore_case (Segments segments) others = wholly ignore_case (Segments segments) others
 begins ignore_case step others = λ front text. None
 
 -- The result within a run.
 abbrev pub goes : (ignore_case : Bool) → Step → List Step → Continuation
-goes ignore_case (LazyRun end) others = λ front text. option_or (given ignore_case (LazyRun end) others front text) (shortest ignore_case end (given ignore_case (LazyRun end) others) front text)
+goes ignore_case (LazyRun end) others = λ front text. option_or (step_continuation ignore_case (LazyRun end) others front text) (shortest ignore_case end (step_continuation ignore_case (LazyRun end) others) front text)
 goes ignore_case DotStar others = wholly ignore_case DotStar others
-goes ignore_case (GreedyRun run) others = longest ignore_case run.end (given ignore_case (GreedyRun run) others)
+goes ignore_case (GreedyRun run) others = longest ignore_case run.end (step_continuation ignore_case (GreedyRun run) others)
 goes ignore_case (Segments segments) others =
-    ends.either ignore_case segments.separator.first (literals (take segments.separator.others others)) segments.is_greedy segments.end (given ignore_case (Segments segments) others)
+    ends.either ignore_case segments.separator.first (literals (take segments.separator.others others)) segments.is_greedy segments.end (step_continuation ignore_case (Segments segments) others)
 goes ignore_case step others = λ front text. None
 
 -- The result after a literal that begins here, if there is one.
@@ -238,43 +238,43 @@ module _ (ignore_case : Bool) (c : ℕ) (literal : List ℕ) (is_greedy : Bool) 
       ∙ ap₂ (λ o s. cond is_greedy (option_or o s) (option_or s o)) (onward_segments front text) (ends.stops_unrolled ignore_case c literal is_greedy end gives front text)
 
 pub begins_is : (ignore_case : Bool) (step : Step) (others : List Step) (front text : List ℕ)
-    → begins ignore_case step others front text ≡ begun_of step (next_of ignore_case step others front text) (given ignore_case step others front text) (onward_of ignore_case step others front text)
+    → begins ignore_case step others front text ≡ result_after_literal step (next_of ignore_case step others front text) (step_continuation ignore_case step others front text) (onward_of ignore_case step others front text)
 begins_is ignore_case (Literal c) others front text = refl
 begins_is ignore_case (LazyRun end) others front text = refl
 begins_is ignore_case DotStar others front text = refl
 begins_is ignore_case (OptionalGroup group) others front text = refl
 begins_is ignore_case (GreedyRun run) others front text = refl
-begins_is ignore_case (RepeatedLiteral copies) others front text = copies_parts ignore_case true copies.text.first _ (given ignore_case (RepeatedLiteral copies) others) front text
+begins_is ignore_case (RepeatedLiteral copies) others front text = copies_parts ignore_case true copies.text.first _ (step_continuation ignore_case (RepeatedLiteral copies) others) front text
 begins_is ignore_case (Segments segments) others front text =
-    segments_begin ignore_case segments.separator.first _ segments.is_greedy segments.end (given ignore_case (Segments segments) others) front text
+    segments_begin ignore_case segments.separator.first _ segments.is_greedy segments.end (step_continuation ignore_case (Segments segments) others) front text
 
 pub goes_is : (ignore_case : Bool) (step : Step) (others : List Step) (front text : List ℕ)
-    → goes ignore_case step others front text ≡ later_of step (next_of ignore_case step others front text) (given ignore_case step others front text) (onward_of ignore_case step others front text)
+    → goes ignore_case step others front text ≡ result_within_run step (next_of ignore_case step others front text) (step_continuation ignore_case step others front text) (onward_of ignore_case step others front text)
 goes_is ignore_case (Literal c) others front text = refl
-goes_is ignore_case (LazyRun end) others front text = ap (option_or (given ignore_case (LazyRun end) others front text)) (shortest_parts ignore_case end (given ignore_case (LazyRun end) others) front text)
-goes_is ignore_case DotStar others front text = longest_parts ignore_case (run_end DotStar) (given ignore_case DotStar others) front text
+goes_is ignore_case (LazyRun end) others front text = ap (option_or (step_continuation ignore_case (LazyRun end) others front text)) (shortest_parts ignore_case end (step_continuation ignore_case (LazyRun end) others) front text)
+goes_is ignore_case DotStar others front text = longest_parts ignore_case (run_end DotStar) (step_continuation ignore_case DotStar others) front text
 goes_is ignore_case (OptionalGroup group) others front text = refl
-goes_is ignore_case (GreedyRun run) others front text = longest_parts ignore_case run.end (given ignore_case (GreedyRun run) others) front text
+goes_is ignore_case (GreedyRun run) others front text = longest_parts ignore_case run.end (step_continuation ignore_case (GreedyRun run) others) front text
 goes_is ignore_case (RepeatedLiteral copies) others front text = refl
 goes_is ignore_case (Segments segments) others front text =
-    segments_go ignore_case segments.separator.first _ segments.is_greedy segments.end (given ignore_case (Segments segments) others) front text
+    segments_go ignore_case segments.separator.first _ segments.is_greedy segments.end (step_continuation ignore_case (Segments segments) others) front text
 
 pub wholly_is : (ignore_case : Bool) (step : Step) (others : List Step) → IsSingle step → (front text : List ℕ)
-    → wholly ignore_case step others front text ≡ whole_of step (next_of ignore_case step others front text) (given ignore_case step others front text) (onward_of ignore_case step others front text)
+    → wholly ignore_case step others front text ≡ result_at_start step (next_of ignore_case step others front text) (step_continuation ignore_case step others front text) (onward_of ignore_case step others front text)
 wholly_is ignore_case (Literal c) others single front text = refl
-wholly_is ignore_case (LazyRun end) others single front text = shortest_parts ignore_case end (given ignore_case (LazyRun end) others) front text
-wholly_is ignore_case DotStar others single front text = longest_parts ignore_case (run_end DotStar) (given ignore_case DotStar others) front text
+wholly_is ignore_case (LazyRun end) others single front text = shortest_parts ignore_case end (step_continuation ignore_case (LazyRun end) others) front text
+wholly_is ignore_case DotStar others single front text = longest_parts ignore_case (run_end DotStar) (step_continuation ignore_case DotStar others) front text
 wholly_is ignore_case (OptionalGroup group) others single front text = absurd single
-wholly_is ignore_case (GreedyRun run) others single front text = run_parts ignore_case run.may_be_empty run.end (given ignore_case (GreedyRun run) others) front text
-wholly_is ignore_case (RepeatedLiteral copies) others single front text = copies_parts ignore_case copies.allows_zero copies.text.first _ (given ignore_case (RepeatedLiteral copies) others) front text
+wholly_is ignore_case (GreedyRun run) others single front text = run_parts ignore_case run.may_be_empty run.end (step_continuation ignore_case (GreedyRun run) others) front text
+wholly_is ignore_case (RepeatedLiteral copies) others single front text = copies_parts ignore_case copies.allows_zero copies.text.first _ (step_continuation ignore_case (RepeatedLiteral copies) others) front text
 wholly_is ignore_case (Segments segments) others single front text =
-    segments_begin ignore_case segments.separator.first _ segments.is_greedy segments.end (given ignore_case (Segments segments) others) front text
+    segments_begin ignore_case segments.separator.first _ segments.is_greedy segments.end (step_continuation ignore_case (Segments segments) others) front text
 
 -- ---- the end of the prefix
 
-module _ (gives : Continuation) (text : List ℕ) (n h o : Option ℕ) (a b c : Option Captures) (one : IsCutFor gives text n a) (two : IsCutFor gives text h b) (three : IsCutFor gives text o c) where
+module _ (gives : Continuation) (text : List ℕ) (n h o : Option ℕ) (a b c : Option Captures) (one : IsPrefixLengthFor gives text n a) (two : IsPrefixLengthFor gives text h b) (three : IsPrefixLengthFor gives text o c) where
   abbrev Cut : Option ℕ → Option Captures → Type 0
-  Cut end found = IsCutFor gives text end found
+  Cut end found = IsPrefixLengthFor gives text end found
 
   stopped : Cut (option_or n h) (option_or a b)
   stopped = ends.cut-or gives text n h a b one two
@@ -289,7 +289,7 @@ module _ (gives : Continuation) (text : List ℕ) (n h o : Option ℕ) (a b c : 
   go_or_here : Cut (option_or o h) (option_or c b)
   go_or_here = ends.cut-or gives text o h c b three two
 
-  pub begun_cut : (step : Step) → Cut (begun_of step n h o) (begun_of step a b c)
+  pub begun_cut : (step : Step) → Cut (result_after_literal step n h o) (result_after_literal step a b c)
   begun_cut (Literal d) = two
   begun_cut (LazyRun end) = refl
   begun_cut DotStar = refl
@@ -298,7 +298,7 @@ module _ (gives : Continuation) (text : List ℕ) (n h o : Option ℕ) (a b c : 
   begun_cut (RepeatedLiteral copies) = stopped
   begun_cut (Segments segments) = cut_by segments.is_greedy _ _ _ _ go_or_stop three
 
-  pub later_cut : (step : Step) → Cut (later_of step n h o) (later_of step a b c)
+  pub later_cut : (step : Step) → Cut (result_within_run step n h o) (result_within_run step a b c)
   later_cut (Literal d) = refl
   later_cut (LazyRun end) = ends.cut-or gives text h o b c two three
   later_cut DotStar = go_or_here
@@ -307,7 +307,7 @@ module _ (gives : Continuation) (text : List ℕ) (n h o : Option ℕ) (a b c : 
   later_cut (RepeatedLiteral copies) = refl
   later_cut (Segments segments) = cut_by segments.is_greedy _ _ _ _ go_or_stop (ends.cut-or gives text (option_or n h) o (option_or a b) c stopped three)
 
-  pub whole_cut : (step : Step) → Cut (whole_of step n h o) (whole_of step a b c)
+  pub whole_cut : (step : Step) → Cut (result_at_start step n h o) (result_at_start step a b c)
   whole_cut (Literal d) = one
   whole_cut (LazyRun end) = three
   whole_cut DotStar = go_or_here

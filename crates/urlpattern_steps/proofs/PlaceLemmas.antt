@@ -13,8 +13,8 @@ use Rattle.urlpattern_syntax.proofs.StringTexts.{chars-encode}
 use Rattle.urlpattern_steps.specs.declared.step.Step.{Step}
 use Rattle.urlpattern_steps.specs.declared.step.LiteralString.{LiteralString}
 use Rattle.urlpattern_steps.specs.Walk.{BeginsAs, Continuation, after_text, literals, walk, end_if_continued}
-use Rattle.urlpattern_steps.specs.Table.{IsEntryAfter, IsRow, IsSingle, begun_of, run_end, following, given, later_of, own_count, literal_string_of, whole_of}
-use Rattle.urlpattern_steps.specs.Taken.{IsCutFor}
+use Rattle.urlpattern_steps.specs.Table.{IsEntryAfter, IsRow, IsSingle, result_after_literal, run_end, following, step_continuation, result_within_run, own_count, literal_string_of, result_at_start}
+use Rattle.urlpattern_steps.specs.AddedCaptures.{IsPrefixLengthFor}
 use Rattle.urlpattern_steps.proofs.CopyLemmas.{after-found, after-other}
 use Rattle.urlpattern_steps.proofs.SameLemmas.{begins_or_not, no_same}
 use Rattle.urlpattern_steps.proofs.FollowLemmas.{chars_end}
@@ -71,35 +71,35 @@ module _ {A : Type 0} (Entry : (before left : List ℕ) → A → Type 0) (defau
 
 -- ---- the ends at a place
 
-some_cut : (gives : Continuation) (text : List ℕ) (n : Option ℕ) (found : Option Captures) → IsCutFor gives text n found → is_some n ≡ is_some found
+some_cut : (gives : Continuation) (text : List ℕ) (n : Option ℕ) (found : Option Captures) → IsPrefixLengthFor gives text n found → is_some n ≡ is_some found
 some_cut gives text None found cut = ap is_some (sym cut)
 some_cut gives text (Some n) None cut = absurd (cut.7 refl)
 some_cut gives text (Some n) (Some x) cut = refl
 
 -- The entry for the rest after some characters.
 next_cut : (ignore_case : Bool) (gives begun : Continuation) (text front rest : List ℕ) (entries : List (Option ℕ)) (own : Option LiteralString) (literal : List ℕ) (next : Option ℕ)
-    → IsFilled (λ before left n. IsCutFor gives text n (begun before left)) None front rest entries
+    → IsFilled (λ before left n. IsPrefixLengthFor gives text n (begun before left)) None front rest entries
     → IsEntryAfter ignore_case entries (option_map (λ (literal_string : LiteralString). literal_string.first ∷ literal) own) rest next
-    → IsCutFor gives text next (after_own ignore_case (option_map (λ (literal_string : LiteralString). literal_string.first ∷ literal) own) begun front rest)
-next_cut ignore_case gives begun text front rest entries None literal next is entry = subst (λ n. IsCutFor gives text n None) (sym entry) refl
+    → IsPrefixLengthFor gives text next (after_own ignore_case (option_map (λ (literal_string : LiteralString). literal_string.first ∷ literal) own) begun front rest)
+next_cut ignore_case gives begun text front rest entries None literal next is entry = subst (λ n. IsPrefixLengthFor gives text n None) (sym entry) refl
 next_cut ignore_case gives begun text front rest entries (Some own) literal next is (there, other) = by (begins_or_not ignore_case characters rest)
   where
     characters : List ℕ
     characters = own.first ∷ literal
 
     by : ((left : List ℕ) × BeginsAs ignore_case characters rest left) ⊎ ((left : List ℕ) → ¬ BeginsAs ignore_case characters rest left)
-        → IsCutFor gives text next (after_text ignore_case characters begun front rest)
+        → IsPrefixLengthFor gives text next (after_text ignore_case characters begun front rest)
     by (inl (left, e)) =
-        subst (λ o. IsCutFor gives text next o) (sym (after-found ignore_case characters rest left begun front e))
-        (subst (λ n. IsCutFor gives text n (begun (front ++ e.0) left)) (sym (there left e))
+        subst (λ o. IsPrefixLengthFor gives text next o) (sym (after-found ignore_case characters rest left begun front e))
+        (subst (λ n. IsPrefixLengthFor gives text n (begun (front ++ e.0) left)) (sym (there left e))
         (is.each e.0 left e.1 (λ none. no_same ignore_case own.first literal (subst (λ t. IsSame ignore_case t characters) none e.2))))
     by (inr none) =
-        subst (λ o. IsCutFor gives text next o) (sym (after-other ignore_case characters rest begun front none))
-        (subst (λ n. IsCutFor gives text n None) (sym (other none)) refl)
+        subst (λ o. IsPrefixLengthFor gives text next o) (sym (after-other ignore_case characters rest begun front none))
+        (subst (λ n. IsPrefixLengthFor gives text n None) (sym (other none)) refl)
 
 -- The end here.
 here_cut : (gives : Continuation) (text front rest : List ℕ) (b : Bool) → IsUtf8 front → IsUtf8 rest → text ≡ front ++ rest
-    → b ≡ is_some (gives (chars front) (chars rest)) → IsCutFor gives text (cond b (Some (length front)) None) (gives (chars front) (chars rest))
+    → b ≡ is_some (gives (chars front) (chars rest)) → IsPrefixLengthFor gives text (cond b (Some (length front)) None) (gives (chars front) (chars rest))
 here_cut gives text front rest true u v e is = (front, rest, u, v, e, refl, refl, λ none. false≢true (sym (is ∙ ap is_some none)))
 here_cut gives text front rest false u v e is = nothing (gives (chars front) (chars rest)) is
   where
@@ -107,57 +107,57 @@ here_cut gives text front rest false u v e is = nothing (gives (chars front) (ch
     nothing None e = refl
     nothing (Some x) e = absurd (false≢true e)
 
-onward_cut : (ignore_case : Bool) (gives later : Continuation) (text front rest : List ℕ) (end : ℕ) (n : Option ℕ) → ((d : ℕ) (left : List ℕ) → rest ≡ d ∷ left → IsCutFor gives text n (later (front ++ d ∷ []) left))
-    → IsCutFor gives text (end_if_continued ignore_case end n rest) (onward ignore_case end later front rest)
+onward_cut : (ignore_case : Bool) (gives later : Continuation) (text front rest : List ℕ) (end : ℕ) (n : Option ℕ) → ((d : ℕ) (left : List ℕ) → rest ≡ d ∷ left → IsPrefixLengthFor gives text n (later (front ++ d ∷ []) left))
+    → IsPrefixLengthFor gives text (end_if_continued ignore_case end n rest) (onward ignore_case end later front rest)
 onward_cut ignore_case gives later text front [] end n is = refl
 onward_cut ignore_case gives later text front (d ∷ rest) end n is = by (is_same_character ignore_case d end) (is d rest refl)
   where
-    by : (b : Bool) → IsCutFor gives text n (later (front ++ d ∷ []) rest) → IsCutFor gives text (cond b None n) (cond b None (later (front ++ d ∷ []) rest))
+    by : (b : Bool) → IsPrefixLengthFor gives text n (later (front ++ d ∷ []) rest) → IsPrefixLengthFor gives text (cond b None n) (cond b None (later (front ++ d ∷ []) rest))
     by true cut = refl
     by false cut = cut
 
 module _ (ignore_case : Bool) (step : Step) (others : List Step) (text : List ℕ) where
   abbrev pub Begun : List ℕ → List ℕ → Option ℕ → Type 0
-  Begun before left n = IsCutFor (given ignore_case step others) text n (begins ignore_case step others before left)
+  Begun before left n = IsPrefixLengthFor (step_continuation ignore_case step others) text n (begins ignore_case step others before left)
 
-  abbrev pub Taken : List ℕ → List ℕ → Bool → Type 0
-  Taken before left b = b ≡ is_some (walk ignore_case (step ∷ others) left)
+  abbrev pub DecidesMatch : List ℕ → List ℕ → Bool → Type 0
+  DecidesMatch before left b = b ≡ is_some (walk ignore_case (step ∷ others) left)
 
   -- The entries for the shorter suffixes.
   pub record IsSoFar (front rest : List ℕ) (begun : List (Option ℕ)) (row : List Bool) (later : Option ℕ) : Type 0 where
     pub is_begun : IsFilled Begun None front rest begun
-    pub is_row : IsFilled Taken false front rest row
-    pub is_later : (d : ℕ) (left : List ℕ) → rest ≡ d ∷ left → IsCutFor (given ignore_case step others) text later (goes ignore_case step others (front ++ d ∷ []) left)
+    pub is_row : IsFilled DecidesMatch false front rest row
+    pub is_later : (d : ℕ) (left : List ℕ) → rest ≡ d ∷ left → IsPrefixLengthFor (step_continuation ignore_case step others) text later (goes ignore_case step others (front ++ d ∷ []) left)
 
   pub so_far_none : (front : List ℕ) → IsSoFar front [] [] [] None
   so_far_none front = record {
     is_begun = filled_none Begun None front;
-    is_row = filled_none Taken false front;
+    is_row = filled_none DecidesMatch false front;
     is_later = λ d left e. let f : [] ≡ d ∷ left = e in cc;
   }
 
   -- The ends for this suffix.
   pub record IsPlaced (front rest : List ℕ) (begun later whole : Option ℕ) : Type 0 where
-    pub begun_here : IsCutFor (given ignore_case step others) text begun (begins ignore_case step others front rest)
-    pub later_here : IsCutFor (given ignore_case step others) text later (goes ignore_case step others front rest)
-    pub whole_here : IsCutFor (given ignore_case step others) text whole (wholly ignore_case step others front rest)
+    pub begun_here : IsPrefixLengthFor (step_continuation ignore_case step others) text begun (begins ignore_case step others front rest)
+    pub later_here : IsPrefixLengthFor (step_continuation ignore_case step others) text later (goes ignore_case step others front rest)
+    pub whole_here : IsPrefixLengthFor (step_continuation ignore_case step others) text whole (wholly ignore_case step others front rest)
 
   placed_by : (front rest : List ℕ) (next here forward : Option ℕ) → IsSingle step
-      → IsCutFor (given ignore_case step others) text next (next_of ignore_case step others front rest)
-      → IsCutFor (given ignore_case step others) text here (given ignore_case step others front rest)
-      → IsCutFor (given ignore_case step others) text forward (onward_of ignore_case step others front rest)
-      → IsPlaced front rest (begun_of step next here forward) (later_of step next here forward) (whole_of step next here forward)
+      → IsPrefixLengthFor (step_continuation ignore_case step others) text next (next_of ignore_case step others front rest)
+      → IsPrefixLengthFor (step_continuation ignore_case step others) text here (step_continuation ignore_case step others front rest)
+      → IsPrefixLengthFor (step_continuation ignore_case step others) text forward (onward_of ignore_case step others front rest)
+      → IsPlaced front rest (result_after_literal step next here forward) (result_within_run step next here forward) (result_at_start step next here forward)
   placed_by front rest next here forward single one two three =
       let n = next_of ignore_case step others front rest in
-      let g = given ignore_case step others front rest in
+      let g = step_continuation ignore_case step others front rest in
       let o = onward_of ignore_case step others front rest in
       record {
-        begun_here = subst (λ f. IsCutFor (given ignore_case step others) text (begun_of step next here forward) f) (sym (begins_is ignore_case step others front rest))
-            (begun_cut (given ignore_case step others) text next here forward n g o one two three step);
-        later_here = subst (λ f. IsCutFor (given ignore_case step others) text (later_of step next here forward) f) (sym (goes_is ignore_case step others front rest))
-            (later_cut (given ignore_case step others) text next here forward n g o one two three step);
-        whole_here = subst (λ f. IsCutFor (given ignore_case step others) text (whole_of step next here forward) f) (sym (wholly_is ignore_case step others single front rest))
-            (whole_cut (given ignore_case step others) text next here forward n g o one two three step);
+        begun_here = subst (λ f. IsPrefixLengthFor (step_continuation ignore_case step others) text (result_after_literal step next here forward) f) (sym (begins_is ignore_case step others front rest))
+            (begun_cut (step_continuation ignore_case step others) text next here forward n g o one two three step);
+        later_here = subst (λ f. IsPrefixLengthFor (step_continuation ignore_case step others) text (result_within_run step next here forward) f) (sym (goes_is ignore_case step others front rest))
+            (later_cut (step_continuation ignore_case step others) text next here forward n g o one two three step);
+        whole_here = subst (λ f. IsPrefixLengthFor (step_continuation ignore_case step others) text (result_at_start step next here forward) f) (sym (wholly_is ignore_case step others single front rest))
+            (whole_cut (step_continuation ignore_case step others) text next here forward n g o one two three step);
       }
 
   pub placed : (front rest : List ℕ) (begun : List (Option ℕ)) (row after : List Bool) (later next here forward : Option ℕ) → IsSingle step
@@ -167,16 +167,16 @@ module _ (ignore_case : Bool) (step : Step) (others : List Step) (text : List �
       → get_or after (length (chars rest)) false ≡ is_some (walk ignore_case (following step others) (chars rest))
       → here ≡ cond (get_or after (length row) false) (Some (length front)) None
       → forward ≡ end_if_continued ignore_case (run_end step) later (chars rest)
-      → IsPlaced (chars front) (chars rest) (begun_of step next here forward) (later_of step next here forward) (whole_of step next here forward)
+      → IsPlaced (chars front) (chars rest) (result_after_literal step next here forward) (result_within_run step next here forward) (result_at_start step next here forward)
   placed front rest begun row after later next here forward single u v e so_far entry has stops goes_on =
-      let bit : get_or after (length row) false ≡ is_some (given ignore_case step others (chars front) (chars rest)) =
+      let bit : get_or after (length row) false ≡ is_some (step_continuation ignore_case step others (chars front) (chars rest)) =
       ap (λ n. get_or after n false) so_far.is_row.count ∙ has ∙ sym (some_given ignore_case step others (chars front) (chars rest)) in
       placed_by (chars front) (chars rest) next here forward single
-      (next_cut ignore_case (given ignore_case step others) (begins ignore_case step others) text (chars front) (chars rest) begun (literal_string_of step) (literals (take (own_count (literal_string_of step)) others)) next so_far.is_begun entry)
-      (subst (λ n. IsCutFor (given ignore_case step others) text n (given ignore_case step others (chars front) (chars rest))) (sym stops)
-      (here_cut (given ignore_case step others) text front rest (get_or after (length row) false) u v e bit))
-      (subst (λ n. IsCutFor (given ignore_case step others) text n (onward_of ignore_case step others (chars front) (chars rest))) (sym goes_on)
-      (onward_cut ignore_case (given ignore_case step others) (goes ignore_case step others) text (chars front) (chars rest) (run_end step) later so_far.is_later))
+      (next_cut ignore_case (step_continuation ignore_case step others) (begins ignore_case step others) text (chars front) (chars rest) begun (literal_string_of step) (literals (take (own_count (literal_string_of step)) others)) next so_far.is_begun entry)
+      (subst (λ n. IsPrefixLengthFor (step_continuation ignore_case step others) text n (step_continuation ignore_case step others (chars front) (chars rest))) (sym stops)
+      (here_cut (step_continuation ignore_case step others) text front rest (get_or after (length row) false) u v e bit))
+      (subst (λ n. IsPrefixLengthFor (step_continuation ignore_case step others) text n (onward_of ignore_case step others (chars front) (chars rest))) (sym goes_on)
+      (onward_cut ignore_case (step_continuation ignore_case step others) (goes ignore_case step others) text (chars front) (chars rest) (run_end step) later so_far.is_later))
 
   -- The ends for this suffix, by the results of the calls.
   pub placed_at : (front rest : List ℕ) (begun : List (Option ℕ)) (row after : List Bool) (literal : List Step) (literal_string : Option LiteralString) (later next here forward first run whole : Option ℕ)
@@ -187,7 +187,7 @@ module _ (ignore_case : Bool) (step : Step) (others : List Step) (text : List �
       → IsEntryAfter ignore_case begun (option_map (λ (own : LiteralString). own.first ∷ literals literal) literal_string) (chars rest) next
       → here ≡ cond (get_or after (length row) false) (Some (length front)) None
       → forward ≡ end_if_continued ignore_case (run_end step) later (chars rest)
-      → first ≡ begun_of step next here forward → run ≡ later_of step next here forward → whole ≡ whole_of step next here forward
+      → first ≡ result_after_literal step next here forward → run ≡ result_within_run step next here forward → whole ≡ result_at_start step next here forward
       → IsPlaced (chars front) (chars rest) first run whole
   placed_at front rest begun row after literal literal_string later next here forward first run whole single u v e so_far is_after own literals_are entry stops goes_on f g h =
       let entry_of : IsEntryAfter ignore_case begun (own_text step (literals (take (own_count (literal_string_of step)) others))) (chars rest) next =
@@ -195,8 +195,8 @@ module _ (ignore_case : Bool) (step : Step) (others : List Step) (text : List �
       (subst (λ l. IsEntryAfter ignore_case begun (option_map (λ (own : LiteralString). own.first ∷ literals l) literal_string) (chars rest) next) literals_are entry) in
       let is = placed front rest begun row after later next here forward single u v e so_far entry_of (is_after.bits (chars rest) (chars_end text front rest u e)) stops goes_on in
       subst (λ n. IsPlaced (chars front) (chars rest) n run whole) (sym f)
-      (subst (λ n. IsPlaced (chars front) (chars rest) (begun_of step next here forward) n whole) (sym g)
-      (subst (λ n. IsPlaced (chars front) (chars rest) (begun_of step next here forward) (later_of step next here forward) n) (sym h) is))
+      (subst (λ n. IsPlaced (chars front) (chars rest) (result_after_literal step next here forward) n whole) (sym g)
+      (subst (λ n. IsPlaced (chars front) (chars rest) (result_after_literal step next here forward) (result_within_run step next here forward) n) (sym h) is))
 
   -- The ends for this suffix, with the entries as they are kept and the remaining text.
   pub placed_now : (front rest left : List ℕ) (begun kept : List (Option ℕ)) (row after : List Bool) (literal : List Step) (literal_string : Option LiteralString) (count stop : ℕ) (later next here forward first run whole : Option ℕ)
@@ -207,7 +207,7 @@ module _ (ignore_case : Bool) (step : Step) (others : List Step) (text : List �
       → IsEntryAfter ignore_case begun (option_map (λ (own : LiteralString). own.first ∷ literals literal) literal_string) (chars rest) next
       → count ≡ length row → here ≡ cond (get_or after count false) (Some (length front)) None
       → stop ≡ run_end step → forward ≡ end_if_continued ignore_case stop later (chars rest)
-      → first ≡ begun_of step next here forward → run ≡ later_of step next here forward → whole ≡ whole_of step next here forward
+      → first ≡ result_after_literal step next here forward → run ≡ result_within_run step next here forward → whole ≡ result_at_start step next here forward
       → IsSoFar (chars front) (chars rest) begun row later × IsPlaced (chars front) (chars rest) first run whole
   placed_now front rest left begun kept row after literal literal_string count stop later next here forward first run whole single u v e f so_far same is_after own literals_are entry len stops ends goes_on one two three =
       let behind : rest ≡ left = append_cancel_left front rest left (sym e ∙ f) in
@@ -218,9 +218,9 @@ module _ (ignore_case : Bool) (step : Step) (others : List Step) (text : List �
             (stops ∙ ap (λ n. cond (get_or after n false) (Some (length front)) None) len) (goes_on ∙ ap (λ n. end_if_continued ignore_case n later (chars rest)) ends) one two three,
       )
 
-  taken_here : (front rest : List ℕ) (begun later whole : Option ℕ) → IsPlaced front rest begun later whole → Taken front rest (is_some whole)
+  taken_here : (front rest : List ℕ) (begun later whole : Option ℕ) → IsPlaced front rest begun later whole → DecidesMatch front rest (is_some whole)
   taken_here front rest begun later whole is =
-      some_cut (given ignore_case step others) text whole (wholly ignore_case step others front rest) is.whole_here ∙ some_wholly ignore_case step others front rest
+      some_cut (step_continuation ignore_case step others) text whole (wholly ignore_case step others front rest) is.whole_here ∙ some_wholly ignore_case step others front rest
 
   -- The entries at the previous character.
   so_far_more : (shorter rest : List ℕ) (d : ℕ) (begun : List (Option ℕ)) (row : List Bool) (later first run whole : Option ℕ)
@@ -228,12 +228,12 @@ module _ (ignore_case : Bool) (step : Step) (others : List Step) (text : List �
       → IsSoFar shorter (d ∷ rest) (begun ++ first ∷ []) (row ++ is_some whole ∷ []) run
   so_far_more shorter rest d begun row later first run whole is here = record {
     is_begun = filled_more Begun None shorter rest d begun first is.is_begun here.begun_here;
-    is_row = filled_more Taken false shorter rest d row (is_some whole) is.is_row (taken_here (shorter ++ d ∷ []) rest first run whole here);
+    is_row = filled_more DecidesMatch false shorter rest d row (is_some whole) is.is_row (taken_here (shorter ++ d ∷ []) rest first run whole here);
     is_later = λ c left e.
         let first : d ≡ c = cc in
         let others_same : rest ≡ left = cc in
-        subst (λ l. IsCutFor (given ignore_case step others) text run (goes ignore_case step others (shorter ++ c ∷ []) l)) others_same
-        (subst (λ x. IsCutFor (given ignore_case step others) text run (goes ignore_case step others (shorter ++ x ∷ []) rest)) first here.later_here);
+        subst (λ l. IsPrefixLengthFor (step_continuation ignore_case step others) text run (goes ignore_case step others (shorter ++ c ∷ []) l)) others_same
+        (subst (λ x. IsPrefixLengthFor (step_continuation ignore_case step others) text run (goes ignore_case step others (shorter ++ x ∷ []) rest)) first here.later_here);
   }
 
   pub so_far_next : (front shorter rest : List ℕ) (d : ℕ) (begun : List (Option ℕ)) (row : List Bool) (later first run whole : Option ℕ)
@@ -253,8 +253,8 @@ module _ (ignore_case : Bool) (step : Step) (others : List Step) (text : List �
       → IsSoFar [] rest begun row later → IsPlaced [] rest first run whole → IsRow ignore_case rest (step ∷ others) (row ++ is_some whole ∷ [])
   row_whole rest begun row later first run whole is here = record {
     long = omega (arith, length-append row (is_some whole ∷ []), is.is_row.count);
-    bits = λ end ends. filled_all Taken false [] rest row (is_some whole) is.is_row (taken_here [] rest first run whole here) ends.0 end ends.1;
+    bits = λ end ends. filled_all DecidesMatch false [] rest row (is_some whole) is.is_row (taken_here [] rest first run whole here) ends.0 end ends.1;
   }
 
-  pub end_whole : (rest : List ℕ) (first run whole : Option ℕ) → IsPlaced [] rest first run whole → IsCutFor (given ignore_case step others) text whole (walk ignore_case (step ∷ others) rest)
-  end_whole rest first run whole here = subst (λ f. IsCutFor (given ignore_case step others) text whole f) (sym (walk_wholly ignore_case step others rest)) here.whole_here
+  pub end_whole : (rest : List ℕ) (first run whole : Option ℕ) → IsPlaced [] rest first run whole → IsPrefixLengthFor (step_continuation ignore_case step others) text whole (walk ignore_case (step ∷ others) rest)
+  end_whole rest first run whole here = subst (λ f. IsPrefixLengthFor (step_continuation ignore_case step others) text whole f) (sym (walk_wholly ignore_case step others rest)) here.whole_here

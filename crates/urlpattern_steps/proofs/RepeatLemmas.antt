@@ -4,7 +4,7 @@ use Rattle.std.proofs.lemmas.Bool.{le-ltb}
 use Rattle.std.specs.Option.{option_or}
 use Rattle.std.proofs.Math.Seq.{take-append_seam}
 use Rattle.urlpattern_meaning.specs.Dialect.{Quantifier, ZeroOrMore, OneOrMore, Items, Item, Atom, Grouped, atom_group_count, group_count}
-use Rattle.urlpattern_meaning.specs.Ways.{Choice, empty_way, is_shorter, looped, more_rounds, quantified_ways, atom_ways_by, ways_by}
+use Rattle.urlpattern_meaning.specs.Ways.{WaysByText, empty_way, is_shorter, looped, more_rounds, quantified_ways, atom_ways_by, ways_by}
 use Rattle.urlpattern_steps.specs.declared.step_tokens.GroupQuantifier.{GroupQuantifier}
 use Rattle.urlpattern_steps.specs.declared.step_tokens.GroupQuantifier.TheVariants as often
 use Rattle.urlpattern_steps.specs.declared.step.Step.{Step}
@@ -24,7 +24,7 @@ copied false = OneOrMore
 abbrev led_on : Next → Given
 led_on next taken captures rest = option_map (λ others. captures ++ others) (next rest)
 
-looped_takes : (allows_zero : Bool) (groups : ℕ) (atom : Choice) (round : Continuation → Continuation) → groups ≡ 0 → Takes atom round → Advances round
+looped_takes : (allows_zero : Bool) (groups : ℕ) (atom : WaysByText) (round : Continuation → Continuation) → groups ≡ 0 → Takes atom round → Advances round
     → Takes (quantified_ways (copied allows_zero) groups atom) (repeated allows_zero round)
 looped_takes true groups atom round none takes advances =
     let all = takes-looped_or_not atom round takes advances in
@@ -38,7 +38,7 @@ keeps_repeated true round advances = keeps-any round advances
 keeps_repeated false round advances = keeps-some round advances
 
 -- A choice without captures is followed by the next steps on the rest.
-taken_next : (choice : Choice) (round : Continuation → Continuation) → Takes choice round → Keeps round → (next : Next) (text : List ℕ)
+taken_next : (choice : WaysByText) (round : Continuation → Continuation) → Takes choice round → Keeps round → (next : Next) (text : List ℕ)
     → tried (before_next next) (choice text) ≡ round (λ front rest. next rest) [] text
 taken_next choice round takes keeps next text =
     takes.takes (led_on next) [] text
@@ -72,10 +72,10 @@ twice_one : {A : Type 0} (o : Option A) → option_or o o ≡ o
 twice_one None = refl
 twice_one (Some x) = refl
 
-looped_nothing : (ignore_case : Bool) (atom : Choice) → Takes atom (after_text ignore_case []) → Takes (looped true atom) (after_text ignore_case [])
+looped_nothing : (ignore_case : Bool) (atom : WaysByText) → Takes atom (after_text ignore_case []) → Takes (looped true atom) (after_text ignore_case [])
 looped_nothing ignore_case atom takes = record {
   takes = λ h front text.
-      let next : Choice = λ rest. cond (is_shorter rest text) (more_rounds true atom (length rest) rest) (empty_way 0 rest ∷ []) in
+      let next : WaysByText = λ rest. cond (is_shorter rest text) (more_rounds true atom (length rest) rest) (empty_way 0 rest ∷ []) in
       let same : is_shorter text text ≡ false = le-ltb (length text) (length text) (omega arith) in
       tried-then h front next (atom text)
       ∙ takes.takes (then next h) front text
@@ -83,7 +83,7 @@ looped_nothing ignore_case atom takes = record {
       ∙ tried_idle h front text;
 }
 
-or_nothing : (ignore_case : Bool) (choice : Choice) → Takes choice (after_text ignore_case []) → Takes (λ text. choice text ++ empty_way 0 text ∷ []) (after_text ignore_case [])
+or_nothing : (ignore_case : Bool) (choice : WaysByText) → Takes choice (after_text ignore_case []) → Takes (λ text. choice text ++ empty_way 0 text ∷ []) (after_text ignore_case [])
 or_nothing ignore_case choice takes = record {
   takes = λ h front text.
       tried-append (given (beyond front h)) (choice text) (empty_way 0 text ∷ [])
@@ -91,7 +91,7 @@ or_nothing ignore_case choice takes = record {
       ∙ twice_one (h front [] text);
 }
 
-quantified_nothing : (ignore_case : Bool) (times : GroupQuantifier) (atom : Choice) → Takes atom (after_text ignore_case []) → Takes (quantified_ways (quantifier_of times) 0 atom) (after_text ignore_case [])
+quantified_nothing : (ignore_case : Bool) (times : GroupQuantifier) (atom : WaysByText) → Takes atom (after_text ignore_case []) → Takes (quantified_ways (quantifier_of times) 0 atom) (after_text ignore_case [])
 quantified_nothing ignore_case often.Once atom takes = takes
 quantified_nothing ignore_case often.Optional atom takes = or_nothing ignore_case atom takes
 quantified_nothing ignore_case often.ZeroOrMore atom takes = or_nothing ignore_case (looped true atom) (looped_nothing ignore_case atom takes)

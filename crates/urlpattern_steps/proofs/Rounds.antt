@@ -3,7 +3,7 @@ use Rattle.std.proofs.Common.{◌≡◌, ℕ, zero, suc, ◌<◌, ◌≤◌, Lis
 use Rattle.std.specs.Option.{option_or}
 use Rattle.urlpattern_steps.proofs.OptionLemmas.{option_or-None}
 use Rattle.urlpattern_meaning.specs.Dialect.{Nothing}
-use Rattle.urlpattern_meaning.specs.Ways.{Way, Choice, empty_way, continued, one_that, is_shorter, more_rounds, looped, ways_by}
+use Rattle.urlpattern_meaning.specs.Ways.{Way, WaysByText, empty_way, continued, one_that, is_shorter, more_rounds, looped, ways_by}
 use Rattle.urlpattern_steps.specs.Walk.{Continuation, after_text, rounds, any_rounds, some_rounds}
 use Rattle.urlpattern_steps.proofs.Tried.{Given, given, bare, tried, tried-append, tried-same, tried-continued}
 use Rattle.urlpattern_meaning.specs.Matching.{is_same_character}
@@ -13,7 +13,7 @@ abbrev pub beyond : List ℕ → Given → Given
 beyond front h taken captures rest = h (front ++ taken) captures rest
 
 -- The result after the matches of the choice is the result after a round.
-pub record Takes (choice : Choice) (round : Continuation → Continuation) : Type 0 where
+pub record Takes (choice : WaysByText) (round : Continuation → Continuation) : Type 0 where
   pub takes : (h : Given) (front text : List ℕ) → tried (given (beyond front h)) (choice text) ≡ round (bare h) front text
 
 -- The result after a round depends only on the results for suffixes of the text.
@@ -67,17 +67,17 @@ advances-then first second one two = record {
 }
 
 -- The result after a match is tried for each match in the rest.
-abbrev pub then : Choice → Given → Given
+abbrev pub then : WaysByText → Given → Given
 then next h taken captures rest = tried (λ more. h (taken ++ more.taken) (captures ++ more.captures) more.rest) (next rest)
 
-pub tried-then : (h : Given) (front : List ℕ) (next : Choice) (xs : List Way) → tried (given (beyond front h)) (continued next xs) ≡ tried (given (beyond front (then next h))) xs
+pub tried-then : (h : Given) (front : List ℕ) (next : WaysByText) (xs : List Way) → tried (given (beyond front h)) (continued next xs) ≡ tried (given (beyond front (then next h))) xs
 tried-then h front next xs =
     tried-continued (given (beyond front h)) next xs
     ∙ tried-same _ _
     (λ way. tried-same _ _ (λ more. ap (λ f. h f (way.captures ++ more.captures) more.rest) (sym (append_assoc front way.taken more.taken))) (next way.rest))
     xs
 
-pub takes-then : (choice next : Choice) (first second : Continuation → Continuation) → Takes choice first → Keeps first → Takes next second
+pub takes-then : (choice next : WaysByText) (first second : Continuation → Continuation) → Takes choice first → Keeps first → Takes next second
     → Takes (λ text. continued next (choice text)) (λ gives. first (second gives))
 takes-then choice next first second one keeps two = record {
   takes = λ h front text.
@@ -145,7 +145,7 @@ keeps-some round advances = record {
       (λ before rest lt. rounds-same round advances (length rest) f g before rest (λ b r le. same b r (omega (arith, lt, le))));
 }
 
-module _ (atom : Choice) (round : Continuation → Continuation) (takes : Takes atom round) (advances : Advances round) where
+module _ (atom : WaysByText) (round : Continuation → Continuation) (takes : Takes atom round) (advances : Advances round) where
   more_rounds-tried : (n : ℕ) (h : Given) (front text : List ℕ) → tried (given (beyond front h)) (more_rounds true atom n text) ≡ rounds round n (bare h) front text
   more_rounds-tried zero h front text = tried_idle h front text
   more_rounds-tried (suc n) h front text =
@@ -160,13 +160,13 @@ module _ (atom : Choice) (round : Continuation → Continuation) (takes : Takes 
       ∙ more_rounds-tried n h before rest))
       (tried_idle h front text)
     where
-      next : Choice
+      next : WaysByText
       next rest = cond (is_shorter rest text) (more_rounds true atom n rest) []
 
   pub takes-looped : Takes (looped true atom) (some_rounds round)
   takes-looped = record {
     takes = λ h front text.
-        let next : Choice = λ rest. cond (is_shorter rest text) (more_rounds true atom (length rest) rest) (empty_way 0 rest ∷ []) in
+        let next : WaysByText = λ rest. cond (is_shorter rest text) (more_rounds true atom (length rest) rest) (empty_way 0 rest ∷ []) in
         tried-then h front next (atom text)
         ∙ takes.takes (then next h) front text
         ∙ advances.same (bare (then next h)) (any_rounds round (bare h)) front text

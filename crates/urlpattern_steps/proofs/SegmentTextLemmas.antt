@@ -10,7 +10,7 @@ use Rattle.urlpattern_meaning.specs.Dialect.{AreItems, Character, IsCharacter, I
 use Rattle.urlpattern_steps.specs.declared.step.LiteralString.{LiteralString}
 use Rattle.urlpattern_steps.specs.declared.step.Step.{Step}
 use Rattle.urlpattern_steps.specs.declared.step.Step.TheVariants.{Literal, Segments}
-use Rattle.urlpattern_steps.specs.ReadSteps.{AreCharacters, AreLiterals, AreSegments, BeginsWithCaptured, EndsSegments, characters_text, literal_steps, BeginsWithCharacter, IsRunOf, IsRunStep, ClosesSegments, MakeUp, last_text}
+use Rattle.urlpattern_steps.specs.ReadSteps.{AreCharacters, AreLiterals, AreSegments, BeginsWithCaptured, EndsSegments, characters_text, literal_steps, BeginsWithCharacter, IsRunOf, IsRunStep, BeginsLastRun, SpellLiteral, last_run_text}
 use Rattle.urlpattern_steps.proofs.PrefixLemmas.{ReadsRun, ByItself, IsEscapedAt, apart, character_kind, run_step, run_step_is}
 use Rattle.urlpattern_steps.proofs.SegmentLemmas.{in_order, literal_steps-plain}
 use Rattle.urlpattern_steps.proofs.StepGroupLemmas.{take_rest, drop-one}
@@ -50,8 +50,8 @@ read-more old items more text rest remaining c (characters, all, e, f) (characte
 
 -- The step of separated runs replaces the first step of the separator.
 pub read-ends : (old items now : List Step) (first end : ℕ) (is_greedy : Bool) (separator : LiteralString) (text rest remaining : List ℕ) → AreRead old items text rest → first ≡ length old → now ≡ items
-    → MakeUp (take (length now - first) (drop first now)) separator
-    → ClosesSegments end is_greedy rest remaining
+    → SpellLiteral (take (length now - first) (drop first now)) separator
+    → BeginsLastRun end is_greedy rest remaining
     → (own : List Step) × EndsSegments end is_greedy own text remaining
     × (set items first (Segments (record { separator = separator; end = end; is_greedy = is_greedy })) ≡ old ++ own)
 read-ends old items now first end is_greedy separator text rest remaining (characters, all, e, f) place same (others, own, plain, count) (second, are, is, g) =
@@ -159,11 +159,11 @@ steps_between old items now first end is_greedy characters own f place same (c, 
 
 -- The last of separated runs.
 pub last_run : (end : ℕ) (is_greedy : Bool) (items : Items) (text inner rest : List ℕ) → AreItems items → IsRunOf end is_greedy items
-    → text ≡ last_text items rest → text ≡ codes "(?:" ++ inner → BeginsWithCaptured inner (run_step end is_greedy) (codes "))*)" ++ rest)
+    → text ≡ last_run_text items rest → text ≡ codes "(?:" ++ inner → BeginsWithCaptured inner (run_step end is_greedy) (codes "))*)" ++ rest)
 last_run end is_greedy items text inner rest are is e f = (items, are, (run_step_is end is_greedy items is).1, cc)
 
 -- The last of separated runs is read, with the rest.
-pub last_read : (end : ℕ) (is_greedy : Bool) (items : Items) (text inner rest : List ℕ) (single : Step) (behind : List ℕ) → AreItems items → IsRunOf end is_greedy items → text ≡ last_text items rest
+pub last_read : (end : ℕ) (is_greedy : Bool) (items : Items) (text inner rest : List ℕ) (single : Step) (behind : List ℕ) → AreItems items → IsRunOf end is_greedy items → text ≡ last_run_text items rest
     → text ≡ codes "(?:" ++ inner → ReadsRun inner single behind → IsRunStep end is_greedy single × (behind ≡ codes "))*)" ++ rest)
 last_read end is_greedy items text inner rest single behind are is e f reads =
     let step = (run_step_is end is_greedy items is).0 in

@@ -8,7 +8,7 @@ use Rattle.urlpattern_steps.specs.declared.step.Group.{Group}
 use Rattle.urlpattern_steps.specs.declared.step.LiteralString.{LiteralString}
 use Rattle.urlpattern_steps.specs.declared.step.Step.{Step}
 use Rattle.urlpattern_steps.specs.declared.step.Step.TheVariants.{Literal, OptionalGroup, RepeatedLiteral}
-use Rattle.urlpattern_steps.specs.ReadSteps.{AreCopySteps, IsStepGroup, IsSomeGroup, MakeUp}
+use Rattle.urlpattern_steps.specs.ReadSteps.{AreCopySteps, IsStepGroup, IsSomeGroup, SpellLiteral}
 use Rattle.urlpattern_steps.specs.Walk.{capture_count}
 
 -- The steps from a place to the end.
@@ -33,7 +33,7 @@ drop-one (suc n) (other ∷ steps) step rest e = drop-one n steps step rest e
 
 -- The step of a repeated literal replaces the first step of the literal.
 pub copies_set : (done now : List Step) (first : ℕ) (allows_zero : Bool) (text : LiteralString) → first ≤ length done → now ≡ done
-    → MakeUp (take (length now - first) (drop first now)) text
+    → SpellLiteral (take (length now - first) (drop first now)) text
     → (group : List Step) × AreCopySteps allows_zero (drop first done) group × (set done first (RepeatedLiteral (record { text = text; allows_zero = allows_zero })) ≡ take first done ++ group)
 copies_set done now first allows_zero text le same (others, own, plain, count) =
     let whole : drop first done ≡ Literal text.first ∷ others = ap (drop first) (sym same) ∙ sym (take_rest now first) ∙ own in

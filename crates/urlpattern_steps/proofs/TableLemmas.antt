@@ -12,8 +12,8 @@ use Rattle.urlpattern_steps.specs.declared.step.Step.{Step}
 use Rattle.urlpattern_steps.specs.declared.step.Step.TheVariants.{Literal, LazyRun, DotStar, OptionalGroup, GreedyRun, RepeatedLiteral, Segments}
 use Rattle.urlpattern_steps.specs.FailedStates.{EndsWith}
 use Rattle.urlpattern_steps.specs.Walk.{captured_prefix, walk}
-use Rattle.urlpattern_steps.specs.Table.{AreRows, is_capture, IsRow, IsSingle, following, given, row_at}
-use Rattle.urlpattern_steps.specs.Taken.{Kept, with_captures}
+use Rattle.urlpattern_steps.specs.Table.{AreRows, is_capture, IsRow, IsSingle, following, step_continuation, row_at}
+use Rattle.urlpattern_steps.specs.AddedCaptures.{Kept, with_captures}
 use Rattle.urlpattern_steps.proofs.FollowLemmas.{plus_captured}
 use Rattle.urlpattern_steps.proofs.FailedLemmas.{ends_longer}
 use Rattle.urlpattern_steps.proofs.MatchedPrefixes.{is_some-or, some_mapped}
@@ -123,7 +123,7 @@ none_of (Some x) e = absurd (false≢true (sym e))
 -- The prefix that a step matches is added, if the step captures.
 pub front_added : (ignore_case : Bool) (step : Step) (others : List Step) (old new : Kept) (front : Bor (List ℕ)) (rest : List ℕ)
     → new ≡ cond (is_capture step) (old ++ Some front ∷ []) old
-    → with_captures old (given ignore_case step others (chars front.now) rest) ≡ with_captures new (walk ignore_case (following step others) rest)
+    → with_captures old (step_continuation ignore_case step others (chars front.now) rest) ≡ with_captures new (walk ignore_case (following step others) rest)
 front_added ignore_case step others old new front rest e = by (is_capture step) e
   where
     by : (b : Bool) → new ≡ cond b (old ++ Some front ∷ []) old

@@ -3,7 +3,7 @@ use Rattle.std.proofs.Common.{◌≡◌, ℕ, zero, suc, ◌≤◌, List, [], �
 use Rattle.std.specs.Option.{option_or}
 use Rattle.urlpattern_steps.proofs.OptionLemmas.{option_or-None}
 use Rattle.urlpattern_meaning.specs.PartMeaning.{Captures}
-use Rattle.urlpattern_meaning.specs.Ways.{Way, Choice, empty_way, joined_way, continued, one_that, is_shorter, more_rounds, looped}
+use Rattle.urlpattern_meaning.specs.Ways.{Way, WaysByText, empty_way, joined_way, continued, one_that, is_shorter, more_rounds, looped}
 use Rattle.urlpattern_steps.specs.Walk.{shortest, longest, Continuation}
 use Rattle.urlpattern_meaning.specs.Matching.{is_same_character}
 
@@ -47,7 +47,7 @@ pub tried-same : (f g : Way → Option Captures) → ((way : Way) → f way ≡ 
 tried-same f g same [] = refl
 tried-same f g same (x ∷ xs) = ap₂ option_or (same x) (tried-same f g same xs)
 
-pub tried-continued : (f : Way → Option Captures) (next : Choice) (xs : List Way)
+pub tried-continued : (f : Way → Option Captures) (next : WaysByText) (xs : List Way)
     → tried f (continued next xs) ≡ tried (λ way. tried (λ more. f (joined_way way more)) (next way.rest)) xs
 tried-continued f next [] = refl
 tried-continued f next (x ∷ xs) =
@@ -66,7 +66,7 @@ tried-joined next way (x ∷ xs) =
     ∙ sym (option_map-or (λ others. way.captures ++ others) (before_next next x) (tried (before_next next) xs))
 
 -- The matches in the rest are tried after each match.
-pub tried-behind : (next : Next) (choice : Choice) (xs : List Way)
+pub tried-behind : (next : Next) (choice : WaysByText) (xs : List Way)
     → tried (before_next next) (continued choice xs) ≡ tried (before_next (λ rest. tried (before_next next) (choice rest))) xs
 tried-behind next choice xs =
     tried-continued (before_next next) choice xs
@@ -96,14 +96,14 @@ abbrev with_first : ℕ → Given → Given
 with_first c h taken captures rest = h (c ∷ taken) captures rest
 
 module _ (ignore_case : Bool) (end : ℕ) where
-  abbrev pub one : Choice
+  abbrev pub one : WaysByText
   one = one_that (λ c. not (is_same_character ignore_case c end))
 
   empty_way-given : (h : Given) (text : List ℕ) → tried (given h) (empty_way 0 text ∷ []) ≡ h [] [] text
   empty_way-given h text = option_or-None _
 
   -- The remaining rounds after one character.
-  one_round : (h : Given) (c : ℕ) (text : List ℕ) (next : Choice)
+  one_round : (h : Given) (c : ℕ) (text : List ℕ) (next : WaysByText)
       → tried (given h) (continued next (record { taken = c ∷ []; captures = []; rest = text } ∷ [])) ≡ tried (given (with_first c h)) (next text)
   one_round h c text next = tried-continued (given h) next (record { taken = c ∷ []; captures = []; rest = text } ∷ []) ∙ option_or-None (tried (given (with_first c h)) (next text))
 
@@ -123,7 +123,7 @@ module _ (ignore_case : Bool) (end : ℕ) where
   lazy_rounds (suc n) h [] le = refl
   lazy_rounds (suc n) h (c ∷ text) le = by (is_same_character ignore_case c end) (lazy_rounds n (with_first c h) text (omega arith))
     where
-      next : Choice
+      next : WaysByText
       next rest = cond (is_shorter rest (c ∷ text)) (more_rounds false one n rest) []
 
       by : (b : Bool) → tried (given (with_first c h)) (more_rounds false one n text) ≡ option_or (h (c ∷ []) [] text) (shortest ignore_case end (bare (with_first c h)) [] text)
@@ -143,7 +143,7 @@ module _ (ignore_case : Bool) (end : ℕ) where
   lazy_loop h [] = refl
   lazy_loop h (c ∷ text) = by (is_same_character ignore_case c end)
     where
-      next : Choice
+      next : WaysByText
       next rest = cond (is_shorter rest (c ∷ text)) (more_rounds false one (length rest) rest) (empty_way 0 rest ∷ [])
 
       by : (b : Bool) → tried (given h) (continued next (cond (not b) (record { taken = c ∷ []; captures = []; rest = text } ∷ []) []))
@@ -162,7 +162,7 @@ module _ (ignore_case : Bool) (end : ℕ) where
   greedy_rounds (suc n) h [] le = empty_way-given h []
   greedy_rounds (suc n) h (c ∷ text) le = by (is_same_character ignore_case c end) (greedy_rounds n (with_first c h) text (omega arith))
     where
-      next : Choice
+      next : WaysByText
       next rest = cond (is_shorter rest (c ∷ text)) (more_rounds true one n rest) []
 
       by : (b : Bool) → tried (given (with_first c h)) (more_rounds true one n text) ≡ longest ignore_case end (bare (with_first c h)) [] text
@@ -185,7 +185,7 @@ module _ (ignore_case : Bool) (end : ℕ) where
   greedy_loop h (c ∷ text) =
       tried-append (given h) (looped true one (c ∷ text)) (empty_way 0 (c ∷ text) ∷ []) ∙ ap (option_or (tried (given h) (looped true one (c ∷ text)))) (empty_way-given h (c ∷ text)) ∙ by (is_same_character ignore_case c end)
     where
-      next : Choice
+      next : WaysByText
       next rest = cond (is_shorter rest (c ∷ text)) (more_rounds true one (length rest) rest) (empty_way 0 rest ∷ [])
 
       by : (b : Bool) → option_or (tried (given h) (continued next (cond (not b) (record { taken = c ∷ []; captures = []; rest = text } ∷ []) []))) (h [] [] (c ∷ text))

@@ -1,5 +1,5 @@
 pub mod Walk
 pub mod FailedStates
-pub mod Taken
+pub mod AddedCaptures
 pub mod Table
 pub mod ReadSteps

@@ -19,7 +19,7 @@ use Rattle.urlpattern_syntax.specs.Text.{is_among, line_feed, BeginsWith}
 
 -- ---- characters
 
--- The text begins with a spelling of `c` that `Is` permits, followed by `rest`.
+-- The text begins with a spelling of the character `c` for which `Is` holds, followed by `rest`.
 abbrev pub BeginsWithCharacter : (Is : Character → Type 0) → (text : List ℕ)
     → (c : ℕ) → (rest : List ℕ) → Type 0
 BeginsWithCharacter Is text c rest =
@@ -27,11 +27,11 @@ BeginsWithCharacter Is text c rest =
     × (character_of character ≡ c)
     × (text ≡ character_text character ++ rest)
 
--- `read` has the value `it` and the remaining text `rest`.
+-- `read`, the result of reading a text, is Some of the value `it` and the remaining text `rest`.
 abbrev pub IsRead : {A : Type 0} → Option (A × Bor (List ℕ)) → A → (rest : List ℕ) → Type 0
 IsRead read it rest = IsSomeAnd read (λ found. (found.0 ≡ it) × (chars found.1.now ≡ rest))
 
--- `read` has the remaining text `rest`.
+-- `read`, the result of reading a text, is Some of the remaining text `rest`.
 abbrev pub IsLeft : Option (Bor (List ℕ)) → (rest : List ℕ) → Type 0
 IsLeft read rest = IsSomeAnd read (λ remaining. chars remaining.now ≡ rest)
 
@@ -53,12 +53,13 @@ abbrev pub IsRunOf : (end : ℕ) → (is_greedy : Bool) → Items → Type 0
 IsRunOf end true items = (end ≡ line_feed) × (items ≡ Item Dot ZeroOrMore Nothing)
 IsRunOf end false items = (one : Atom) × IsAllBut end one × (items ≡ Item one LazyOneOrMore Nothing)
 
--- The step of a captured run of this kind.
+-- The step captures a run without `end`: `DotStar` if greedy, otherwise `LazyRun`.
 abbrev pub IsRunStep : (end : ℕ) → (is_greedy : Bool) → Step → Type 0
 IsRunStep end true step = (end ≡ line_feed) × (step ≡ DotStar)
 IsRunStep end false step = step ≡ LazyRun end
 
--- `found` is the run of the step, if the step is one of a run.
+-- If the step is a `LazyRun` or `DotStar`, `found` is the character that ends its run and whether
+-- the run is greedy.
 abbrev pub FindsRun : Step → Option (ℕ × Bool) → Type 0
 FindsRun step found =
     (end : ℕ) (is_greedy : Bool) → IsRunStep end is_greedy step
@@ -71,7 +72,8 @@ AllowsEmptyRun is_greedy ZeroOrMore may_be_empty = may_be_empty ≡ true
 AllowsEmptyRun is_greedy OneOrMore may_be_empty = may_be_empty ≡ is_greedy
 AllowsEmptyRun is_greedy quantifier may_be_empty = ⊥
 
--- The step matches what the atom matches.
+-- The step is the one for this atom: a literal character, a captured run or a captured repeat of a
+-- run.
 abbrev pub IsStepOf : Step → Atom → Type 0
 IsStepOf (Literal c) atom =
     (character : Character) × (character_of character ≡ c) × (atom ≡ dialect.Literal character)
@@ -87,43 +89,46 @@ IsStepOf (GreedyRun run) atom =
 IsStepOf (RepeatedLiteral copies) atom = ⊥
 IsStepOf (Segments segments) atom = ⊥
 
--- The text spells an atom of the step.
+-- The text is the spelling of an atom that has this step.
 abbrev pub SpellsStep : Step → List ℕ → Type 0
 SpellsStep step text = (atom : Atom) × IsAtom atom × IsStepOf step atom × (text ≡ atom_text atom)
 
--- The text begins with the body of a capturing group of this step, followed by `rest`.
+-- The text begins with the body of a capturing group that has this step, followed by `rest`.
 abbrev pub BeginsWithCaptured : (text : List ℕ) → Step → (rest : List ℕ) → Type 0
 BeginsWithCaptured text step rest =
     (items : Items) × AreItems items
     × IsStepOf step (Captured items)
     × (text ≡ items_text items ++ rest)
 
--- Each body of a capturing group that the text begins with is read.
+-- If the text begins with the body of a capturing group that has a step, `read` is the step and the
+-- text after the body.
 abbrev pub ReadsCaptured : (text : List ℕ) → Option (Step × Bor (List ℕ)) → Type 0
 ReadsCaptured text read =
     (step : Step) (rest : List ℕ) → BeginsWithCaptured text step rest → IsRead read step rest
 
--- Each run that the text begins with is read.
+-- If the text begins with a run, `read` is the step that captures the run and the text after it.
 abbrev pub ReadsRuns : (text : List ℕ) → Option (Step × Bor (List ℕ)) → Type 0
 ReadsRuns text read =
     (end : ℕ) (is_greedy : Bool) (step : Step) (rest : List ℕ) → IsRunStep end is_greedy step
     → BeginsWithCaptured text step rest → IsRead read step rest
 
--- The step is that of a quantified group with the run as its body.
+-- `step` captures a repeat of the run that `run` captures: a group of its items under the
+-- quantifier, which may follow such a group.
 abbrev pub IsRepeatOf : (run : Step) → Quantifier → (step : Step) → Type 0
 IsRepeatOf run quantifier step =
     (items : Items) → IsStepOf run (Captured items)
     → AllowsGroups quantifier (group_count items)
     × IsStepOf step (Captured (Item (Grouped items) quantifier Nothing))
 
--- `made` is the step of a quantified group with the run as its body, for each kind of run.
+-- If `run` is the step of a run that the quantifier repeats, `made` is the greedy run of the
+-- repeat.
 abbrev pub RepeatsRuns : (run : Step) → Quantifier → (made : Option Step) → Type 0
 RepeatsRuns run quantifier made =
     (end : ℕ) (is_greedy may_be_empty : Bool) → IsRunStep end is_greedy run
     → AllowsEmptyRun is_greedy quantifier may_be_empty
     → made ≡ Some (GreedyRun (record { end = end; may_be_empty = may_be_empty }))
 
--- The quantifier of a group.
+-- The quantifier, in the dialect's definitions, of a `GroupQuantifier`.
 abbrev pub quantifier_of : GroupQuantifier → Quantifier
 quantifier_of times.Once = dialect.Once
 quantifier_of times.Optional = dialect.Optional
@@ -134,14 +139,14 @@ quantifier_of times.OneOrMore = dialect.OneOrMore
 abbrev pub group_quantifier_text : GroupQuantifier → List ℕ
 group_quantifier_text times = quantifier_text (quantifier_of times)
 
--- The text begins separated runs: the first run and its closing parenthesis, up to the separator.
+-- The text is the beginning of separated runs up to the separator: `((?:`, a run and `)(?:`.
 abbrev pub BeginsSegments : (end : ℕ) → (is_greedy : Bool) → (text : List ℕ) → Type 0
 BeginsSegments end is_greedy text =
     (items : Items) × AreItems items
     × IsRunOf end is_greedy items
     × (text ≡ codes "((?:" ++ (items_text items ++ codes ")(?:"))
 
--- The text spells the token.
+-- The text is a spelling of the token.
 abbrev pub IsToken : StepToken → List ℕ → Type 0
 IsToken Open text = text ≡ codes "(?:"
 IsToken (Close times) text = text ≡ codes ")" ++ group_quantifier_text times
@@ -157,14 +162,15 @@ abbrev pub BeginsWithRegexpToken : (text : List ℕ) → StepToken → (rest : L
 BeginsWithRegexpToken text token rest =
     (front : List ℕ) × IsToken token front × (text ≡ front ++ rest)
 
--- Each token that the text begins with is read, if no quantifier follows it.
+-- If the text begins with a token that no quantifier follows, `read` is the token and the text
+-- after it.
 abbrev pub ReadsRegexpTokens : (text : List ℕ) → Option (StepToken × Bor (List ℕ)) → Type 0
 ReadsRegexpTokens text read =
     (token : StepToken) (rest : List ℕ) → BeginsWithRegexpToken text token rest
     → IsUnquantified rest
     → IsRead read token rest
 
--- Each first of separated runs that the text begins with is read.
+-- If the text begins with a token `FirstSegment`, `read` is the token and the text after it.
 abbrev pub ReadsFirstSegments : (text : List ℕ) → Option (StepToken × Bor (List ℕ)) → Type 0
 ReadsFirstSegments text read =
     (end : ℕ) (is_greedy : Bool) (rest : List ℕ)
@@ -173,19 +179,21 @@ ReadsFirstSegments text read =
 
 -- ---- groups
 
+-- Each step is a literal character.
 abbrev pub AreLiterals : List Step → Type 0
 AreLiterals [] = Unit {0}
 AreLiterals (Literal c ∷ steps) = AreLiterals steps
 AreLiterals (step ∷ steps) = ⊥
 
--- The steps are literal and spell the text.
-abbrev pub MakeUp : List Step → LiteralString → Type 0
-MakeUp steps text =
+-- The steps are literals and spell `text`: its first character, then as many as `text` has others.
+abbrev pub SpellLiteral : List Step → LiteralString → Type 0
+SpellLiteral steps text =
     (others : List Step) × (steps ≡ Literal text.first ∷ others)
     × AreLiterals others
     × (text.others ≡ length others)
 
--- `group` is the repeat of the literal that the steps spell.
+-- The steps `own` spell a literal, and the steps `group` are for a greedy repeat of that literal:
+-- any number of copies if `allows_zero`, otherwise one or more.
 abbrev pub AreCopySteps : (allows_zero : Bool) → (own group : List Step) → Type 0
 AreCopySteps allows_zero own group =
     (c : ℕ) × (others : List Step) × (own ≡ Literal c ∷ others) × AreLiterals others
@@ -194,7 +202,8 @@ AreCopySteps allows_zero own group =
     (record { text = record { first = c; others = length others }; allows_zero = allows_zero })
     ∷ others)
 
--- The steps of a quantified group, by the steps of its body, which is not empty.
+-- `group` has the steps of a quantified group whose body has the steps `own`, at least one. Under
+-- `*` and `+`, the body has to be a literal.
 abbrev pub IsSomeGroup : GroupQuantifier → (own group : List Step) → Type 0
 IsSomeGroup times.Once own group = group ≡ own
 IsSomeGroup times.Optional own group =
@@ -202,11 +211,13 @@ IsSomeGroup times.Optional own group =
 IsSomeGroup times.ZeroOrMore own group = AreCopySteps true own group
 IsSomeGroup times.OneOrMore own group = AreCopySteps false own group
 
--- The steps of a quantified group, by the steps of its body; none if the body is empty.
+-- `group` has the steps of a quantified group whose body has the steps `own`; an empty body may
+-- have no steps in its group.
 abbrev pub IsStepGroup : GroupQuantifier → (own group : List Step) → Type 0
 IsStepGroup times own group = ((own ≡ []) × (group ≡ [])) ⊎ IsSomeGroup times own group
 
--- The steps from `first` on were replaced by a group of them.
+-- From `old` to `new`, the steps from index `first` on are replaced by those of a group. `Is` holds
+-- of the replaced steps and those of the group.
 abbrev pub AreGrouped : (Is : (own group : List Step) → Type 0) → (first : ℕ)
     → (old new : Vec Step Global) → Type 0
 AreGrouped Is first old new =
@@ -215,11 +226,12 @@ AreGrouped Is first old new =
 
 -- ---- segments
 
--- The spelling of the characters in turn.
+-- The spellings of the characters, concatenated.
 abbrev pub characters_text : List Character → List ℕ
 characters_text [] = []
 characters_text (character ∷ characters) = character_text character ++ characters_text characters
 
+-- Each character is spelled as it may be outside of a class.
 abbrev pub AreCharacters : List Character → Type 0
 AreCharacters [] = Unit {0}
 AreCharacters (character ∷ characters) = IsCharacter character × AreCharacters characters
@@ -229,7 +241,8 @@ abbrev pub literal_steps : List Character → List Step
 literal_steps [] = []
 literal_steps (character ∷ characters) = Literal (character_of character) ∷ literal_steps characters
 
--- The steps of runs separated by these characters.
+-- `own` has the steps of runs without `end` that are joined by these characters, of which there is
+-- at least one.
 abbrev pub AreSegments : (end : ℕ) → (is_greedy : Bool) → List Character
     → (own : List Step) → Type 0
 AreSegments end is_greedy characters own =
@@ -242,25 +255,29 @@ AreSegments end is_greedy characters own =
     })
     ∷ others)
 
--- The last of separated runs, the closing parentheses, and the rest.
-abbrev pub last_text : Items → (rest : List ℕ) → List ℕ
-last_text items rest = codes "(?:" ++ (items_text items ++ (codes "))*)" ++ rest))
+-- The text of separated runs, `((?:RUN)(?:SEPARATOR(?:RUN))*)`, after the separator: `(?:`, the
+-- last run, which has these items, and `))*)`. `rest` follows.
+abbrev pub last_run_text : Items → (rest : List ℕ) → List ℕ
+last_run_text items rest = codes "(?:" ++ (items_text items ++ (codes "))*)" ++ rest))
 
--- The text begins with the last of separated runs and the closing parentheses, followed by `rest`.
-abbrev pub ClosesSegments : (end : ℕ) → (is_greedy : Bool) → (text rest : List ℕ) → Type 0
-ClosesSegments end is_greedy text rest =
-    (items : Items) × AreItems items × IsRunOf end is_greedy items × (text ≡ last_text items rest)
+-- The text begins with what follows the separator of separated runs, as `last_run_text` says, for a
+-- run without `end`. `rest` comes after it.
+abbrev pub BeginsLastRun : (end : ℕ) → (is_greedy : Bool) → (text rest : List ℕ) → Type 0
+BeginsLastRun end is_greedy text rest =
+    (items : Items) × AreItems items
+    × IsRunOf end is_greedy items
+    × (text ≡ last_run_text items rest)
 
--- `read` has each rest that follows a last run and the closing parentheses at the start of the
--- text.
+-- If the text begins with what follows the separator of separated runs, as `last_run_text` says,
+-- for a run without `end`, `read` is the text after it.
 abbrev pub ReadsLast : (end : ℕ) → (is_greedy : Bool) → (text : List ℕ) → Option (Bor (List ℕ))
     → Type 0
 ReadsLast end is_greedy text read =
     (items : Items) (rest : List ℕ) → AreItems items → IsRunOf end is_greedy items
-    → text ≡ last_text items rest → IsLeft read rest
+    → text ≡ last_run_text items rest → IsLeft read rest
 
--- The text begins with the remainder of separated runs with these steps, followed by `rest`: the
--- separator, the last run and the closing parentheses.
+-- The text begins with the remainder of separated runs, whose steps are `own`, followed by `rest`.
+-- The remainder is the separator and what `last_run_text` says of the last run.
 abbrev pub EndsSegments : (end : ℕ) → (is_greedy : Bool) → (own : List Step) → (text rest : List ℕ)
     → Type 0
 EndsSegments end is_greedy own text rest =
@@ -269,9 +286,10 @@ EndsSegments end is_greedy own text rest =
     × AreItems items
     × IsRunOf end is_greedy items
     × AreSegments end is_greedy characters own
-    × (text ≡ characters_text characters ++ last_text items rest)
+    × (text ≡ characters_text characters ++ last_run_text items rest)
 
--- If a rest is left, the steps of the separated runs before it were added.
+-- If `left` is a text, it follows in `text` the remainder of separated runs, as `EndsSegments`
+-- says, and `new` has the steps of the runs after those of `old`.
 abbrev pub AddsSegments : (end : ℕ) → (is_greedy : Bool)
     → (old new : Vec Step Global) → (text : List ℕ) → (left : Option (Bor (List ℕ))) → Type 0
 AddsSegments end is_greedy old new text left =
@@ -279,7 +297,8 @@ AddsSegments end is_greedy old new text left =
     (own : List Step) × EndsSegments end is_greedy own text (chars rest.now)
     × (new.items ≡ old.items ++ own))
 
--- `read` has each rest that follows a remainder of separated runs at the start of the text.
+-- If the text begins with the remainder of separated runs, as `EndsSegments` says, `read` is the
+-- text after it.
 abbrev pub ReadsSegments : (end : ℕ) → (is_greedy : Bool) → (text : List ℕ) → Option (Bor (List ℕ))
     → Type 0
 ReadsSegments end is_greedy text read =
@@ -287,8 +306,8 @@ ReadsSegments end is_greedy text read =
 
 -- ---- expressions
 
--- The text is an expression of the dialect, and on each text the steps capture what a backtracking
--- engine finds first, whether case is ignored or not.
+-- `regexp` is an expression of the dialect, and on each text `steps` capture what a backtracking
+-- engine finds first for it, whether case is ignored or not.
 pub record AreStepsOf (regexp : List ℕ) (steps : List Step) : Type 0 where
   pub tree : Items
   pub is_tree : IsTreeOf regexp tree

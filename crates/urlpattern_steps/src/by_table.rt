@@ -6,18 +6,19 @@ ghost use Rattle.urlpattern_meaning.specs.CaptureTexts.{captures_view};
 ghost use Rattle.urlpattern_steps.specs.FailedStates.{EndsWith};
 ghost use Rattle.urlpattern_steps.specs.Walk.{walk};
 ghost use Rattle.urlpattern_steps.specs.Table.{following, is_capture, IsRow, IsSingle};
-ghost use Rattle.urlpattern_steps.specs.Taken.{LeavesChosen, LeavesFollowing};
+ghost use Rattle.urlpattern_steps.specs.AddedCaptures.{LeavesChosen, LeavesFollowing};
 
-use crate::end_table::{is_taken, row_for, rows_of};
 use crate::prefixes::{following, is_capture, matched_prefix};
-use crate::repeats::pass;
+use crate::repeats::skip_steps;
 use crate::step::{Group, Step};
+use crate::suffix_table::{does_match, row_for, rows_of};
 use crate::text_cuts::split_at_boundary;
 use crate::walk::push_unmatched;
 use std::alloc::Global;
 use urlpattern_syntax::error::OutOfMemory;
 
-/// Returns the captures of the steps, if they match the whole text. `None`: no match.
+/// Returns the captures of the steps, if they match the whole text. A capture in an optional group
+/// that does not match is `None`. `None` instead of captures: no match.
 ///
 /// No choice is tried: a table has the suffixes of the text that each suffix of the steps matches.
 pub fn walk_by_table<'t>(
@@ -69,8 +70,9 @@ pub fn walk_by_table<'t>(
     }
 }
 
-/// Returns the steps to match next: those of an optional group, if they and the steps after them
-/// match the text, and otherwise the steps after the group, whose captures are added as `None`.
+/// Returns the steps to match next: `others`, which begin with the steps of an optional group, if
+/// by their row they match `text`; otherwise the steps after the group, whose captures are added as
+/// `None`.
 fn choose_group<'s>(
     captures: &mut Vec<Option<&str>>,
     rows: &[Vec<bool>],
@@ -82,17 +84,19 @@ fn choose_group<'s>(
         LeavesChosen rows.now captures.old captures.new group others.now text.now left.now) }
     ensures end { IfOk result (λ left. EndsWith others.now left.now) }
 {
-    if is_taken(rows, others, text) {
+    if does_match(rows, others, text) {
         return Ok(others);
     }
     push_unmatched(captures, group.captures)?;
-    Ok(pass(others, group.steps))
+    Ok(skip_steps(others, group.steps))
 }
 
-/// Matches a step and returns the rest of the text. If the step captures, its prefix is added.
-/// `None`: the step and the others do not match the text.
+/// Matches `step`, which is not an optional group, with the preferred prefix of `text` after which
+/// the steps that follow match the rest, and returns the rest. If the step captures, the prefix is
+/// added to the captures. `None`: `step` and `others` do not match `text`.
 ///
-/// `row` is the row of the steps after those of `step`.
+/// `row` says for each suffix of `text`, from the shortest, whether the steps that `following`
+/// returns match it.
 fn match_prefix<'t>(
     alloc: Global,
     captures: &mut Vec<Option<&'t str>>,
@@ -119,7 +123,7 @@ fn match_prefix<'t>(
     Ok(Some(rest))
 }
 
-/// Adds the prefix to the captures, if the step captures.
+/// Adds `front`, the prefix that the step matches, to the captures, if the step captures.
 fn push_prefix<'t>(
     captures: &mut Vec<Option<&'t str>>,
     step: Step,

@@ -10,7 +10,8 @@ use std::marker::Model;
 
 /// Failed states of a match, memoized: remaining steps that do not match the remaining text.
 ///
-/// In contracts the value is the match alone. Memoized states change no result, only the time.
+/// In contracts the value is only the match: its steps, its text and whether case is ignored.
+/// Memoized states change no result, only the time.
 #[derive(Drop)]
 pub struct FailedStates<'s, 't> {
     ignore_case: bool,
@@ -42,19 +43,20 @@ impl<'s, 't> Model for FailedStates<'s, 't> {
 }
 
 impl<'s, 't> FailedStates<'s, 't> {
-    /// Creates a memo without states, with room for all of them if `has_room`.
+    /// Creates a memo without states. If `is_memoizing`, all states of a match of `steps` and
+    /// `text` can be memoized, otherwise none.
     pub fn new(
         alloc: Global,
         steps: &'s [Step],
         ignore_case: bool,
         text: &'t str,
-        has_room: bool,
+        is_memoizing: bool,
     ) -> Result<Self, AllocError>
         ensures { IfOk result (λ failed.
             failed
             ≡ record { ignore_case = ignore_case; steps = steps.now; text = chars text.now }) }
     {
-        let count = if has_room { words(steps, text) } else { 0 };
+        let count = if is_memoizing { words(steps, text) } else { 0 };
         Ok(FailedStates {
             ignore_case,
             steps,
@@ -64,15 +66,15 @@ impl<'s, 't> FailedStates<'s, 't> {
     }
 
     /// Whether states are memoized.
-    pub fn has_room(&self) -> bool {
+    pub fn is_memoizing(&self) -> bool {
         !self.bits.is_empty()
     }
 
-    /// Whether the state is memoized as failed.
+    /// Whether the state with these remaining steps and this remaining text is memoized as failed.
     pub fn contains(&self, steps: &[Step], text: &str) -> bool
         ensures { HoldsOnlyFailed self.now steps.now (chars text.now) result }
     {
-        if !self.has_room() {
+        if !self.is_memoizing() {
             return false;
         }
         match bit_of(self.text, steps, text) {
@@ -81,12 +83,12 @@ impl<'s, 't> FailedStates<'s, 't> {
         }
     }
 
-    /// Memoizes a failed state, if there is room.
+    /// Memoizes that the remaining steps do not match the remaining text, if states are memoized.
     pub fn insert(&mut self, steps: &[Step], text: &str)
         requires { IsFailedState self.old steps.now (chars text.now) }
         ensures { self.new ≡ self.old }
     {
-        if !self.has_room() {
+        if !self.is_memoizing() {
             return;
         }
         if let Some(bit) = bit_of(self.text, steps, text) {
@@ -95,7 +97,8 @@ impl<'s, 't> FailedStates<'s, 't> {
     }
 }
 
-/// The index of the bit of a state.
+/// The index of the bit of the state with these remaining steps and this remaining text, in a match
+/// of the text `whole`. `None`: the index overflows.
 fn bit_of(whole: &str, steps: &[Step], text: &str) -> Option<usize>
     ensures { IfSome result (λ bit. bit ≡ bit_of (chars whole.now) steps.now (chars text.now)) }
 {
@@ -103,13 +106,14 @@ fn bit_of(whole: &str, steps: &[Step], text: &str) -> Option<usize>
     row.checked_add(text.len())
 }
 
-/// The number of words that have a bit for each state.
+/// The number of 64-bit words that have a bit for each state of a match of `steps` and `text`, up
+/// to overflow.
 fn words(steps: &[Step], text: &str) -> usize {
     let rows = steps.len().saturating_add(1);
     rows.saturating_mul(text.len().saturating_add(1)) / 64 + 1
 }
 
-/// Whether the bit is set.
+/// Whether the bit with this index is set. `false` if it is out of range.
 fn has_bit(bits: &[u64], bit: usize) -> bool
     ensures { IsTrue result → HasBit bits.now bit }
 {
@@ -117,7 +121,7 @@ fn has_bit(bits: &[u64], bit: usize) -> bool
     word < bits.len() && (bits[word] >> (bit % 64)) & 1 == 1
 }
 
-/// Sets the bit, if it is in range.
+/// Sets the bit with this index, if it is in range.
 fn set_bit(bits: &mut [u64], bit: usize)
     ensures { (other : ℕ) → HasBit bits.new other → HasBit bits.old other ⊎ (other ≡ bit) }
 {

@@ -1,30 +1,34 @@
-//! The prefix of a text that a step matches, found from the end of the text on.
+//! The prefix of a text that a step matches, found from the end of the text to its start.
 
 ghost use Rattle.std.specs.Prelude.{◌≡◌, ◌∷◌, Option, Some, None, length, option_map, take, IfOk, if◌then◌else◌};
 ghost use Rattle.std.specs.Str.{chars};
 ghost use Rattle.urlpattern_steps.specs.Walk.{literals};
-ghost use Rattle.urlpattern_steps.specs.Table.{begun_of, run_end, following, has, later_of, own_count, literal_string_of, whole_of, is_capture, IsEntryAfter, IsRow, IsSingle};
-ghost use Rattle.urlpattern_steps.specs.Taken.{IsEndOfPrefix};
+ghost use Rattle.urlpattern_steps.specs.Table.{result_after_literal, run_end, following, has, result_within_run, own_count, literal_string_of, result_at_start, is_capture, IsEntryAfter, IsRow, IsSingle};
+ghost use Rattle.urlpattern_steps.specs.AddedCaptures.{IsEndOfPrefix};
 
-use crate::repeats::{end_if_continued, ends, entry_after_literal, first_steps, pass};
+use crate::repeats::{choose_ends, end_if_continued, entry_after_literal, first_steps, skip_steps};
 use crate::step::{LiteralString, Step};
 use crate::text_cuts::{after_prefix, without_last};
 use std::alloc::Global;
 use urlpattern_syntax::error::OutOfMemory;
 
-/// The row of a step and the others, and the prefix that the step matches.
+/// The prefix of a text that a step matches, and which suffixes of the text the step matches
+/// together with the steps after it.
 #[derive(Drop)]
 pub struct MatchedPrefix {
-    /// For each suffix of the text, from the shortest, whether the steps match it.
+    /// For each suffix of the text, from the shortest, whether the step and the steps after it
+    /// match the suffix.
     pub row: Vec<bool>,
-    /// The length in bytes of the prefix that the step matches. `None`: the steps do not match the
-    /// text.
+    /// The length in bytes of the prefix that the step matches. `None`: the step and the steps
+    /// after it do not match the text.
     pub end: Option<usize>,
 }
 
-/// Finds the preferred prefix that `step` matches and after which the other steps match the rest.
+/// Finds the preferred prefix of `text` that `step` matches and after which the steps that follow
+/// match the rest.
 ///
-/// `row_after` is the row of the steps after those of `step`.
+/// `others` are the steps after `step`, which is not an optional group. `row_after` says for each
+/// suffix of `text`, from the shortest, whether the steps that `following` returns match it.
 pub fn matched_prefix(
     alloc: Global,
     step: Step,
@@ -65,7 +69,8 @@ pub fn matched_prefix(
     }
 }
 
-/// The literal that a step matches, repeats, or has as a separator.
+/// The literal that a step matches, repeats, or has as a separator. `None`: the step has no
+/// literal.
 fn literal_string_of(step: Step) -> Option<LiteralString>
     ensures { result ≡ literal_string_of step }
 {
@@ -80,7 +85,7 @@ fn literal_string_of(step: Step) -> Option<LiteralString>
     }
 }
 
-/// The number of following steps that belong to the literal of a step.
+/// The number of steps after `step` that have the characters of its literal after the first.
 fn own_count(step: Step) -> usize
     ensures { result ≡ own_count (literal_string_of step) }
 {
@@ -90,21 +95,23 @@ fn own_count(step: Step) -> usize
     }
 }
 
-/// The following steps that belong to the literal of a step.
+/// The steps in `others`, which come after `step`, that have the characters of its literal after
+/// the first.
 fn own_steps(step: Step, others: &[Step]) -> &[Step]
     ensures { result.now ≡ take (own_count (literal_string_of step)) others.now }
 {
     first_steps(others, own_count(step))
 }
 
-/// The steps after a step and the steps of its literal.
+/// The steps in `others`, which come after `step`, without those that have the characters of its
+/// literal after the first.
 pub fn following(step: Step, others: &[Step]) -> &[Step]
     ensures { result.now ≡ following step others.now }
 {
-    pass(others, own_count(step))
+    skip_steps(others, own_count(step))
 }
 
-/// The character that ends a run of the step.
+/// The character that ends a run of the step; a line feed if the step has no run.
 fn end_of(step: Step) -> char
     ensures { result ≡ run_end step }
 {
@@ -117,7 +124,7 @@ fn end_of(step: Step) -> char
     }
 }
 
-/// Whether a step captures.
+/// Whether the step itself captures. An `OptionalGroup` does not; the steps of its group may.
 pub fn is_capture(step: Step) -> bool
     ensures { result ≡ is_capture step }
 {
@@ -127,10 +134,12 @@ pub fn is_capture(step: Step) -> bool
     }
 }
 
-/// Looks up the rest of the text after the literal of a step. `None`: the text does not begin with
-/// the literal, or the entry is `None`.
+/// Returns the entry for the rest of `text` after a literal: the first character of
+/// `literal_string`, then the character of each literal step in `literal`. `None`: there is no
+/// literal, `text` does not begin with it, or the entry is `None`.
 ///
-/// `entries` has an entry for each shorter suffix of the text, from the shortest.
+/// `entries` has an entry for each suffix that is shorter than `text`, from the shortest: where the
+/// step ends, in bytes, if a literal of the step ends before the suffix.
 fn entry_after(
     entries: &[Option<usize>],
     literal_string: Option<LiteralString>,
@@ -149,40 +158,45 @@ fn entry_after(
     }
 }
 
-/// Returns `here`, if the row has the suffix of `rest` characters.
+/// Returns `here`, where the step would end, in bytes, if `row` says that the steps after it match
+/// the suffix of `rest` characters. Otherwise `None`.
 fn end_here(row: &[bool], rest: usize, here: usize) -> Option<usize>
     ensures { result ≡ (if has row.now rest then Some here else None) }
 {
     if has(row, rest) { Some(here) } else { None }
 }
 
-/// Whether the row has the suffix of `count` characters.
+/// Whether `row` says that its steps match the suffix of `count` characters: a row says so of each
+/// suffix of a text, from the shortest. `false` if the row is too short.
 pub fn has(row: &[bool], count: usize) -> bool
     ensures { result ≡ has row.now count }
 {
     match row.get(count) {
-        Some(is_taken) => *is_taken,
+        Some(does_match) => *does_match,
         None => false,
     }
 }
 
-/// The end of the prefix that a step matches, by the state of the step.
+/// Where the prefix that a step matches ends, in bytes, seen from one place in the text, for each
+/// state in which the step may be at the place. `None`: the step cannot be in that state, or no
+/// match follows.
 #[derive(Clone, Copy)]
 struct Ends {
-    /// After the literal of the step.
+    /// The end, if a literal of the step ends at the place.
     begun: Option<usize>,
-    /// Within a run.
+    /// The end, if a run of the step has begun before the place.
     later: Option<usize>,
-    /// At the beginning of the step.
+    /// The end, if the step begins at the place.
     whole: Option<usize>,
 }
 
-/// The ends, from the end after the literal of the step, the end at this place, and the end if a
-/// run continues.
+/// Chooses the ends, seen from one place in the text. `next` is the end if the literal of the step
+/// follows, `here` the place itself if the steps after `step` match the rest, and `onward` the end
+/// if a run consumes the next character.
 fn ends_of(step: Step, next: Option<usize>, here: Option<usize>, onward: Option<usize>) -> Ends
-    ensures begun { result.begun ≡ begun_of step next here onward }
-    ensures later { result.later ≡ later_of step next here onward }
-    ensures whole { result.whole ≡ whole_of step next here onward }
+    ensures begun { result.begun ≡ result_after_literal step next here onward }
+    ensures later { result.later ≡ result_within_run step next here onward }
+    ensures whole { result.whole ≡ result_at_start step next here onward }
 {
     let stopping = next.or(here);
     let (begun, later, whole) = match step {
@@ -194,7 +208,7 @@ fn ends_of(step: Step, next: Option<usize>, here: Option<usize>, onward: Option<
         Step::RepeatedLiteral(copies) if copies.allows_zero => (stopping, None, stopping),
         Step::RepeatedLiteral(_) => (stopping, None, next),
         Step::Segments(segments) => {
-            let (whole, later) = ends(segments.is_greedy, onward, stopping);
+            let (whole, later) = choose_ends(segments.is_greedy, onward, stopping);
             (whole, later, whole)
         }
         Step::OptionalGroup(_) => (None, None, None),

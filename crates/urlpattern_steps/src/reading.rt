@@ -3,7 +3,7 @@
 ghost use Rattle.std.specs.Prelude.{◌≡◌, ◌↔◌, ◌∷◌, ℕ, ◌<◌, ◌≤◌, List, length, drop, codes, IfNone, IfOk, IfSome, IsTrue};
 ghost use Rattle.std.specs.Str.{chars};
 ghost use Rattle.urlpattern_meaning.specs.GeneratedTexts.{IsGenerated};
-ghost use Rattle.urlpattern_steps.specs.ReadSteps.{AddsSegments, AreCopySteps, AreGrouped, AreLiterals, AreStepsOf, ClosesSegments, IsStepGroup, MakeUp, ReadsLast, ReadsSegments};
+ghost use Rattle.urlpattern_steps.specs.ReadSteps.{AddsSegments, AreCopySteps, AreGrouped, AreLiterals, AreStepsOf, BeginsLastRun, IsStepGroup, ReadsLast, ReadsSegments, SpellLiteral};
 ghost use Rattle.urlpattern_steps.specs.Walk.{capture_count};
 
 use crate::step::{Group, LiteralString, RepeatedLiteral, Segments, Step};
@@ -14,8 +14,8 @@ use crate::step_tokens::{
 use crate::text_cuts::after;
 use std::alloc::{AllocError, Global};
 
-/// Parses an expression into steps. `None`: the expression is not generated from parts without
-/// custom expressions.
+/// Parses `regexp` into steps that capture what a backtracking engine finds first. `None`: `regexp`
+/// cannot be parsed into steps, as each expression that parts without custom ones generate can.
 pub fn read_steps(alloc: Global, regexp: &str) -> Result<Option<Vec<Step>>, AllocError>
     ensures steps { IfOk result (λ read. IfSome read (λ steps.
         AreStepsOf (chars regexp.now) steps.items)) }
@@ -63,8 +63,9 @@ pub fn read_steps(alloc: Global, regexp: &str) -> Result<Option<Vec<Step>>, Allo
     }
 }
 
-/// Applies a quantifier to the group of the steps from `first` on; an empty group stays empty.
-/// Returns whether steps can express the quantified group.
+/// Replaces the steps from index `first` on, the body of a non-capturing group, by the steps of the
+/// group with its quantifier `times`; an empty body stays empty. `false`: no steps express the
+/// quantified group.
 fn close_group(
     steps: &mut Vec<Step>,
     first: usize,
@@ -92,8 +93,9 @@ fn close_group(
     }
 }
 
-/// Turns the steps from `first` on into a repeated literal. Returns whether they are one or more
-/// literals.
+/// Replaces the steps from index `first` on, which spell a literal, by a greedy repeat of the
+/// literal: `*` if `allows_zero`, otherwise `+`. `false`: some step there is not literal, or there
+/// are none.
 fn close_copies(steps: &mut Vec<Step>, first: usize, allows_zero: bool) -> bool
     requires { first ≤ length steps.old.items }
     ensures group { IsTrue result
@@ -108,9 +110,10 @@ fn close_copies(steps: &mut Vec<Step>, first: usize, allows_zero: bool) -> bool
     true
 }
 
-/// The literal that the steps spell. `None`: some step is not literal, or there are no steps.
+/// The literal that the steps spell, a character each. `None`: some step is not literal, or there
+/// are no steps.
 fn literal_string_of(steps: &[Step]) -> Option<LiteralString>
-    ensures text { IfSome result (λ text. MakeUp steps.now text) }
+    ensures text { IfSome result (λ text. SpellLiteral steps.now text) }
     ensures other { IfNone result ((first : ℕ) (others : List Step)
         → steps.now ≡ Step.Literal first ∷ others
         → ¬ AreLiterals others) }
@@ -124,7 +127,7 @@ fn literal_string_of(steps: &[Step]) -> Option<LiteralString>
     }
 }
 
-/// Whether each of the steps is literal.
+/// Whether each step is a `Step::Literal`.
 fn are_literals(steps: &[Step]) -> bool
     ensures { IsTrue result ↔ AreLiterals steps.now }
 {
@@ -138,13 +141,13 @@ fn are_literals(steps: &[Step]) -> bool
     true
 }
 
-/// A group of one step, which captures.
+/// The size of a group of one step, which captures.
 const ONE_CAPTURE: Group = Group {
     steps: 1,
     captures: 1,
 };
 
-/// Counts the steps and those that capture.
+/// The size of a group that has exactly these steps.
 fn counted_group(steps: &[Step]) -> Group
     ensures { result ≡ record { steps = length steps.now; captures = capture_count steps.now } }
 {
@@ -164,7 +167,7 @@ fn counted_group(steps: &[Step]) -> Group
     }
 }
 
-/// Whether the text is exactly `$`.
+/// Whether the text is exactly `$`, which ends an expression.
 fn is_end(text: &str) -> bool
     ensures { IsTrue result ↔ (chars text.now ≡ codes "$") }
 {
@@ -174,8 +177,13 @@ fn is_end(text: &str) -> bool
     }
 }
 
-/// Parses the remainder of separated runs, after the first run, adds their steps and returns the
-/// rest. `None`: the text does not continue separated runs.
+/// Parses the remainder of separated runs, after `((?:`, the first run and `)(?:`: the separator,
+/// `(?:`, the run again and `))*)`. Adds the steps of the separated runs and returns the text after
+/// the remainder. `None`: `text` does not begin with a remainder, and some literal steps may have
+/// been added.
+///
+/// `end` is the character that ends a run, and `is_greedy` whether a run is greedy: those of the
+/// first run, which the last has to have too.
 fn read_segments<'a>(
     steps: &mut Vec<Step>,
     end: char,
@@ -206,10 +214,11 @@ fn read_segments<'a>(
     Ok(Some(remaining))
 }
 
-/// Parses `(?:`, a run of this kind and `))*)`, which end separated runs, and returns the rest.
+/// Returns the text after `(?:`, a run and `))*)`, which end separated runs. `None`: `text` does
+/// not begin with them, or the run has another `end` or `is_greedy`.
 fn read_last_segment(text: &str, end: char, is_greedy: bool) -> Option<&str>
     ensures cut { IfSome result (λ rest.
-        ClosesSegments end is_greedy (chars text.now) (chars rest.now)) }
+        BeginsLastRun end is_greedy (chars text.now) (chars rest.now)) }
     ensures reads { ReadsLast end is_greedy (chars text.now) result }
     ensures len { IfSome result (λ rest. length rest.now < length text.now) }
 {

@@ -1,4 +1,5 @@
-//! Repeated literals, as a first character and literal steps.
+//! Pieces of lists of steps, literals in a text (each a first character and literal steps), and the
+//! ends of runs.
 
 ghost use Rattle.std.specs.Prelude.{◌≡◌, ℕ, suc, ◌<◌, List, length, None, IfNone, IfSome, drop, take, if◌then◌else◌};
 ghost use Rattle.std.specs.Option.{option_or};
@@ -9,22 +10,22 @@ use crate::step::Step;
 use crate::text_cuts::{after_same, is_same, without_last};
 use urlpattern_syntax::text::split_first;
 
-/// The steps after the first `count`, or none if there are fewer.
-pub fn pass(steps: &[Step], count: usize) -> &[Step]
+/// The steps after the first `count`, or no steps if there are fewer.
+pub fn skip_steps(steps: &[Step], count: usize) -> &[Step]
     ensures { result.now ≡ drop count steps.now }
 {
     steps.get(count..).unwrap_or(&[])
 }
 
-/// The first `count` steps, or all if there are fewer.
+/// The first `count` steps, or all steps if there are fewer.
 pub fn first_steps(steps: &[Step], count: usize) -> &[Step]
     ensures { result.now ≡ take count steps.now }
 {
     steps.get(..count).unwrap_or(steps)
 }
 
-/// Strips a literal, `first` and the characters of the literal steps, from the start of a text.
-/// Characters are compared by `is_same`. `None`: the text does not begin with the literal.
+/// Returns the rest of `text` after a literal: `first`, then the character of each literal step in
+/// `literal`. Characters are compared by `is_same`. `None`: `text` does not begin with the literal.
 #[inline(always)]
 pub fn after_literals<'t>(
     text: &'t str,
@@ -52,8 +53,8 @@ pub fn after_literals<'t>(
     Some(rest)
 }
 
-/// Strips all copies of a literal, `first` and the characters of the literal steps, from the start
-/// of a text. Characters are compared by `is_same`.
+/// Returns the rest of `text` after all copies of a literal at its start: `first`, then the
+/// character of each literal step in `literal`. Characters are compared by `is_same`.
 pub fn skip_copies<'t>(text: &'t str, first: char, literal: &[Step], ignore_case: bool) -> &'t str
     ensures front { BeginsWithCopies ignore_case (literal_text first literal.now) (chars text.now)
         (chars result.now) }
@@ -67,8 +68,9 @@ pub fn skip_copies<'t>(text: &'t str, first: char, literal: &[Step], ignore_case
     rest
 }
 
-/// Returns the text without its last characters, one more than there are literal steps. `None`: the
-/// text has fewer characters.
+/// Returns `text` without its last characters, as many as a copy of a literal has: one, and one for
+/// each literal step in `literal`. The characters are not compared. `None`: `text` has fewer
+/// characters.
 pub fn without_copy<'t>(text: &'t str, literal: &[Step]) -> Option<&'t str>
     ensures few { IfNone result (length (chars text.now) < suc (length (literals literal.now))) }
     ensures cut { IfSome result (λ front.
@@ -91,7 +93,7 @@ pub fn without_copy<'t>(text: &'t str, literal: &[Step]) -> Option<&'t str>
     Some(front)
 }
 
-/// Counts the literal steps.
+/// Counts the steps in `literal` that are `Step::Literal`.
 fn literal_count(literal: &[Step]) -> usize
     ensures { result ≡ length (literals literal.now) }
 {
@@ -106,11 +108,12 @@ fn literal_count(literal: &[Step]) -> usize
     count
 }
 
-/// Returns the entry of a table for the rest of the text after a literal: `first`, then the
-/// characters of the literal steps, compared by `is_same`. `None`: the text does not begin with the
+/// Returns the entry of `table` for the rest of `text` after a literal: `first`, then the character
+/// of each literal step in `literal`, compared by `is_same`. `None`: `text` does not begin with the
 /// literal, or the entry is `None`.
 ///
-/// `table` has an entry for each suffix that is shorter than the text, the empty one first.
+/// `table` has an entry for each suffix that is shorter than `text`, the empty one first: where a
+/// step ends, in bytes, if a literal of the step ends before the suffix.
 pub fn entry_after_literal(
     table: &[Option<usize>],
     first: char,
@@ -135,8 +138,9 @@ pub fn entry_after_literal(
     }
 }
 
-/// Returns `later`, the end of a run that continues with the first character of the text. `None`:
-/// the run cannot continue.
+/// Returns the end of a run that continues with the first character of `text`: `later`, its end as
+/// found from the next character on. `None`: `text` is empty or begins with `end`, or `later` is
+/// `None`.
 pub fn end_if_continued(
     text: &str,
     end: char,
@@ -151,9 +155,12 @@ pub fn end_if_continued(
     }
 }
 
-/// Returns where separated runs end if a run begins here, and if a run from before may end here.
-/// `onward` is their end if the run continues here, and `stopping` their end if it stops here.
-pub fn ends(
+/// Chooses the end of separated runs, seen from one place in the text. `onward` is the end if the
+/// run consumes the next character, `stopping` the end if the run stops at the place. Returns the
+/// end for a run that begins at the place, and the end for a run that began before.
+///
+/// Greedy runs prefer `onward` and may be empty; lazy runs prefer `stopping` and are not empty.
+pub fn choose_ends(
     is_greedy: bool,
     onward: Option<usize>,
     stopping: Option<usize>,

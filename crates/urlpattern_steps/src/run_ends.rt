@@ -1,4 +1,4 @@
-//! Runs of characters in a match.
+//! Where runs of characters end in a match.
 
 ghost use Rattle.std.specs.Prelude.{◌≡◌, ◌∷◌, ◌<◌, false, List, length, None, IfNone, IfSome, IsTrue};
 ghost use Rattle.std.specs.Str.{chars};
@@ -13,15 +13,19 @@ use crate::stops::begin_only_with;
 use crate::text_cuts::is_same;
 use urlpattern_syntax::text::{before, split_first};
 
-/// Whether a run before these steps can end only at `end`, and failed states are not memoized.
+/// Whether a run without `end`, followed by these steps, is known to end only at the first `end` or
+/// at the end of the text, in a match without memoization. `false` decides nothing.
 pub fn has_one_end(failed: &FailedStates<'_, '_>, steps: &[Step], end: char) -> bool
     ensures { IsTrue result → BeginOnlyWith end steps.now }
 {
-    !failed.has_room() && begin_only_with(steps, end)
+    !failed.is_memoizing() && begin_only_with(steps, end)
 }
 
-/// Returns the next character of a run, the first of the steps, and the rest. `None`: the run has
-/// ended, or its state is memoized as failed.
+/// Returns the character with which a run continues, the first in `text`, and the rest. `None`: the
+/// text is empty or begins with `end`, or the state of the steps and the text is memoized as
+/// failed.
+///
+/// The run is the first of the steps.
 #[inline(always)]
 pub fn next_of_run<'t>(
     failed: &FailedStates<'_, '_>,
@@ -47,8 +51,10 @@ pub fn next_of_run<'t>(
     }
 }
 
-/// Returns the longest prefix for a run, the first of the steps, or a shorter one after which the
-/// state of the run is memoized as failed.
+/// Returns the longest prefix of `text` without a line feed, or a shorter one, up to the first
+/// place where the state of the steps is memoized as failed.
+///
+/// The first of the steps is a run without a line feed.
 pub fn longest_prefix<'t>(
     failed: &FailedStates<'_, '_>,
     ignore_case: bool,
@@ -65,7 +71,11 @@ pub fn longest_prefix<'t>(
     before(text, rest)
 }
 
-/// Memoizes as failed each state of a run, the first of the steps, from `text` on.
+/// Memoizes that the steps, which do not match `text`, fail before each character of the run that
+/// `text` begins with, up to the first place that is memoized already. Does nothing if no states
+/// are memoized.
+///
+/// The first of the steps is a lazy run without `end`.
 pub fn memoize_run(
     failed: &mut FailedStates<'_, '_>,
     ignore_case: bool,
@@ -78,7 +88,7 @@ pub fn memoize_run(
     requires dead { walk ignore_case steps.now (chars text.now) ≡ None }
     ensures { failed.new ≡ failed.old }
 {
-    if !failed.has_room() {
+    if !failed.is_memoizing() {
         return;
     }
     let mut rest = text;

@@ -5,16 +5,16 @@
 pub enum Step {
     /// A literal character.
     Literal(char),
-    /// A captured lazy repeat: one or more characters other than the given one, as few as possible.
+    /// A captured lazy run: one or more characters other than the given one, which ends the run, as
+    /// few as possible.
     LazyRun(char),
-    /// A captured greedy repeat: any number of characters other than a line feed, as many as
-    /// possible.
+    /// A captured greedy run: any number of characters other than a line feed, as many as possible.
     DotStar,
-    /// An optional group, whose steps come next.
+    /// An optional group, greedy. The steps of the group are the next ones in the list.
     OptionalGroup(Group),
-    /// A captured greedy run of characters.
+    /// A captured greedy run: characters other than the `end` of the run, as many as possible.
     GreedyRun(Run),
-    /// A greedy repeat of a literal.
+    /// A greedy repeat of a literal: as many copies as possible.
     RepeatedLiteral(RepeatedLiteral),
     /// Runs of characters joined by a separator, captured as a whole, as many as possible.
     Segments(Segments),
@@ -23,22 +23,23 @@ pub enum Step {
 /// The size of an optional group.
 #[derive(Clone, Copy)]
 pub struct Group {
-    /// The number of steps.
+    /// The number of steps in the group.
     pub steps: usize,
-    /// The number of steps that capture.
+    /// The number of steps in the group that capture.
     pub captures: usize,
 }
 
-/// A literal of one or more characters: the first, and those of the literal steps that come next.
+/// A literal of one or more characters: the first, and those of the literal steps that follow the
+/// step with this `LiteralString`.
 #[derive(Clone, Copy)]
 pub struct LiteralString {
     /// The first character.
     pub first: char,
-    /// The number of literal steps with the other characters.
+    /// The number of literal steps with the characters after the first, one for each.
     pub others: usize,
 }
 
-/// A repeated literal.
+/// A literal and how many copies of it match.
 #[derive(Clone, Copy)]
 pub struct RepeatedLiteral {
     /// The literal.
@@ -47,7 +48,7 @@ pub struct RepeatedLiteral {
     pub allows_zero: bool,
 }
 
-/// A run of characters.
+/// A *run*: consecutive characters other than `end`.
 #[derive(Clone, Copy)]
 pub struct Run {
     /// The character that ends the run.

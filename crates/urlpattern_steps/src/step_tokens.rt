@@ -1,4 +1,4 @@
-//! Tokens of regular expressions.
+//! Reads the tokens of a regular expression that is parsed into steps.
 
 ghost use Rattle.std.specs.Prelude.{◌≡◌, ◌≢◌, ◌∷◌, ◌++◌, ℕ, ◌<◌, ◌≤◌, Bool, List, length, codes, IfNone, IfSome, IsTrue};
 ghost use Rattle.std.specs.Str.{chars};
@@ -11,7 +11,8 @@ use crate::step::{Run, Step};
 use crate::text_cuts::after;
 use urlpattern_syntax::text::split_first;
 
-/// A token of an expression.
+/// A token of an expression: a piece of its text that makes a step, or an optional group of one
+/// step, that opens or closes a group, or that begins separated runs.
 #[derive(Clone, Copy)]
 pub enum StepToken {
     /// `(?:`
@@ -22,7 +23,8 @@ pub enum StepToken {
     Step(Step),
     /// A capturing group and `?`.
     OptionalStep(Step),
-    /// `((?:`, a run and `)(?:`: the character that ends the run, and whether the run is greedy.
+    /// `((?:`, a run and `)(?:`, which begin separated runs: the character that ends the run, and
+    /// whether the run is greedy.
     FirstSegment(char, bool),
 }
 
@@ -39,7 +41,8 @@ pub enum GroupQuantifier {
     OneOrMore,
 }
 
-/// Returns the token that the text begins with, and the rest.
+/// Returns the token that the text begins with, and the rest. `None`: the text begins with no
+/// token.
 pub fn read_token(text: &str) -> Option<(StepToken, &str)>
     ensures token { IfSome result (λ read.
         BeginsWithRegexpToken (chars text.now) read.0 (chars read.1.now)) }
@@ -57,7 +60,8 @@ pub fn read_token(text: &str) -> Option<(StepToken, &str)>
     Some((StepToken::Step(Step::Literal(c)), rest))
 }
 
-/// Returns the quantifier of a group and the rest. `text` is what follows the closing parenthesis.
+/// Returns the quantifier of a group, `Once` if there is none, and the rest. `text` is what follows
+/// the closing parenthesis.
 fn read_group_quantifier(text: &str) -> (GroupQuantifier, &str)
     ensures times { chars text.now ≡ group_quantifier_text result.0 ++ chars result.1.now }
     ensures longest { result.0 ≡ GroupQuantifier.Once → IsUnquantified (chars result.1.now) }
@@ -71,7 +75,8 @@ fn read_group_quantifier(text: &str) -> (GroupQuantifier, &str)
     }
 }
 
-/// Returns a token that begins with `(`, and the rest. `text` is what follows the `(`.
+/// Returns the token that begins with `(`, and the rest. `text` is what follows the `(`. `None`:
+/// the text from the `(` on begins with no token.
 fn read_bracket(text: &str) -> Option<(StepToken, &str)>
     ensures token { IfSome result (λ read.
         BeginsWithRegexpToken (codes "(" ++ chars text.now) read.0 (chars read.1.now)) }
@@ -92,7 +97,8 @@ fn read_bracket(text: &str) -> Option<(StepToken, &str)>
     Some((StepToken::Step(step), rest))
 }
 
-/// Returns the token of the first of separated runs, and the rest. `text` is what follows the `(`.
+/// Returns the token `FirstSegment`, which begins separated runs, and the rest. `text` is what
+/// follows the first `(`. `None`: `text` does not continue the token.
 fn read_first_segment(text: &str) -> Option<(StepToken, &str)>
     ensures token { IfSome result (λ read.
         BeginsWithRegexpToken (codes "(" ++ chars text.now) read.0 (chars read.1.now)) }
@@ -107,7 +113,7 @@ fn read_first_segment(text: &str) -> Option<(StepToken, &str)>
     Some((StepToken::FirstSegment(end, is_greedy), rest))
 }
 
-/// Returns the rest of the text after `(?:`.
+/// Returns the rest of the text after `(?:`. `None`: the text does not begin with `(?:`.
 pub fn after_open(text: &str) -> Option<&str>
     ensures cut { IfSome result (λ rest. chars text.now ≡ codes "(?:" ++ chars rest.now) }
     ensures other { IfNone result ((rest : List ℕ) → chars text.now ≢ codes "(?:" ++ rest) }
@@ -116,7 +122,7 @@ pub fn after_open(text: &str) -> Option<&str>
     after(after(after(text, '(')?, '?')?, ':')
 }
 
-/// Returns the rest of the text after `))*)`.
+/// Returns the rest of the text after `))*)`. `None`: the text does not begin with `))*)`.
 pub fn after_segments(text: &str) -> Option<&str>
     ensures cut { IfSome result (λ rest. chars text.now ≡ codes "))*)" ++ chars rest.now) }
     ensures other { IfNone result ((rest : List ℕ) → chars text.now ≢ codes "))*)" ++ rest) }
@@ -125,7 +131,8 @@ pub fn after_segments(text: &str) -> Option<&str>
     after(after(after(after(text, ')')?, ')')?, '*')?, ')')
 }
 
-/// Returns the step of the body of a capturing group, and the rest.
+/// Returns the step that captures the run or the repeated run with which `text` begins, and the
+/// rest. `text` is what follows the `(` of a capturing group. `None`: `text` begins with neither.
 fn read_captured(text: &str) -> Option<(Step, &str)>
     ensures step { IfSome result (λ read.
         BeginsWithCaptured (chars text.now) read.0 (chars read.1.now)) }
@@ -138,8 +145,8 @@ fn read_captured(text: &str) -> Option<(Step, &str)>
     }
 }
 
-/// Returns the step of a quantified group with a run as its body, and the rest. `text` is what
-/// follows the `(`.
+/// Returns the step that captures `(?:`, a run, `)` and `*` or `+`, and the rest. `text` is what
+/// follows the `(` of `(?:`. `None`: `text` does not continue a repeated run.
 fn read_repeated_run(text: &str) -> Option<(Step, &str)>
     ensures step { IfSome result (λ read.
         BeginsWithCaptured (codes "(" ++ chars text.now) read.0 (chars read.1.now)) }
@@ -151,8 +158,8 @@ fn read_repeated_run(text: &str) -> Option<(Step, &str)>
     Some((repeated_run(single, times)?, remaining))
 }
 
-/// The step of a repeated run, which is a run again. `None`: the step is no run, or the quantifier
-/// no repeat.
+/// Returns a `GreedyRun`, the step that captures a repeat of `run` under the quantifier `times`.
+/// `None`: `run` is neither `LazyRun` nor `DotStar`, or `times` is neither `*` nor `+`.
 fn repeated_run(run: Step, times: GroupQuantifier) -> Option<Step>
     ensures step { IfSome result (λ step. IsRepeatOf run (quantifier_of times) step) }
     ensures reads { RepeatsRuns run (quantifier_of times) result }
@@ -176,7 +183,8 @@ pub fn run_of(step: Step) -> Option<(char, bool)>
     }
 }
 
-/// Whether a repeated run may be empty. `None`: the quantifier is no repeat.
+/// Whether a repeat of a run may be empty: under `*`, and under `+` if the run is greedy and so may
+/// be empty itself. `None`: `times` is neither `*` nor `+`.
 fn may_be_empty(is_greedy: bool, times: GroupQuantifier) -> Option<bool>
     ensures may { IfSome result (λ may_be_empty.
         AllowsEmptyRun is_greedy (quantifier_of times) may_be_empty) }
@@ -191,7 +199,8 @@ fn may_be_empty(is_greedy: bool, times: GroupQuantifier) -> Option<bool>
     }
 }
 
-/// Returns the step of a run of characters, and the rest.
+/// Returns the step that captures a run, `.*`, `.+?` or `[^c]+?` with any character `c`, and the
+/// rest. `None`: the text does not begin with a run.
 pub fn read_run(text: &str) -> Option<(Step, &str)>
     ensures step { IfSome result (λ read.
         BeginsWithCaptured (chars text.now) read.0 (chars read.1.now)) }
@@ -204,7 +213,8 @@ pub fn read_run(text: &str) -> Option<(Step, &str)>
     }
 }
 
-/// Returns the step of a quantified dot, and the rest. `text` is what follows the dot.
+/// Returns the step that captures `.*` or `.+?`, and the rest. `text` is what follows the dot.
+/// `None`: `text` begins with neither `*` nor `+?`.
 fn read_repeated_dot(text: &str) -> Option<(Step, &str)>
     ensures step { IfSome result (λ read.
         BeginsWithCaptured (codes "." ++ chars text.now) read.0 (chars read.1.now)) }
@@ -217,7 +227,8 @@ fn read_repeated_dot(text: &str) -> Option<(Step, &str)>
     }
 }
 
-/// Returns the step of a quantified class, and the rest. `text` is what follows `[^`.
+/// Returns the step that captures `[^c]+?` with any character `c`, and the rest. `text` is what
+/// follows `[^`. `None`: `text` does not continue the class and its quantifier.
 fn read_repeated_class(text: &str) -> Option<(Step, &str)>
     ensures step { IfSome result (λ read.
         BeginsWithCaptured (codes "[^" ++ chars text.now) read.0 (chars read.1.now)) }
@@ -228,7 +239,7 @@ fn read_repeated_class(text: &str) -> Option<(Step, &str)>
     Some((Step::LazyRun(c), after_lazy_plus(after(rest, ']')?)?))
 }
 
-/// Returns the rest of the text after `+?`.
+/// Returns the rest of the text after `+?`. `None`: the text does not begin with `+?`.
 fn after_lazy_plus(text: &str) -> Option<&str>
     ensures cut { IfSome result (λ rest. chars text.now ≡ codes "+?" ++ chars rest.now) }
     ensures other { IfNone result ((rest : List ℕ) → chars text.now ≢ codes "+?" ++ rest) }
@@ -237,7 +248,8 @@ fn after_lazy_plus(text: &str) -> Option<&str>
     after(after(text, '+')?, '?')
 }
 
-/// Returns the literal character that the text begins with, unescaped, and the rest.
+/// Returns the literal character that the text begins with, unescaped, and the rest. `None`: the
+/// text does not begin with a literal.
 pub fn read_literal(text: &str) -> Option<(char, &str)>
     ensures character { IfSome result (λ read.
         BeginsWithCharacter IsCharacter (chars text.now) read.0 (chars read.1.now)) }
@@ -253,7 +265,9 @@ pub fn read_literal(text: &str) -> Option<(char, &str)>
     if is_mark(c) { None } else { Some((c, rest)) }
 }
 
-/// Returns the character of a class, unescaped, and the rest.
+/// Returns the first character of a negated class, unescaped, and the rest. `text` is what follows
+/// `[^`. `None`: the text is empty, or begins with `[`, or with a backslash after which neither a
+/// metacharacter nor `/` comes.
 fn read_class_character(text: &str) -> Option<(char, &str)>
     ensures character { IfSome result (λ read.
         BeginsWithCharacter IsClassCharacter (chars text.now) read.0 (chars read.1.now)) }
@@ -270,8 +284,8 @@ fn read_class_character(text: &str) -> Option<(char, &str)>
     }
 }
 
-/// Returns an escaped character, a metacharacter or `/`, and the rest. `text` is what follows the
-/// backslash.
+/// Returns the metacharacter or the `/` that is escaped, and the rest. `text` is what follows the
+/// backslash. `None`: `text` begins with neither.
 fn read_escaped(text: &str) -> Option<(char, &str)>
     ensures mark { IfSome result (λ read. IsTrue (is_among (regexp_marks ++ codes "/") read.0)) }
     ensures cut { IfSome result (λ read. chars text.now ≡ read.0 ∷ chars read.1.now) }
@@ -288,7 +302,7 @@ fn read_escaped(text: &str) -> Option<(char, &str)>
     }
 }
 
-/// Whether the character is a metacharacter of expressions.
+/// Whether the character is a metacharacter of regular expressions.
 fn is_mark(c: char) -> bool
     ensures { result ≡ is_among regexp_marks c }
 {

@@ -3,11 +3,11 @@
 ghost use Rattle.std.specs.Prelude.{IsTrue};
 ghost use Rattle.urlpattern_steps.specs.Walk.{BeginOnlyWith};
 
-use crate::repeats::pass;
+use crate::repeats::skip_steps;
 use crate::step::Step;
 
-/// Whether each nonempty text that the steps match is known to begin with `end`. `false` decides
-/// nothing.
+/// Whether each nonempty text that the steps match is known to begin with `end` (in either case, if
+/// case is ignored). `false`: unknown.
 pub fn begin_only_with(steps: &[Step], end: char) -> bool
     ensures { IsTrue result → BeginOnlyWith end steps.now }
 {
@@ -19,7 +19,7 @@ pub fn begin_only_with(steps: &[Step], end: char) -> bool
                 if !begin_with(others, end) {
                     return false;
                 }
-                rest = pass(others, group.steps);
+                rest = skip_steps(others, group.steps);
             }
             Step::RepeatedLiteral(copies) => {
                 if copies.text.first != end {
@@ -28,7 +28,7 @@ pub fn begin_only_with(steps: &[Step], end: char) -> bool
                 if !copies.allows_zero {
                     return true;
                 }
-                rest = pass(others, copies.text.others);
+                rest = skip_steps(others, copies.text.others);
             }
             Step::LazyRun(_) | Step::DotStar | Step::GreedyRun(_) | Step::Segments(_) => {
                 return false;
@@ -38,7 +38,7 @@ pub fn begin_only_with(steps: &[Step], end: char) -> bool
     true
 }
 
-/// Whether the first step is the literal `c`.
+/// Whether the first step is the literal `c`. `false` if there are no steps.
 fn begin_with(steps: &[Step], c: char) -> bool
     ensures { IsTrue result → BeginOnlyWith c steps.now }
 {

@@ -1,4 +1,4 @@
-//! Prefixes and suffixes of texts, by characters.
+//! Cuts texts, and compares characters, up to ASCII case if it is ignored.
 
 ghost use Rattle.std.specs.Prelude.{◌≡◌, ◌≢◌, ◌∷◌, ◌++◌, [], ℕ, ◌<◌, List, length, IfNone, IfSome};
 ghost use Rattle.std.specs.Char.{IsScalar, encode_utf8};
@@ -8,7 +8,7 @@ ghost use Rattle.urlpattern_meaning.specs.Matching.{is_same_character};
 
 use urlpattern_syntax::text::{before, split_first};
 
-/// Returns the text without its first character, if that is `c`.
+/// Returns the text without its first character, if that is `c`. Otherwise `None`.
 pub fn after(text: &str, c: char) -> Option<&str>
     ensures cut { IfSome result (λ rest. chars text.now ≡ c ∷ chars rest.now) }
     ensures other { IfNone result ((rest : List ℕ) → chars text.now ≢ c ∷ rest) }
@@ -25,7 +25,8 @@ pub fn is_same(c: char, other: char, ignore_case: bool) -> bool
     c == other || (ignore_case && c.eq_ignore_ascii_case(&other))
 }
 
-/// Returns the text without its first character, if `is_same` finds that equal to `c`.
+/// Returns the text without its first character, if `is_same` finds that equal to `c`. Otherwise
+/// `None`.
 pub fn after_same(text: &str, c: char, ignore_case: bool) -> Option<&str>
     ensures cut { IfSome result (λ rest.
         BeginsAs ignore_case (c ∷ []) (chars text.now) (chars rest.now)) }
@@ -41,7 +42,7 @@ pub fn after_same(text: &str, c: char, ignore_case: bool) -> Option<&str>
     }
 }
 
-/// Returns the text without the prefix `front`.
+/// Returns the text without `front`, with which it begins.
 pub fn after_prefix<'a>(text: &'a str, front: &str) -> &'a str
     requires { (rest : List ℕ) × IsUtf8 rest × (text.now ≡ front.now ++ rest) }
     ensures { text.now ≡ front.now ++ result.now }
@@ -49,7 +50,7 @@ pub fn after_prefix<'a>(text: &'a str, front: &str) -> &'a str
     &text[front.len()..]
 }
 
-/// Splits a text at a byte index.
+/// Splits a text after its first `count` bytes, which end where a character does.
 pub fn split_at_boundary(text: &str, count: usize) -> (&str, &str)
     requires { (front rest : List ℕ) × IsUtf8 front
         × IsUtf8 rest
@@ -84,7 +85,8 @@ pub fn split_at_first(text: &str, c: char, ignore_case: bool) -> (&str, &str)
     (before(text, rest), rest)
 }
 
-/// Returns the text from the first character that `is_same` finds equal to `c`.
+/// Returns the text from the first character on that `is_same` finds equal to `c`. Empty if the
+/// text has none.
 fn skip_to_first(text: &str, c: char, ignore_case: bool) -> &str
     ensures { chars result.now ≡ from_first ignore_case c (chars text.now) }
 {

@@ -5,14 +5,14 @@ ghost use Rattle.std.specs.Str.{chars};
 ghost use Rattle.urlpattern_meaning.specs.CaptureTexts.{captures_view};
 ghost use Rattle.urlpattern_steps.specs.FailedStates.{IsStateOf};
 ghost use Rattle.urlpattern_steps.specs.Walk.{captured_prefix, walk};
-ghost use Rattle.urlpattern_steps.specs.Taken.{MatchesRestIfOk, MatchesInTurn};
+ghost use Rattle.urlpattern_steps.specs.AddedCaptures.{MatchesRestIfOk, MatchesInTurn};
 
 mod copies;
 mod runs;
 mod segments;
 
 use crate::failed_states::FailedStates;
-use crate::repeats::pass;
+use crate::repeats::skip_steps;
 use crate::run_ends::has_one_end;
 use crate::step::{Group, Step};
 use crate::text_cuts::{after_same, split_at_first};
@@ -24,17 +24,17 @@ use urlpattern_syntax::error::OutOfMemory;
 struct Attempt<'s, 't> {
     /// The captures so far.
     captures: Vec<Option<&'t str>>,
-    /// The failed states.
+    /// The memoized failed states.
     failed: FailedStates<'s, 't>,
 }
 
-/// Whether steps match a whole text.
-type Taken = Result<bool, OutOfMemory>;
+/// Whether steps match a whole text, or that memory ran out.
+type DoesMatch = Result<bool, OutOfMemory>;
 
-/// Returns the captures of the steps, if they match the whole text. `None`: no match.
+/// Returns the captures of the steps, if they match the whole text. A capture in an optional group
+/// that does not match is `None`. `None` instead of captures: no match.
 ///
-/// If the match is memoized, no choice is tried twice in one state.
-#[inline]
+/// If `is_memoized`, no choice is tried twice in one state.
 pub fn walk<'t>(
     alloc: Global,
     steps: &[Step],
@@ -58,9 +58,10 @@ pub fn walk<'t>(
 }
 
 impl<'t> Attempt<'_, 't> {
-    /// Whether the steps match the whole text. On a match their captures are added.
+    /// Whether the steps match the whole text. On a match their captures are added to
+    /// `self.captures`, otherwise none.
     #[cycle(following)]
-    fn match_rest(&mut self, ignore_case: bool, steps: &[Step], text: &'t str) -> Taken
+    fn match_rest(&mut self, ignore_case: bool, steps: &[Step], text: &'t str) -> DoesMatch
         requires { IsStateOf ignore_case self.old.failed steps.now (chars text.now) }
         ensures { MatchesRestIfOk self.old self.new result
             (walk ignore_case steps.now (chars text.now)) }
@@ -73,10 +74,13 @@ impl<'t> Attempt<'_, 't> {
         Ok(false)
     }
 
-    /// Whether the steps match the whole text. On a match their captures are added, otherwise
-    /// perhaps some of them.
+    /// Whether the steps match the whole text. On a match their captures are added to
+    /// `self.captures`, otherwise perhaps some of them.
+    ///
+    /// The steps up to the first with a choice are matched in a loop, without a recursive call for
+    /// each.
     #[cycle(following)]
-    fn match_in_turn(&mut self, ignore_case: bool, steps: &[Step], text: &'t str) -> Taken
+    fn match_in_turn(&mut self, ignore_case: bool, steps: &[Step], text: &'t str) -> DoesMatch
         requires { IsStateOf ignore_case self.old.failed steps.now (chars text.now) }
         ensures { IfOk result (λ taken.
             MatchesInTurn self.old self.new taken (walk ignore_case steps.now (chars text.now))) }
@@ -120,10 +124,11 @@ impl<'t> Attempt<'_, 't> {
         Ok(rest.is_empty())
     }
 
-    /// Whether the steps match the whole text. On a match their captures are added, otherwise
-    /// perhaps some of them.
+    /// Whether `steps`, which are `step` and `others`, match the whole text. On a match their
+    /// captures are added to `self.captures`, otherwise perhaps some of them.
     ///
-    /// A failed state is memoized, and not tried again.
+    /// A state that is memoized as failed is not tried again. A state that fails is memoized, if
+    /// the match memoizes states.
     #[cycle(following)]
     fn match_memoized(
         &mut self,
@@ -132,7 +137,7 @@ impl<'t> Attempt<'_, 't> {
         steps: &[Step],
         others: &[Step],
         text: &'t str,
-    ) -> Taken
+    ) -> DoesMatch
         requires state { IsStateOf ignore_case self.old.failed steps.now (chars text.now) }
         requires first { steps.now ≡ step.now ∷ others.now }
         ensures { IfOk result (λ taken.
@@ -148,10 +153,10 @@ impl<'t> Attempt<'_, 't> {
         Ok(false)
     }
 
-    /// Whether the steps match the whole text. On a match their captures are added, otherwise
-    /// perhaps some of them.
+    /// Whether `steps`, which are `step` and `others`, match the whole text. On a match their
+    /// captures are added to `self.captures`, otherwise perhaps some of them.
     ///
-    /// The matches of the first step are tried in turn.
+    /// The ways in which `step` can match a prefix are tried in order of preference.
     #[cycle(following)]
     fn match_first_step(
         &mut self,
@@ -160,7 +165,7 @@ impl<'t> Attempt<'_, 't> {
         steps: &[Step],
         others: &[Step],
         text: &'t str,
-    ) -> Taken
+    ) -> DoesMatch
         requires state { IsStateOf ignore_case self.old.failed steps.now (chars text.now) }
         requires first { steps.now ≡ step.now ∷ others.now }
         ensures { IfOk result (λ taken.
@@ -185,8 +190,9 @@ impl<'t> Attempt<'_, 't> {
         }
     }
 
-    /// Whether the steps match the whole text with an optional group, or else without. On a match
-    /// their captures are added, otherwise perhaps some of them.
+    /// Whether `others`, which begins with the steps of an optional group, matches the whole text,
+    /// or else the steps after the group do, with `None` for each capture of the group. On a match
+    /// the captures are added to `self.captures`, otherwise perhaps some of them.
     #[cycle(following)]
     fn match_optional_group(
         &mut self,
@@ -194,7 +200,7 @@ impl<'t> Attempt<'_, 't> {
         group: Group,
         others: &[Step],
         text: &'t str,
-    ) -> Taken
+    ) -> DoesMatch
         requires { IsStateOf ignore_case self.old.failed others.now (chars text.now) }
         ensures { IfOk result (λ taken.
             MatchesInTurn self.old self.new taken
@@ -204,11 +210,11 @@ impl<'t> Attempt<'_, 't> {
             return Ok(true);
         }
         push_unmatched(&mut self.captures, group.captures)?;
-        self.match_in_turn(ignore_case, pass(others, group.steps), text)
+        self.match_in_turn(ignore_case, skip_steps(others, group.steps), text)
     }
 
-    /// Whether the steps match the whole rest of a text. On a match `front` and their captures are
-    /// added.
+    /// Whether the steps match the whole of `rest`, which follows the captured prefix `front`. On a
+    /// match `front` and the captures of the steps are added to `self.captures`, otherwise nothing.
     #[cycle(following)]
     fn match_after_capture(
         &mut self,
@@ -216,7 +222,7 @@ impl<'t> Attempt<'_, 't> {
         front: &'t str,
         steps: &[Step],
         rest: &'t str,
-    ) -> Taken
+    ) -> DoesMatch
         requires { IsStateOf ignore_case self.old.failed steps.now (chars rest.now) }
         ensures { MatchesRestIfOk self.old self.new result
             (captured_prefix (walk ignore_case steps.now) (chars front.now) (chars rest.now)) }
@@ -230,7 +236,7 @@ impl<'t> Attempt<'_, 't> {
     }
 }
 
-/// Adds `count` captures that are `None`.
+/// Adds `count` captures that are `None`, for a group that does not match.
 pub fn push_unmatched(captures: &mut Vec<Option<&str>>, count: usize) -> Result<(), OutOfMemory>
     ensures { OnOk result (captures.new.items ≡ captures.old.items ++ replicate count None) }
 {

@@ -5,7 +5,7 @@ use Rattle.std.specs.Char.{is_ascii, is_ascii_alphabetic, is_ascii_alphanumeric,
 use Rattle.unicode.specs.Binary.{is_id_continue, is_id_start}
 use Rattle.std.specs.Fmt.{digit_glyph, digits, digits_onto}
 use Rattle.std.proofs.lemmas.Bool.{agree_below_at, both_ways, cond_both}
-use Rattle.urlpattern_syntax.specs.Parsing.{IsGiven}
+use Rattle.urlpattern_syntax.specs.Parsing.{BeginsAsName}
 use Rattle.urlpattern_syntax.specs.Text.{begins_with, is_among, is_name_part, is_name_start}
 use Rattle.urlpattern_syntax.specs.Tokens.{IsName}
 use Rattle.urlpattern_syntax.proofs.TokenExamples.{literals}
@@ -74,14 +74,14 @@ unfolding starts_with_digit
 name_not_digited name h = name_starts name h
 
 -- A name from a pattern is no number.
-pub given_no_number : (name : List ℕ) (number : ℕ) → IsGiven name → ¬ (decimal number ≡ name)
+pub given_no_number : (name : List ℕ) (number : ℕ) → BeginsAsName name → ¬ (decimal number ≡ name)
 unfolding starts_with_digit
 given_no_number [] number h e = both_ways false refl h
 given_no_number (c ∷ name) number h e =
     both_ways (starts_with_digit (c ∷ name)) (name_start_no_digit c h) (subst (λ x. starts_with_digit x ≡ true) e (decimal_starts number))
 
 -- The value of a Name token is a name from a pattern.
-pub name_given : (name : List ℕ) → IsName name → IsGiven name
+pub name_given : (name : List ℕ) → IsName name → BeginsAsName name
 name_given [] h = absurd h
 name_given (c ∷ name) h = h.0
 

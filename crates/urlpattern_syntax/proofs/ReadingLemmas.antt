@@ -18,7 +18,7 @@ use Rattle.urlpattern_syntax.specs.Options.{OptionsView}
 use Rattle.urlpattern_syntax.specs.Parsing.{AddsParts, PartListView, MemoryOr, item_demands, pending_items}
 use Rattle.urlpattern_syntax.specs.Parts.{PartView, fixed_text}
 use Rattle.urlpattern_syntax.specs.Pieces.{Ending, Ending as endings}
-use Rattle.urlpattern_syntax.specs.Reading.{AreMet, AreParts, Capture, Demand, Encode, Encoding, Expect, FirstFails, Fixed, Item, NewName, capture_part, placeholder_regexp, demands_after, encode_fixed, encoding_of, item, joined_items, kind_of, with_text}
+use Rattle.urlpattern_syntax.specs.Reading.{AreMet, AreParts, Capture, Demand, Encode, Encoding, Expect, FirstFails, Fixed, Item, NewName, capture_part, placeholder_regexp, demands_after, fixed_text_demands, encoding_of, item, joined_items, kind_of, with_text}
 use Rattle.urlpattern_syntax.specs.declared.parser.RegexSyntax.{RegexSyntax}
 use Rattle.urlpattern_syntax.specs.RegexpText.{is_empty, full_wildcard, group_names, is_fixed_text, segment_wildcard, segment_wildcard_of}
 use Rattle.urlpattern_syntax.specs.Tokens.{TokenView}
@@ -53,7 +53,7 @@ item_names-append (Capture prefix name match suffix modifier ∷ xs) ys = ap (λ
 pub item_demands-append : (earlier : List (List ℕ)) (xs ys : List Item) → item_demands earlier (xs ++ ys) ≡ item_demands earlier xs ++ item_demands (earlier ++ item_names xs) ys
 item_demands-append earlier [] ys = ap (λ e. item_demands e ys) (sym (append-nil earlier))
 item_demands-append earlier (Fixed text modifier ∷ xs) ys =
-    ap (λ x. encode_fixed text ++ x) (item_demands-append earlier xs ys) ∙ sym (append_assoc (encode_fixed text) (item_demands earlier xs) (item_demands (earlier ++ item_names xs) ys))
+    ap (λ x. fixed_text_demands text ++ x) (item_demands-append earlier xs ys) ∙ sym (append_assoc (fixed_text_demands text) (item_demands earlier xs) (item_demands (earlier ++ item_names xs) ys))
 item_demands-append earlier (Capture prefix name match suffix modifier ∷ xs) ys =
     ap (λ x. NewName earlier name ∷ Encode prefix ∷ Encode suffix ∷ x)
     (item_demands-append (earlier ++ name ∷ []) xs ys ∙ ap (λ e. item_demands (earlier ++ name ∷ []) xs ++ item_demands e ys) (append_assoc earlier (name ∷ []) (item_names xs)))
@@ -75,7 +75,7 @@ EndsOther-push (y ∷ []) x h = h
 EndsOther-push (y ∷ z ∷ xs) x h = EndsOther-push (z ∷ xs) x h
 
 -- A fixed text before other items adds its demand.
-demands-fixed_item : (earlier : List (List ℕ)) (text : List ℕ) (modifier : PartModifier) (x : Item) (rest : List Item) (ending : Ending) → demands_after earlier (Fixed text modifier ∷ x ∷ rest) ending ≡ encode_fixed text ++ demands_after earlier (x ∷ rest) ending
+demands-fixed_item : (earlier : List (List ℕ)) (text : List ℕ) (modifier : PartModifier) (x : Item) (rest : List Item) (ending : Ending) → demands_after earlier (Fixed text modifier ∷ x ∷ rest) ending ≡ fixed_text_demands text ++ demands_after earlier (x ∷ rest) ending
 demands-fixed_item earlier text modifiers.None x rest (endings.Stops found) = refl
 demands-fixed_item earlier text modifiers.None x rest (endings.LacksClose found) = refl
 demands-fixed_item earlier text modifiers.Optional x rest ending = refl
@@ -83,7 +83,7 @@ demands-fixed_item earlier text modifiers.ZeroOrMore x rest ending = refl
 demands-fixed_item earlier text modifiers.OneOrMore x rest ending = refl
 
 -- A fixed text that is not plain adds its demand, whatever follows.
-demands-fixed_other : (earlier : List (List ℕ)) (text : List ℕ) (modifier : PartModifier) (rest : List Item) (ending : Ending) → ¬ IsPlain (Fixed text modifier) → demands_after earlier (Fixed text modifier ∷ rest) ending ≡ encode_fixed text ++ demands_after earlier rest ending
+demands-fixed_other : (earlier : List (List ℕ)) (text : List ℕ) (modifier : PartModifier) (rest : List Item) (ending : Ending) → ¬ IsPlain (Fixed text modifier) → demands_after earlier (Fixed text modifier ∷ rest) ending ≡ fixed_text_demands text ++ demands_after earlier rest ending
 demands-fixed_other earlier text modifier (x ∷ rest) ending h = demands-fixed_item earlier text modifier x rest ending
 demands-fixed_other earlier text modifiers.None [] ending h = absurd (h tt)
 demands-fixed_other earlier text modifiers.Optional [] ending h = refl
@@ -95,12 +95,12 @@ pub demands-split : (earlier : List (List ℕ)) (items rest : List Item) (ending
 demands-split earlier [] rest ending h = ap (λ e. demands_after e rest ending) (sym (append-nil earlier))
 demands-split earlier (Fixed text modifier ∷ []) rest ending h =
     demands-fixed_other earlier text modifier rest ending h
-    ∙ ap (λ e. encode_fixed text ++ demands_after e rest ending) (sym (append-nil earlier))
-    ∙ ap (λ x. x ++ demands_after (earlier ++ []) rest ending) (sym (append-nil (encode_fixed text)))
+    ∙ ap (λ e. fixed_text_demands text ++ demands_after e rest ending) (sym (append-nil earlier))
+    ∙ ap (λ x. x ++ demands_after (earlier ++ []) rest ending) (sym (append-nil (fixed_text_demands text)))
 demands-split earlier (Fixed text modifier ∷ y ∷ items) rest ending h =
     demands-fixed_item earlier text modifier y (items ++ rest) ending
-    ∙ ap (λ x. encode_fixed text ++ x) (demands-split earlier (y ∷ items) rest ending h)
-    ∙ sym (append_assoc (encode_fixed text) (item_demands earlier (y ∷ items)) (demands_after (earlier ++ item_names (y ∷ items)) rest ending))
+    ∙ ap (λ x. fixed_text_demands text ++ x) (demands-split earlier (y ∷ items) rest ending h)
+    ∙ sym (append_assoc (fixed_text_demands text) (item_demands earlier (y ∷ items)) (demands_after (earlier ++ item_names (y ∷ items)) rest ending))
 demands-split earlier (Capture prefix name match suffix modifier ∷ []) rest ending h = refl
 demands-split earlier (Capture prefix name match suffix modifier ∷ y ∷ items) rest ending h =
     ap (λ x. NewName earlier name ∷ Encode prefix ∷ Encode suffix ∷ x)
@@ -108,7 +108,7 @@ demands-split earlier (Capture prefix name match suffix modifier ∷ y ∷ items
     ∙ ap (λ e. item_demands (earlier ++ name ∷ []) (y ∷ items) ++ demands_after e rest ending) (append_assoc earlier (name ∷ []) (item_names (y ∷ items))))
 
 -- The demands of the pending text at the end.
-pub demands-pending : (earlier : List (List ℕ)) (pending : List ℕ) (found : TokenView) → demands_after earlier (pending_items pending) (endings.Stops found) ≡ encode_fixed pending ++ Expect End found ∷ []
+pub demands-pending : (earlier : List (List ℕ)) (pending : List ℕ) (found : TokenView) → demands_after earlier (pending_items pending) (endings.Stops found) ≡ fixed_text_demands pending ++ Expect End found ∷ []
 demands-pending earlier [] found = refl
 demands-pending earlier (c ∷ pending) found = refl
 

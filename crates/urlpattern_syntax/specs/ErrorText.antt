@@ -17,13 +17,13 @@ kind_name TokenType.Asterisk = codes "Asterisk"
 kind_name TokenType.End = codes "End"
 kind_name TokenType.InvalidChar = codes "InvalidChar"
 
--- The message of a tokenizer fault. The reasons are ASCII.
+-- The message of a tokenizer's fault. The words of a reason are ASCII, so they are their own bytes.
 abbrev pub fault_text : FaultView → List ℕ
 fault_text FaultView.IncompleteEscapeCode = codes "incomplete escape code"
 fault_text FaultView.InvalidName = codes "invalid name; must be at least length 1"
 fault_text (FaultView.InvalidRegex reason) = codes "invalid regex: " ++ reason
 
--- The message for a token of an unexpected kind, with its value.
+-- The message for a token of an unexpected kind, with the token's value.
 abbrev pub expected_token_text : (expected found : TokenType) → (value : List ℕ) → List ℕ
 expected_token_text expected found value =
     codes "expected token " ++ kind_name expected ++ codes ", found '" ++ encode_utf8_all value

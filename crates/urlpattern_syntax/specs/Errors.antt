@@ -1,4 +1,4 @@
--- The errors, as clauses see them.
+-- The views of errors, and what is said of the errors of a call.
 use Rattle.std.specs.Prelude.{◌≡◌, ◌⊎◌, ℕ, List, Result, IsOkUnless}
 use Rattle.url.specs.declared.error.ParseError.{ParseError}
 pub use Rattle.urlpattern_syntax.specs.declared.error.Error.{Error}
@@ -6,7 +6,7 @@ use Rattle.urlpattern_syntax.specs.declared.error.{ParserError.ParserError, RegE
 use Rattle.urlpattern_syntax.specs.Text.{text_of}
 use Rattle.urlpattern_syntax.specs.Tokens.{FaultView, TokenType, fault_view}
 
--- An `Error`, with its texts as characters.
+-- The view of an `Error`, with its texts as characters.
 pub data ErrorView : Type 0 where
   BaseUrlRequired BaseUrlWithInit : ErrorView
   Tokenizer : FaultView → ℕ → ErrorView
@@ -16,13 +16,13 @@ pub data ErrorView : Type 0 where
   Url : ParseError → ErrorView
   RegExp OutOfMemory : ErrorView
 
--- A `ParserError` as an error.
+-- The view of a `ParserError`, as an `Error`.
 abbrev pub parser_error_view : ParserError → ErrorView
 parser_error_view (ParserError.ExpectedToken expected found value) =
     ExpectedToken expected found (text_of value)
 parser_error_view (ParserError.DuplicateName name) = DuplicateName (text_of name)
 
--- An `Error`, as clauses see it.
+-- The view of an `Error`.
 abbrev pub error_view : Error → ErrorView
 error_view Error.BaseUrlRequired = BaseUrlRequired
 error_view Error.BaseUrlWithInit = BaseUrlWithInit
@@ -32,7 +32,8 @@ error_view (Error.Url error) = Url error
 error_view (Error.RegExp error) = RegExp
 error_view Error.OutOfMemory = OutOfMemory
 
--- An engine's error as an `Error`: the regular expression was rejected, or memory ran out.
+-- The view of an engine's error, as an `Error`: the regular expression was rejected, or memory ran
+-- out.
 abbrev pub regexp_error_view : RegExpError → ErrorView
 regexp_error_view RegExpError.Pattern = RegExp
 regexp_error_view RegExpError.OutOfMemory = OutOfMemory

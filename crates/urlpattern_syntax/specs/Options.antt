@@ -5,14 +5,14 @@ pub use Rattle.urlpattern_syntax.specs.declared.parser.RegexSyntax.{RegexSyntax}
 use Rattle.urlpattern_syntax.specs.declared.parser.Options.{Options}
 use Rattle.urlpattern_syntax.specs.Text.{text_of}
 
--- The options, with the prefix code point as a text.
+-- The view of `Options`, with the prefix code point as a text.
 pub record OptionsView : Type 0 where
   pub delimiter : Option ℕ
   pub prefix : List ℕ
   pub syntax : RegexSyntax
   pub ignore_case : Bool
 
--- The options, as clauses see them.
+-- The view of `Options`.
 abbrev pub options_view : Options → OptionsView
 options_view options = record {
   delimiter = options.delimiter_code_point;
@@ -21,7 +21,7 @@ options_view options = record {
   ignore_case = options.ignore_case;
 }
 
--- A set of options in Rust's syntax, by its delimiter and its prefix code point.
+-- The options with this delimiter and this prefix code point, in Rust's syntax, with case kept.
 abbrev pub standard_options : Option ℕ → List ℕ → OptionsView
 standard_options delimiter prefix = record {
   delimiter = delimiter;
@@ -30,7 +30,7 @@ standard_options delimiter prefix = record {
   ignore_case = false;
 }
 
--- The options of most components.
+-- The options of most components: no delimiter and no prefix code point.
 abbrev pub default_options : OptionsView
 default_options = standard_options None []
 

@@ -8,34 +8,37 @@ use Rattle.urlpattern_syntax.specs.{Options.OptionsView, RegexpText.group_names}
 use Rattle.urlpattern_syntax.specs.Parts.{PartModifier, PartView}
 use Rattle.urlpattern_syntax.specs.Text.{BeginsWith, is_name_start}
 use Rattle.urlpattern_syntax.specs.Pieces.{Piece, Placeholder, Ending, IsPiece, IsEnding, IsPlaceholderOf, IsModifier, TakesModifier, TakesRegexp, AreTexts, BeginsWithKind, is_text}
-use Rattle.urlpattern_syntax.specs.Reading.{AreMet, AreParts, Demand, Encode, Encoding, FirstFails, Item, Fixed, Capture, NewName, encode_fixed}
+use Rattle.urlpattern_syntax.specs.Reading.{AreMet, AreParts, Demand, Encode, Encoding, FirstFails, Item, Fixed, Capture, NewName, fixed_text_demands}
 use Rattle.urlpattern_syntax.specs.Tokens.{Token, TokenView, token_view}
 
--- The tokens, as clauses see them.
+-- The views of a list of tokens.
 abbrev pub views : List Token → List TokenView
 views tokens = map token_view tokens
 
--- A modifier token is spelled `+` or `?`.
+-- If the token is an OtherModifier, its value is `+` or `?`.
 abbrev pub IsModifierSpelled : TokenView → Type 0
 IsModifierSpelled token =
     token.kind ≡ OtherModifier → (token.value ≡ codes "+") ⊎ (token.value ≡ codes "?")
 
--- A name from a pattern: its first character may begin a name, which a digit may not.
-abbrev pub IsGiven : List ℕ → Type 0
-IsGiven name = BeginsWith is_name_start name
+-- The name begins with a character that may begin a name. The number of a group without a name does
+-- not.
+abbrev pub BeginsAsName : List ℕ → Type 0
+BeginsAsName name = BeginsWith is_name_start name
 
--- The value of a Name token is a name from a pattern.
+-- If the token is a Name, its value begins with a character that may begin a name.
 abbrev pub IsNameSpelled : TokenView → Type 0
-IsNameSpelled token = token.kind ≡ Name → IsGiven token.value
+IsNameSpelled token = token.kind ≡ Name → BeginsAsName token.value
 
--- A token list: End is the last token and only the last, and each modifier is spelled as one.
+-- The tokens are a whole list: the last is End, no other is, and the value of each OtherModifier is
+-- `+` or `?`.
 abbrev pub IsTokenList : List TokenView → Type 0
 IsTokenList [] = ⊥
 IsTokenList (token ∷ []) = token.kind ≡ End
 IsTokenList (token ∷ next ∷ tokens) =
     (token.kind ≢ End) × IsModifierSpelled token × IsTokenList (next ∷ tokens)
 
--- The tokens begin with a placeholder of maximal length.
+-- `tokens` begin with a placeholder of maximal length, and `rest` follows, a whole list if `tokens`
+-- are.
 pub record BeginsWithPlaceholder (tokens : List TokenView) (placeholder : Placeholder)
     (rest : List TokenView) : Type 0 where
   pub front : List TokenView
@@ -44,7 +47,8 @@ pub record BeginsWithPlaceholder (tokens : List TokenView) (placeholder : Placeh
   pub takes_regexp : TakesRegexp placeholder.matched rest
   pub closed : IsTokenList tokens → IsTokenList rest
 
--- The tokens begin with a modifier, if there is one.
+-- `tokens` begin with the token of a modifier, or with no modifier for `None`, and `rest`, a whole
+-- list, follows.
 pub record BeginsWithModifier (tokens : List TokenView) (modifier : PartModifier)
     (rest : List TokenView) : Type 0 where
   pub front : List TokenView
@@ -55,19 +59,21 @@ pub record BeginsWithModifier (tokens : List TokenView) (modifier : PartModifier
 
 -- ---- names and runs of texts
 
--- The name, if there is one, is from a pattern.
+-- The name, if there is a name, begins with a character that may begin a name, as each name that a
+-- pattern gives does.
 abbrev pub IsNameGiven : Option (List ℕ) → Type 0
 IsNameGiven None = Unit {0}
-IsNameGiven (Some name) = IsGiven name
+IsNameGiven (Some name) = BeginsAsName name
 
--- The name in the piece, if there is one, is from a pattern.
+-- The name in the piece, if there is a name, begins with a character that may begin a name, as each
+-- name that a pattern gives does.
 abbrev pub IsPieceNamed : Piece → Type 0
 IsPieceNamed (Piece.Bare prefix placeholder modifier) = IsNameGiven placeholder.name
 IsPieceNamed (Piece.Group before placeholder after modifier) = IsNameGiven placeholder.name
 IsPieceNamed other = Unit {0}
 
--- The tokens begin with `first` and the text tokens of `more`. A further text token follows, unless
--- `more` is empty.
+-- `tokens` are `first`, literal characters with the text `more`, and `rest`. Unless `more` is
+-- empty, `rest` begins with a further literal character.
 pub record BeginsWithCharacters (tokens : List TokenView) (first : TokenView) (more : List ℕ)
     (rest : List TokenView) : Type 0 where
   pub row : List TokenView
@@ -76,7 +82,8 @@ pub record BeginsWithCharacters (tokens : List TokenView) (first : TokenView) (m
   pub none : more ≡ [] → row ≡ []
   pub goes_on : (more ≡ []) ⊎ BeginsWithKind is_text rest
 
--- The tokens begin with the text tokens of `text`, and a further text token follows.
+-- `tokens` are literal characters with the text `text`, and `rest`, which begins with a further
+-- literal character.
 pub record BeginsWithRow (tokens : List TokenView) (text : List ℕ) (rest : List TokenView) : Type 0
   where
     pub row : List TokenView
@@ -84,7 +91,8 @@ pub record BeginsWithRow (tokens : List TokenView) (text : List ℕ) (rest : Lis
     pub are_texts : AreTexts row text
     pub goes_on : BeginsWithKind is_text rest
 
--- The tokens begin with the text tokens of `text`, and no text token follows.
+-- `tokens` are literal characters with the text `text`, and `rest`, which does not begin with a
+-- literal character.
 pub record BeginsWithTexts (tokens : List TokenView) (text : List ℕ) (rest : List TokenView) : Type
     0 where
   pub front : List TokenView
@@ -92,7 +100,7 @@ pub record BeginsWithTexts (tokens : List TokenView) (text : List ℕ) (rest : L
   pub are_texts : AreTexts front text
   pub all : ¬ BeginsWithKind is_text rest
 
--- The tokens begin with the Close of a group and its modifier.
+-- `tokens` begin with the Close of a group and the group's modifier, and `rest` follows.
 pub record BeginsWithClose (tokens : List TokenView) (modifier : PartModifier)
     (rest : List TokenView) : Type 0 where
   pub closing : TokenView
@@ -101,13 +109,14 @@ pub record BeginsWithClose (tokens : List TokenView) (modifier : PartModifier)
   pub is_close : closing.kind ≡ Close
   pub begins : BeginsWithModifier behind modifier rest
 
--- The tokens begin with the piece.
+-- The tokens begin with the piece, and `rest` follows. `point` is the prefix code point.
 abbrev pub BeginsWithPiece : (point : List ℕ) → List TokenView → Piece
     → (rest : List TokenView) → Type 0
 BeginsWithPiece point tokens piece rest =
     (front : List TokenView) × (tokens ≡ front ++ rest) × IsPiece point front piece rest
 
--- The tokens have the ending, whose token is the first of `rest`.
+-- The tokens, which follow the last piece, have an ending, whose token is the first of `rest`.
+-- `ending`, which is `Stops` or `LacksClose`, says which of the two the ending is.
 abbrev pub HasEndingAt : List TokenView → (TokenView → Ending) → (rest : List TokenView) → Type 0
 HasEndingAt tokens ending rest =
     (found : TokenView) × (more : List TokenView)
@@ -116,25 +125,29 @@ HasEndingAt tokens ending rest =
 
 -- ---- the parts read
 
--- The parts read, the pending text, and the number of placeholders without a name.
+-- The state of reading: the parts made, the literal text that is not a part yet, and the number of
+-- placeholders without a name.
 pub record PartListView : Type 0 where
   pub parts : List PartView
   pub pending : List ℕ
   pub number : ℕ
 
--- The demands of items without an ending, after groups with the names `earlier`.
+-- The demands of the items, that is, what has to be met for them to become parts, after groups with
+-- the names `earlier`. The demand of an ending is not among them.
 abbrev pub item_demands : List (List ℕ) → List Item → List Demand
 item_demands earlier [] = []
-item_demands earlier (Fixed text modifier ∷ items) = encode_fixed text ++ item_demands earlier items
+item_demands earlier (Fixed text modifier ∷ items) =
+    fixed_text_demands text ++ item_demands earlier items
 item_demands earlier (Capture prefix name match suffix modifier ∷ items) =
     NewName earlier name ∷ Encode prefix ∷ Encode suffix ∷ item_demands (earlier ++ name ∷ []) items
 
--- The pending text as an item, if it is not empty.
+-- The pending text as a fixed text, or no item if it is empty.
 abbrev pub pending_items : List ℕ → List Item
 pending_items [] = []
 pending_items (c ∷ text) = Fixed (c ∷ text) PartModifier.None ∷ []
 
--- The parts of the items are appended, and no text is pending.
+-- `new` has the parts of `old` and the parts of the items, whose demands are met, and no pending
+-- text.
 pub record AddsParts (options : OptionsView) (encoding : Encoding) (old : PartListView)
     (items : List Item) (new : PartListView) : Type 0 where
   pub added : List PartView
@@ -143,20 +156,22 @@ pub record AddsParts (options : OptionsView) (encoding : Encoding) (old : PartLi
   pub are_met : AreMet encoding (item_demands (group_names old.parts) items)
   pub pending : new.pending ≡ []
 
--- The item is added: a plain fixed text to the pending text, any other as a part after that of the
--- pending text.
+-- `new` is `old` with the item added: a fixed text without modifier to the pending text; any other
+-- item as a part, after a part of the pending text. An empty text has no part.
 abbrev pub AddsItem : OptionsView → Encoding → PartListView → Item → PartListView → Type 0
 AddsItem options encoding old (Fixed text PartModifier.None) new =
     (new.parts ≡ old.parts) × (new.pending ≡ old.pending ++ text)
 AddsItem options encoding old item new =
     AddsParts options encoding old (pending_items old.pending ++ item ∷ []) new
 
--- Memory ran out, or the first demand of the items that is not met fails with the error.
+-- Memory ran out, or a demand of the items, which follow these parts, fails with the error, and all
+-- demands before it are met.
 abbrev pub FailsItems : Encoding → List PartView → List Item → Error → Type 0
 FailsItems encoding parts items error =
     MemoryOr (FirstFails encoding (item_demands (group_names parts) items)) error
 
--- The item is not added. For a plain fixed text memory ran out; any other may also fail a demand.
+-- The item may fail to be added to `old` with this error: a fixed text without modifier only with
+-- `OutOfMemory`, any other item also with the first demand that is not met.
 abbrev pub FailsItem : Encoding → PartListView → Item → Error → Type 0
 FailsItem encoding old (Fixed text PartModifier.None) error =
     error_view error ≡ ErrorView.OutOfMemory

@@ -3,7 +3,7 @@ use Rattle.std.specs.Prelude.{ℕ, List, [], map}
 pub use Rattle.urlpattern_syntax.specs.declared.parser.{Part.Part, PartModifier.PartModifier, PartType.PartType}
 use Rattle.urlpattern_syntax.specs.Text.{text_of}
 
--- A part, with its texts as characters.
+-- The view of a `Part`, with its texts as characters.
 pub record PartView : Type 0 where
   pub kind : PartType
   pub value : List ℕ
@@ -12,7 +12,7 @@ pub record PartView : Type 0 where
   pub prefix : List ℕ
   pub suffix : List ℕ
 
--- A part, as clauses see it.
+-- The view of a `Part`.
 abbrev pub part_view : Part → PartView
 part_view part = record {
   kind = part.kind;
@@ -23,11 +23,11 @@ part_view part = record {
   suffix = text_of part.suffix;
 }
 
--- The parts, as clauses see them.
+-- The views of a list of parts.
 abbrev pub parts_view : List Part → List PartView
 parts_view parts = map part_view parts
 
--- The part of a fixed text.
+-- The part that matches the literal text `value`, as often as the modifier allows.
 abbrev pub fixed_text : List ℕ → PartModifier → PartView
 fixed_text value modifier = record {
   kind = PartType.FixedText;

@@ -3,7 +3,7 @@
 use Rattle.std.specs.Prelude.{ℕ, List, codes}
 use Rattle.urlpattern_syntax.specs.RegexpText.{escaped}
 
--- The special characters of patterns.
+-- The characters that are special in a pattern text, and escaped with a backslash.
 abbrev pub pattern_marks : List ℕ
 pattern_marks = codes "+*?:{}()\\"
 

@@ -6,25 +6,26 @@ use Rattle.urlpattern_syntax.specs.declared.parser.PartModifier.{PartModifier}
 use Rattle.urlpattern_syntax.specs.declared.tokenizer.TokenType.TheVariants.{Asterisk, Char, Close, End, EscapedChar, InvalidChar, Name, Open, OtherModifier, Regexp}
 use Rattle.urlpattern_syntax.specs.Tokens.{TokenType, TokenView}
 
--- What a placeholder matches: a segment, any text, or what a custom regular expression matches.
+-- What a placeholder matches: a segment, what a full wildcard matches, or what a custom regular
+-- expression matches.
 pub data PlaceholderKindView : Type 0 where
   Segment Anything : PlaceholderKindView
   Custom : List ℕ → PlaceholderKindView
 
--- A placeholder, with or without a name.
+-- A placeholder: a name, a custom regular expression, both, or an asterisk.
 pub record Placeholder : Type 0 where
   pub name : Option (List ℕ)
   pub matched : PlaceholderKindView
 
 -- A piece of a pattern text.
 pub data Piece : Type 0 where
-  -- A single character.
+  -- A single literal character.
   Text : List ℕ → Piece
-  -- A placeholder without braces, after the prefix code point or nothing.
+  -- A placeholder without braces. The prefix is empty, or the prefix code point before it.
   Bare : (prefix : List ℕ) → Placeholder → PartModifier → Piece
-  -- Texts in braces.
+  -- Literal characters in braces, perhaps none.
   TextGroup : List ℕ → PartModifier → Piece
-  -- A placeholder in braces, with the texts before and after it.
+  -- A placeholder in braces, with the literal characters before and after it.
   Group : (before : List ℕ) → Placeholder → (after : List ℕ) → PartModifier → Piece
 
 -- ---- tokens by kind
@@ -37,7 +38,7 @@ kinds tokens = map (λ token. token.kind) tokens
 abbrev pub values : List TokenView → List (List ℕ)
 values tokens = map (λ token. token.value) tokens
 
--- Whether the kind is that of a literal character.
+-- Whether a token of this kind is a literal character.
 abbrev pub is_text : TokenType → Bool
 is_text Char = true
 is_text EscapedChar = true
@@ -50,20 +51,20 @@ is_placeholder Regexp = true
 is_placeholder Asterisk = true
 is_placeholder kind = false
 
--- The first token is of a kind that passes the test.
+-- The list of tokens is not empty, and the kind of its first token passes the test.
 abbrev pub BeginsWithKind : (TokenType → Bool) → List TokenView → Type 0
 BeginsWithKind test [] = ⊥
 BeginsWithKind test (token ∷ tokens) = IsTrue (test token.kind)
 
 -- ---- the meaning of tokens
 
--- The tokens are literal characters, and `text` is their values, joined.
+-- The tokens are literal characters, and `text` is their values, joined. Both may be empty.
 abbrev pub AreTexts : List TokenView → List ℕ → Type 0
 AreTexts tokens text =
     IsTrue (list_all (λ token. is_text token.kind) tokens)
     × (text ≡ flat_map (λ token. token.value) tokens)
 
--- The tokens are a placeholder with this name that matches `PlaceholderKindView`.
+-- The tokens are a placeholder with this name, or without a name, and of this kind.
 abbrev pub IsPlaceholderOf : List TokenView → Option (List ℕ) → PlaceholderKindView → Type 0
 IsPlaceholderOf tokens (Some name) Segment =
     (kinds tokens ≡ Name ∷ []) × (values tokens ≡ name ∷ [])
@@ -76,7 +77,7 @@ IsPlaceholderOf tokens None Anything = kinds tokens ≡ Asterisk ∷ []
 IsPlaceholderOf tokens (Some name) Anything = ⊥
 IsPlaceholderOf tokens None Segment = ⊥
 
--- The tokens spell the modifier.
+-- The tokens are those of the modifier: none for `None`, otherwise a single one.
 abbrev pub IsModifier : List TokenView → PartModifier → Type 0
 IsModifier tokens PartModifier.None = tokens ≡ []
 IsModifier tokens PartModifier.Optional =
@@ -85,7 +86,8 @@ IsModifier tokens PartModifier.OneOrMore =
     (kinds tokens ≡ OtherModifier ∷ []) × (values tokens ≡ codes "+" ∷ [])
 IsModifier tokens PartModifier.ZeroOrMore = kinds tokens ≡ Asterisk ∷ []
 
--- The prefix is empty without tokens, or the prefix code point as a Char token.
+-- The tokens before a placeholder are its prefix: no tokens for the empty prefix, or a Char token
+-- of the prefix code point `point`.
 abbrev pub IsPrefixOf : (point : List ℕ) → List TokenView → List ℕ → Type 0
 IsPrefixOf point tokens prefix =
     ((tokens ≡ []) × (prefix ≡ []))
@@ -99,29 +101,33 @@ is_modifier OtherModifier = true
 is_modifier Asterisk = true
 is_modifier kind = false
 
--- A modifier token belongs to the piece before it.
+-- A piece with this modifier may end before `rest`: a piece without a modifier only if `rest` does
+-- not begin with a modifier token.
 abbrev pub TakesModifier : PartModifier → List TokenView → Type 0
 TakesModifier PartModifier.None rest = ¬ BeginsWithKind is_modifier rest
 TakesModifier modifier rest = Unit {0}
 
--- Whether the kind is a custom regular expression.
+-- Whether a token of this kind is a custom regular expression.
 abbrev pub is_regexp : TokenType → Bool
 is_regexp Regexp = true
 is_regexp kind = false
 
--- A Regexp token belongs to the name before it.
+-- A placeholder of this kind may end before `rest`: a name alone only if `rest` does not begin with
+-- a Regexp token.
 abbrev pub TakesRegexp : PlaceholderKindView → List TokenView → Type 0
 TakesRegexp Segment rest = ¬ BeginsWithKind is_regexp rest
 TakesRegexp matched rest = Unit {0}
 
--- A Char token with the prefix code point belongs to the placeholder after it.
+-- The token may be a piece of its own before `rest`: it is not the prefix code point `point` as a
+-- Char token directly before a placeholder.
 abbrev pub TakesPrefix : (point : List ℕ) → TokenView → List TokenView → Type 0
 TakesPrefix point token rest =
     token.kind ≡ Char → token.value ≡ point → ¬ BeginsWithKind is_placeholder rest
 
 -- ---- pieces
 
--- The tokens before `rest` are a prefix, a placeholder and a modifier, without braces.
+-- `tokens`, before `rest`, are a prefix, a placeholder and a modifier, without braces. `point` is
+-- the prefix code point.
 pub record IsBare (point : List ℕ) (tokens : List TokenView) (prefix : List ℕ)
     (placeholder : Placeholder) (modifier : PartModifier) (rest : List TokenView) : Type 0 where
   pub front : List TokenView
@@ -134,7 +140,7 @@ pub record IsBare (point : List ℕ) (tokens : List TokenView) (prefix : List �
   pub takes_regexp : TakesRegexp placeholder.matched (back ++ rest)
   pub takes_modifier : TakesModifier modifier rest
 
--- The tokens before `rest` are `inner` in braces and a modifier.
+-- `tokens`, before `rest`, are `inner` in braces and a modifier.
 pub record IsBraced (tokens inner : List TokenView) (modifier : PartModifier)
     (rest : List TokenView) : Type 0 where
   pub opening : TokenView
@@ -146,7 +152,8 @@ pub record IsBraced (tokens inner : List TokenView) (modifier : PartModifier)
   pub is_modifier : IsModifier back modifier
   pub takes_modifier : TakesModifier modifier rest
 
--- The tokens between braces, before `rest`, are texts, a placeholder and texts.
+-- `inner`, before `rest`, is literal characters with the text `before`, a placeholder, and literal
+-- characters with the text `after`.
 pub record IsFilled (inner : List TokenView) (before : List ℕ) (placeholder : Placeholder)
     (after : List ℕ) (rest : List TokenView) : Type 0 where
   pub front : List TokenView
@@ -158,7 +165,7 @@ pub record IsFilled (inner : List TokenView) (before : List ℕ) (placeholder : 
   pub takes_regexp : TakesRegexp placeholder.matched (back ++ rest)
   pub are_texts_after : AreTexts back after
 
--- The tokens before `rest` are this piece.
+-- The tokens, before `rest`, are this piece. `point` is the prefix code point.
 abbrev pub IsPiece : (point : List ℕ) → List TokenView → Piece → (rest : List TokenView) → Type 0
 IsPiece point tokens (Text text) rest =
     (token : TokenView) × (tokens ≡ token ∷ []) × IsTrue (is_text token.kind) × (text ≡ token.value)
@@ -187,7 +194,8 @@ is_stop OtherModifier = true
 is_stop InvalidChar = true
 is_stop kind = false
 
--- The tokens are the content of a group, and `rest` does not continue it.
+-- `inner` is all of the content of a group: literal characters, with or without a placeholder,
+-- which `rest` does not continue.
 abbrev pub IsOpenGroup : List TokenView → List TokenView → Type 0
 IsOpenGroup inner rest =
     ¬ BeginsWithKind is_text rest
@@ -196,7 +204,8 @@ IsOpenGroup inner rest =
     ((before after : List ℕ) × (placeholder : Placeholder)
     × IsFilled inner before placeholder after rest))
 
--- The tokens after the last piece have this ending.
+-- The tokens, which follow the last piece, begin with the token of `Stops`, or with a group that
+-- has the token of `LacksClose` in place of its Close.
 abbrev pub IsEnding : List TokenView → Ending → Type 0
 IsEnding tokens (Stops found) =
     (more : List TokenView) × (tokens ≡ found ∷ more) × IsTrue (is_stop found.kind)
@@ -206,7 +215,7 @@ IsEnding tokens (LacksClose found) =
     × (opening.kind ≡ Open)
     × IsOpenGroup inner (found ∷ more) × (found.kind ≢ Close)
 
--- The tokens are these pieces, and then have the ending.
+-- The tokens are these pieces, and then end in this way. `point` is the prefix code point.
 abbrev pub ArePieces : (point : List ℕ) → List TokenView → List Piece → Ending → Type 0
 ArePieces point tokens [] ending = IsEnding tokens ending
 ArePieces point tokens (piece ∷ pieces) ending =

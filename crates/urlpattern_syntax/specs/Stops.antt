@@ -3,13 +3,14 @@ use Rattle.std.specs.Prelude.{◌≡◌, ℕ, List, ◌∷◌, ◌++◌}
 use Rattle.urlpattern_syntax.specs.Pieces.{ArePieces, Ending, IsEnding, LacksClose, Piece, Stops}
 use Rattle.urlpattern_syntax.specs.Tokens.{AreTokens, TokenView}
 
--- The token at which the pieces end.
+-- The token of an ending: the token that begins no piece, or that is in place of a group's Close.
 abbrev pub stopping_token : Ending → TokenView
 stopping_token (Stops found) = found
 stopping_token (LacksClose found) = found
 
--- The pieces of the text end at the token `found`. The first token outside the pieces is `first`:
--- `found` itself, or the Open of the group that lacks its Close.
+-- The pieces of the text, with the prefix code point `point`, end at the token `found`. The first
+-- token outside the pieces is `first`: `found` itself, or the Open of the group that lacks its
+-- Close.
 pub record IsStopOf (text point : List ℕ) (first found : TokenView) : Type 0 where
   pub tokens : List TokenView
   pub front : List TokenView

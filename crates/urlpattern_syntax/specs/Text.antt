@@ -10,7 +10,7 @@ use Rattle.unicode.specs.Binary.{is_id_start, is_id_continue}
 abbrev pub text_of : String Global → List ℕ
 text_of string = chars (string_bytes string)
 
--- The characters of an optional text.
+-- The characters of an optional text, `None` for no text.
 abbrev pub option_text : Option (Bor (List ℕ)) → Option (List ℕ)
 option_text text = option_map (λ (present : Bor (List ℕ)). chars present.now) text
 
@@ -18,7 +18,7 @@ option_text text = option_map (λ (present : Bor (List ℕ)). chars present.now)
 unfoldable pub byte_len : List ℕ → ℕ
 byte_len text = length (encode_utf8_all text)
 
--- The suffix `rest` of `whole` begins at this byte index.
+-- `rest`, a suffix of `whole`, begins at this byte index of `whole`.
 abbrev pub BeginsAt : (whole rest : List ℕ) → ℕ → Type 0
 BeginsAt whole rest place = place + byte_len rest ≡ byte_len whole
 
@@ -31,7 +31,7 @@ abbrev pub begins_with : (ℕ → Bool) → List ℕ → Bool
 begins_with test [] = false
 begins_with test (c ∷ text) = test c
 
--- The text begins with a character that passes the test.
+-- The text is not empty, and its first character passes the test.
 abbrev pub BeginsWith : (ℕ → Bool) → List ℕ → Type 0
 BeginsWith test [] = IsTrue false
 BeginsWith test (c ∷ text) = IsTrue (test c)
@@ -40,19 +40,21 @@ BeginsWith test (c ∷ text) = IsTrue (test c)
 abbrev pub lacks : ℕ → List ℕ → Bool
 lacks c text = list_all (λ other. not (other == c)) text
 
+-- The character LF.
 abbrev pub line_feed : ℕ
 line_feed = slice_index (codes "\n") 0
 
--- The text is a concatenation of n texts of this kind.
+-- The text is a concatenation of n texts, and `Is` holds of each of them.
 abbrev pub IsRepeated : (List ℕ → Type 0) → ℕ → List ℕ → Type 0
 IsRepeated Is zero text = text ≡ []
 IsRepeated Is (suc n) text =
     (first rest : List ℕ) × (text ≡ first ++ rest) × Is first × IsRepeated Is n rest
 
--- Whether a name may begin with the character: ID_Start, `$` or `_`.
+-- Whether the name of a group may begin with the character: ID_Start, `$` or `_`.
 unfoldable pub is_name_start : ℕ → Bool
 is_name_start c = is_id_start c || is_among (codes "$_") c
 
--- Whether a name may continue with the character: ID_Continue, `$`, U+200C or U+200D.
+-- Whether the name of a group may have the character after its first one: ID_Continue, `$`, U+200C
+-- or U+200D.
 unfoldable pub is_name_part : ℕ → Bool
 is_name_part c = is_id_continue c || is_among (codes "$") c || is_among (0x200C ∷ 0x200D ∷ []) c

@@ -7,27 +7,28 @@ use Rattle.urlpattern_syntax.specs.declared.tokenizer.TokenizePolicy.{TokenizePo
 use Rattle.urlpattern_syntax.specs.declared.tokenizer.TokenType.TheVariants.{Asterisk, Char, Close, End, EscapedChar, InvalidChar, Name, Open, OtherModifier, Regexp}
 use Rattle.urlpattern_syntax.specs.Text.{BeginsAt, BeginsWith, byte_len, chars, is_among, is_name_part, is_name_start}
 
--- A token: its kind, the byte where its spelling begins, and its value.
+-- The view of a `Token`: its kind, the byte index at which it begins in the pattern text, and its
+-- value.
 pub record TokenView : Type 0 where
   pub kind : TokenType
   pub index : ℕ
   pub value : List ℕ
 
--- A token, as clauses see it.
+-- The view of a `Token`.
 abbrev pub token_view : Token → TokenView
 token_view token = record { kind = token.kind; index = token.index; value = chars token.value.now }
 
 -- ---- the body of a custom regular expression
 
--- A body: an escaped character, a plain character or a parenthesized body, and then the rest of the
--- body.
+-- The body of a custom regular expression: nothing; or an escaped character, a plain character or a
+-- body in parentheses, and then a further body.
 pub data Body : Type 0 where
   Nothing : Body
   Escaped : ℕ → Body → Body
   Plain : ℕ → Body → Body
   Group : Body → Body → Body
 
--- The text of a body.
+-- The text that a body stands for, with backslashes and inner parentheses.
 abbrev pub body_text : Body → List ℕ
 body_text Nothing = []
 body_text (Escaped c body) = codes "\\" ++ c ∷ body_text body
@@ -38,7 +39,8 @@ body_text (Group inner body) = codes "(" ++ body_text inner ++ codes ")" ++ body
 abbrev pub is_question_mark : ℕ → Bool
 is_question_mark c = is_among (codes "?") c
 
--- A body of ASCII characters, in which `?` follows each inner opening parenthesis.
+-- All characters of the body are ASCII, no plain one is a backslash or a parenthesis, and `?`
+-- follows each inner opening parenthesis.
 abbrev pub IsBody : Body → Type 0
 IsBody Nothing = Unit {0}
 IsBody (Escaped c body) = (c < 128) × IsBody body
@@ -46,7 +48,8 @@ IsBody (Plain c body) = (c < 128) × ¬ IsTrue (is_among (codes "\\()") c) × Is
 IsBody (Group inner body) =
     BeginsWith is_question_mark (body_text inner) × IsBody inner × IsBody body
 
--- The text is the value of a Regexp token.
+-- The text is what a Regexp token has between its parentheses: a body that is not empty and does
+-- not begin with `?`.
 pub record IsRegexpBody (text : List ℕ) : Type 0 where
   pub body : Body
   pub is_body : IsBody body
@@ -64,12 +67,13 @@ marks = codes "{}*+?\\:("
 abbrev pub is_ignored : ℕ → Bool
 is_ignored c = is_among (codes "\t\n\r") c
 
--- The text is a name.
+-- The text may be the name of a group: a first character of names, and then characters that names
+-- may have.
 abbrev pub IsName : List ℕ → Type 0
 IsName [] = ⊥
 IsName (c ∷ text) = IsTrue (is_name_start c) × IsTrue (list_all is_name_part text)
 
--- The text spells one token of this kind and value.
+-- `text` spells exactly one token, of this kind and with this value.
 abbrev pub Spells : TokenType → (value text : List ℕ) → Type 0
 Spells Open value text = (value ≡ text) × (text ≡ codes "{")
 Spells Close value text = (value ≡ text) × (text ≡ codes "}")
@@ -81,17 +85,17 @@ Spells Regexp value text = (text ≡ codes "(" ++ value ++ codes ")") × IsRegex
 Spells Char value text =
     (value ≡ text)
     × ((c : ℕ) × (text ≡ c ∷ []) × ¬ IsTrue (is_among marks c) × ¬ IsTrue (is_ignored c))
--- End and InvalidChar have no spelling: the first follows the whole text, the second replaces a
--- fault.
+-- End and InvalidChar have no spelling: End follows the whole text, and InvalidChar is a character
+-- at which no token begins.
 Spells End value text = ⊥
 Spells InvalidChar value text = ⊥
 
--- A name has maximal length.
+-- A token of this kind may end before `rest`: a name only if `rest` does not continue it.
 abbrev pub IsMaximal : TokenType → List ℕ → Type 0
 IsMaximal Name rest = ¬ BeginsWith is_name_part rest
 IsMaximal kind rest = Unit {0}
 
--- The text begins with the spelling of a token, and `rest` follows.
+-- `text` begins with a token of this kind with this value, and `rest` follows.
 pub record IsLexed (text : List ℕ) (kind : TokenType) (value rest : List ℕ) : Type 0 where
   pub spelling : List ℕ
   pub cut : text ≡ spelling ++ rest
@@ -100,35 +104,38 @@ pub record IsLexed (text : List ℕ) (kind : TokenType) (value rest : List ℕ) 
 
 -- ---- faults
 
--- The start of a body, which stops in the body or inside an inner parenthesis.
+-- The start of a body: a body (`Here`); or a body, an inner opening parenthesis that is not closed,
+-- and the start of a body after it (`Inside`).
 pub data BodyStart : Type 0 where
   Here : Body → BodyStart
   Inside : Body → BodyStart → BodyStart
 
--- The text of the start of a body.
+-- The text that the start of a body stands for, with backslashes and parentheses.
 abbrev pub body_start_text : BodyStart → List ℕ
 body_start_text (Here body) = body_text body
 body_start_text (Inside body front) = body_text body ++ codes "(" ++ body_start_text front
 
--- The start of a valid body.
+-- All bodies in the start are as `IsBody` says, and `?` follows each parenthesis that is not
+-- closed.
 abbrev pub IsBodyStart : BodyStart → Type 0
 IsBodyStart (Here body) = IsBody body
 IsBodyStart (Inside body front) =
     IsBody body × IsBodyStart front × BeginsWith is_question_mark (body_start_text front)
 
--- The text may follow an opening parenthesis before a fault.
+-- The text may be the start of a custom regular expression: it is the start of a body, perhaps
+-- empty, and does not begin with `?`.
 pub record IsRegexpStart (text : List ℕ) : Type 0 where
   pub front : BodyStart
   pub is_front : IsBodyStart front
   pub spelled : text ≡ body_start_text front
   pub not_marked : ¬ BeginsWith is_question_mark text
 
--- A fault after an opening parenthesis.
+-- Why an opening parenthesis does not begin a custom regular expression.
 pub data RegexpFault : Type 0 where
   StartsWithQuestionMark NotAscii EscapedNotAscii GroupAtEnd CapturingGroup NotClosed NoBody :
       RegexpFault
 
--- The text after an opening parenthesis has this fault.
+-- `rest`, the text after an opening parenthesis, has this fault.
 abbrev pub LacksRegexp : List ℕ → RegexpFault → Type 0
 LacksRegexp rest StartsWithQuestionMark = BeginsWith is_question_mark rest
 LacksRegexp rest NotAscii =
@@ -155,12 +162,12 @@ reason CapturingGroup = codes "nested groups must start with ?"
 reason NotClosed = codes "missing closing )"
 reason NoBody = codes "length must be > 0"
 
--- A `TokenizerError`, with its reason as a text.
+-- The view of a `TokenizerError`, with the reason of `InvalidRegex` in words.
 pub data FaultView : Type 0 where
   IncompleteEscapeCode InvalidName : FaultView
   InvalidRegex : List ℕ → FaultView
 
--- The words of a reason.
+-- The words in which a `RegexFault` is reported.
 abbrev pub regex_fault_text : RegexFault → List ℕ
 regex_fault_text RegexFault.BadCharacter = reason NotAscii
 regex_fault_text RegexFault.BadEscape = reason EscapedNotAscii
@@ -169,13 +176,13 @@ regex_fault_text RegexFault.NestedGroupCaptures = reason CapturingGroup
 regex_fault_text RegexFault.MissingClose = reason NotClosed
 regex_fault_text RegexFault.Empty = reason NoBody
 
--- A `TokenizerError`, as clauses see it.
+-- The view of a `TokenizerError`.
 abbrev pub fault_view : TokenizerError → FaultView
 fault_view TokenizerError.IncompleteEscapeCode = IncompleteEscapeCode
 fault_view TokenizerError.InvalidName = InvalidName
 fault_view (TokenizerError.InvalidRegex fault) = InvalidRegex (regex_fault_text fault)
 
--- No token begins at the start of the text, because of this fault.
+-- No token begins at the start of the text, and this fault is the reason.
 abbrev pub IsFaultAt : List ℕ → FaultView → Type 0
 IsFaultAt text IncompleteEscapeCode =
     (text ≡ codes "\\")
@@ -190,42 +197,46 @@ IsFaultAt text (InvalidRegex reported) =
 
 -- ---- whole texts
 
--- The text is characters that pass the test, and then `rest`.
+-- `text` is any number of characters that pass the test, and then `rest`.
 abbrev pub SkipsBy : (ℕ → Bool) → (text rest : List ℕ) → Type 0
 SkipsBy test text rest =
     (skipped : List ℕ) × (text ≡ skipped ++ rest) × IsTrue (list_all test skipped)
 
--- The text is skipped characters, and then `rest`.
+-- `text` is any number of tabs, line feeds and carriage returns, and then `rest`.
 abbrev pub Skips : (text rest : List ℕ) → Type 0
 Skips text rest = SkipsBy is_ignored text rest
 
--- The text is these tokens and then `left`. Each token is an `Item` of the text at its place.
+-- The text is these tokens, with skipped characters before each, and then `left`, also after
+-- skipped characters. `Item` relates the text at which a token begins, the token, and what follows
+-- it.
 abbrev pub IsCut : (List ℕ → TokenView → List ℕ → Type 0) → List ℕ → List TokenView → List ℕ
     → Type 0
 IsCut Item text [] left = Skips text left
 IsCut Item text (token ∷ tokens) left =
     (start rest : List ℕ) × Skips text start × Item start token rest × IsCut Item rest tokens left
 
--- The text, a suffix of `whole`, begins with the token, and `rest` follows.
+-- `text`, a suffix of `whole`, begins with the token, whose index is its place in `whole`, and
+-- `rest` follows.
 pub record IsTokenOf (whole text : List ℕ) (token : TokenView) (rest : List ℕ) : Type 0 where
   pub lexed : IsLexed text token.kind token.value rest
   pub place : BeginsAt whole text token.index
 
--- Strict tokens without End, and then `left`.
+-- The text is cut into these tokens under the strict policy, without End, and then `left`.
 abbrev pub IsStrictCut : (text : List ℕ) → List TokenView → (left : List ℕ) → Type 0
 IsStrictCut text tokens left = IsCut (IsTokenOf text) text tokens left
 
--- The End token of a text.
+-- The End token of a text, at the index of its end.
 abbrev pub end_of : List ℕ → TokenView
 end_of text = record { kind = End; index = byte_len text; value = [] }
 
--- The strict tokens of the text.
+-- The whole text is cut into these tokens under the strict policy, and End is the last.
 pub record AreTokens (text : List ℕ) (tokens : List TokenView) : Type 0 where
   pub front : List TokenView
   pub cut : IsStrictCut text front []
   pub all : tokens ≡ front ++ end_of text ∷ []
 
--- The first fault of the text, and its byte index.
+-- The text before `index` is cut into tokens under the strict policy, and at `index` no token
+-- begins, for the reason `reported`.
 pub record IsFault (text : List ℕ) (reported : FaultView) (index : ℕ) : Type 0 where
   pub front : List TokenView
   pub left : List ℕ
@@ -233,7 +244,8 @@ pub record IsFault (text : List ℕ) (reported : FaultView) (index : ℕ) : Type
   pub place : BeginsAt text left index
   pub fault : IsFaultAt left reported
 
--- The text, a suffix of `whole`, begins with a fault, whose character becomes an InvalidChar token.
+-- `text`, a suffix of `whole`, begins with a character at which no token begins. `token` is the
+-- InvalidChar of the character, and `rest` follows.
 pub record IsInvalidCharOf (whole text : List ℕ) (token : TokenView) (rest : List ℕ) : Type 0 where
   pub character : ℕ
   pub cut : text ≡ character ∷ rest
@@ -242,8 +254,8 @@ pub record IsInvalidCharOf (whole text : List ℕ) (token : TokenView) (rest : L
   pub is_token : token ≡ record { kind = InvalidChar; index = token.index; value = character ∷ [] }
   pub place : BeginsAt whole text token.index
 
--- The lenient tokens of the text: where no token begins, a single character is an InvalidChar
--- token.
+-- The whole text is cut into these tokens under the lenient policy, and End is the last: where no
+-- token begins, a single character is an InvalidChar token.
 pub record AreLenientTokens (text : List ℕ) (tokens : List TokenView) : Type 0 where
   pub front : List TokenView
   pub cut : IsCut
@@ -251,14 +263,15 @@ pub record AreLenientTokens (text : List ℕ) (tokens : List TokenView) : Type 0
       text front []
   pub all : tokens ≡ front ++ end_of text ∷ []
 
--- The tokens of the text under the policy.
+-- The whole text is cut into these tokens under the policy, and End is the last.
 abbrev pub AreTokensUnder : TokenizePolicy → (text : List ℕ) → List TokenView → Type 0
 AreTokensUnder TokenizePolicy.Strict text tokens = AreTokens text tokens
 AreTokensUnder TokenizePolicy.Lenient text tokens = AreLenientTokens text tokens
 
 -- ---- the results of calls
 
--- The text begins with a character at which no token begins, and `rest` follows.
+-- `text` begins with a character at which no token begins: `kind` is InvalidChar, `value` is the
+-- character, and `rest` follows.
 pub record IsInvalidChar (text : List ℕ) (kind : TokenType) (value rest : List ℕ) : Type 0 where
   pub character : ℕ
   pub cut : text ≡ character ∷ rest
@@ -267,14 +280,16 @@ pub record IsInvalidChar (text : List ℕ) (kind : TokenType) (value rest : List
   pub is_kind : kind ≡ InvalidChar
   pub is_value : value ≡ character ∷ []
 
--- The text after a backslash in a body does not begin with an ASCII character.
+-- The text, which follows a backslash in a body, does not begin with an ASCII character, and this
+-- is the fault.
 abbrev pub LacksEscaped : List ℕ → FaultView → Type 0
 LacksEscaped text IncompleteEscapeCode = text ≡ []
 LacksEscaped text InvalidName = ⊥
 LacksEscaped text (InvalidRegex reported) =
     (c : ℕ) × (more : List ℕ) × (text ≡ c ∷ more) × (128 ≤ c) × (reported ≡ reason EscapedNotAscii)
 
--- The text after an inner opening parenthesis does not begin with a question mark.
+-- The text, which follows an inner opening parenthesis, does not begin with a question mark, and
+-- this is the fault.
 abbrev pub LacksQuestionMark : List ℕ → FaultView → Type 0
 LacksQuestionMark text IncompleteEscapeCode = ⊥
 LacksQuestionMark text InvalidName = ⊥
@@ -291,7 +306,8 @@ ReportsFault text (Error.Tokenizer fault place) = IsFault text (fault_view fault
 ReportsFault text Error.OutOfMemory = Unit {0}
 ReportsFault text other = ⊥
 
--- The error of a call with the policy. With the lenient policy no fault is reported.
+-- The error may be returned for the text under the policy: under the strict one its first fault or
+-- `OutOfMemory`, under the lenient one only `OutOfMemory`.
 abbrev pub ReportsFaultUnder : TokenizePolicy → List ℕ → Error → Type 0
 ReportsFaultUnder TokenizePolicy.Strict text error = ReportsFault text error
 ReportsFaultUnder TokenizePolicy.Lenient text error = error ≡ Error.OutOfMemory

@@ -2,7 +2,8 @@
 use Rattle.url.specs.declared.error.ParseError.{ParseError}
 use Rattle.urlpattern_syntax.specs.Errors.{ErrorView}
 
--- The error for a text that `url` rejects for this reason. `OutOfMemory` stays `OutOfMemory`.
+-- The error of a pattern for an error of `url`: `OutOfMemory` for `OutOfMemory`, `Url` for any
+-- other reason.
 abbrev pub url_error : ParseError → ErrorView
 url_error ParseError.OutOfMemory = ErrorView.OutOfMemory
 url_error reason = ErrorView.Url reason

@@ -9,24 +9,29 @@ use Rattle.std.specs.declared.alloc.Global.{Global}
 use Rattle.urlpattern_syntax.specs.Text.{byte_len, text_of}
 use Rattle.urlpattern_syntax.specs.Writing.{Appends, Compares, Counts, HasRoom}
 
+-- The empty text has no bytes.
 pub byte_len-nil : byte_len [] ≡ 0
 unfolding byte_len
 byte_len-nil = refl
 
+-- Two texts joined have as many bytes as both of them.
 pub byte_len-append : (xs ys : List ℕ) → byte_len (xs ++ ys) ≡ byte_len xs + byte_len ys
 unfolding byte_len
 byte_len-append xs ys =
     ap length (encodes-append xs ys) ∙ length-append (encode_utf8_all xs) (encode_utf8_all ys)
 
+-- The length of a `String` is that of its characters in UTF-8.
 byte_len-string : (string : String Global) → byte_len (text_of string) ≡ string_len string
 unfolding byte_len
 byte_len-string string =
     ap length (encodes-chars (string_bytes string) (IsUtf8-string_bytes string))
     ∙ sym string.bytes.ok.0
 
+-- Writing the empty text leaves a counter as it is.
 pub counts_nothing : (bytes : ℕ) → Counts bytes [] bytes
 counts_nothing bytes = record { count = λ below. omega (arith, byte_len-nil) }
 
+-- Writing two texts one after the other counts the bytes of the joined text.
 pub counts_both : (before between after : ℕ) (xs ys : List ℕ) → Counts before xs between
     → Counts between ys after → Counts before (xs ++ ys) after
 counts_both before between after xs ys first second = record {
@@ -36,10 +41,12 @@ counts_both before between after xs ys first second = record {
       omega (arith, byte_len-append xs ys);
 }
 
+-- A `String` that has room for two texts has room for the first.
 pub room_front : (string : String Global) (xs ys : List ℕ) → HasRoom string (xs ++ ys)
     → HasRoom string xs
 room_front string xs ys h = record { room = omega (arith, byte_len-append xs ys, h.room) }
 
+-- A `String` that has room for two texts, once the first is appended, has room for the second.
 pub room_rest : (before after : String Global) (xs ys : List ℕ) → HasRoom before (xs ++ ys)
     → Appends before xs after → HasRoom after ys
 room_rest before after xs ys h appends =
@@ -49,9 +56,11 @@ room_rest before after xs ys h appends =
     let new = byte_len-string after in
     record { room = omega (arith, h.room, appends.capacity) }
 
+-- Writing the empty text leaves a `String` as it is.
 pub appends_nothing : (string : String Global) → Appends string [] string
 appends_nothing string = record { text = sym (append-nil _); capacity = omega arith }
 
+-- Writing two texts one after the other appends the joined text.
 pub appends_both : (before between after : String Global) (xs ys : List ℕ)
     → Appends before xs between
     → Appends between ys after → Appends before (xs ++ ys) after
@@ -60,6 +69,7 @@ appends_both before between after xs ys first second = record {
   capacity = omega (arith, first.capacity, second.capacity);
 }
 
+-- Writing the empty text leaves a comparison as it is.
 pub compares_nothing : (left : Option (List ℕ)) → Compares left [] left
 compares_nothing None = refl
 compares_nothing (Some text) = refl
@@ -70,6 +80,7 @@ compares_one : (text between xs ys : List ℕ) → text ≡ xs ++ between
 compares_one text between xs ys e rest f =
     append_cancel_left xs between (ys ++ rest) (sym e ∙ f ∙ append_assoc xs ys rest)
 
+-- Writing two texts one after the other compares the joined text.
 pub compares_both : (before between after : Option (List ℕ)) (xs ys : List ℕ)
     → Compares before xs between
     → Compares between ys after → Compares before (xs ++ ys) after

@@ -26,15 +26,16 @@ use std::{error, fmt};
 /// ```
 #[derive(Debug, PartialEq, Eq, Drop)]
 pub enum Error {
-    /// A relative input was given with no base URL.
+    /// A constructor string has no protocol, and no base URL was given.
     BaseUrlRequired,
     /// An init and a separate base URL were both given.
     BaseUrlWithInit,
-    /// No token begins at this byte index of a pattern text.
+    /// No token begins at a place of a pattern text, for this reason. The number is the byte index
+    /// of the place.
     Tokenizer(TokenizerError, usize),
     /// The tokens of a pattern text do not form a pattern.
     Parser(ParserError),
-    /// A part of a URL is not valid.
+    /// A URL, or the value of a component, is not valid.
     Url(url::ParseError),
     /// The engine rejected a regular expression.
     RegExp(()),
@@ -42,7 +43,7 @@ pub enum Error {
     OutOfMemory,
 }
 
-/// Prints the message, with the place in the pattern text for an error of the tokenizer.
+/// Prints the message; for an error of the tokenizer also the byte index in the pattern text.
 impl fmt::Display for Error {
     ghost output = { λ error. error_text (error_view error) };
 
@@ -116,7 +117,7 @@ pub enum TokenizerError {
     InvalidRegex(RegexFault),
 }
 
-/// Prints the fault.
+/// Prints why no token begins, without the place.
 impl fmt::Display for TokenizerError {
     ghost output = { λ error. Some (fault_text (fault_view error)) };
 
@@ -137,7 +138,8 @@ impl error::Error for TokenizerError {}
 /// Why an opening parenthesis does not begin a custom regular expression.
 #[derive(Debug, Clone, Copy, PartialEq, Eq)]
 pub enum RegexFault {
-    /// The expression starts with a question mark, or has a character that is not ASCII.
+    /// The expression starts with a question mark, or has a character that is neither ASCII nor
+    /// escaped.
     BadCharacter,
     /// A backslash escapes a character that is not ASCII.
     BadEscape,
@@ -154,7 +156,7 @@ pub enum RegexFault {
 impl RegexFault {
     ghost use Rattle.urlpattern_syntax.specs.Tokens.{regex_fault_text};
 
-    /// Returns the reason in words.
+    /// Returns the reason in the words of the message of an error.
     pub fn as_str(self) -> &'static str
         ensures { result.now ≡ regex_fault_text self }
     {
@@ -178,7 +180,8 @@ pub enum ParserError {
     DuplicateName(String),
 }
 
-/// Prints the expected and the found token, or the name.
+/// Prints the expected kind of token, and the value and the kind of the token found; or the name
+/// that two groups have.
 impl fmt::Display for ParserError {
     ghost output = { λ error. Some (parser_error_text error) };
 
@@ -202,11 +205,11 @@ impl fmt::Display for ParserError {
 
 impl error::Error for ParserError {}
 
-/// Memory ran out.
+/// Memory ran out: the error of functions that have no other.
 #[derive(Debug, PartialEq, Eq, Drop)]
 pub struct OutOfMemory;
 
-/// Prints the text of [`Error::OutOfMemory`].
+/// Prints `out of memory`, as [`Error::OutOfMemory`] does.
 impl fmt::Display for OutOfMemory {
     ghost output = { λ error. error_text view.OutOfMemory };
 
@@ -238,7 +241,7 @@ pub enum RegExpError {
     OutOfMemory,
 }
 
-/// Prints the text of the [`Error`] of the same name; for `Pattern`, that of [`Error::RegExp`].
+/// Prints `regexp error` for `Pattern` and `out of memory` for `OutOfMemory`, as [`Error`] does.
 impl fmt::Display for RegExpError {
     ghost output = { λ error. error_text (regexp_error_view error) };
 

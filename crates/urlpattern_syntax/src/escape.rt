@@ -1,4 +1,5 @@
-//! Texts with a backslash before each special character.
+//! Texts with a backslash before each special character, and the regular expression of a segment
+//! wildcard.
 ghost use Rattle.std.specs.Prelude.{◌≡◌, ◌∷◌, [], IfOk};
 ghost use Rattle.std.specs.Str.{chars};
 ghost use Rattle.urlpattern_syntax.specs.{Errors.OnlyOutOfMemory, Options.options_view};
@@ -13,7 +14,7 @@ use crate::text::{before, split_first};
 use crate::writing::{Writable, Writer, written};
 use std::alloc::Global;
 
-/// Escapes a text for a pattern, with a backslash before each special character.
+/// Returns the text with a backslash before each character that is special in a pattern.
 ///
 /// <https://urlpattern.spec.whatwg.org/#escape-a-pattern-string>
 pub fn escape_pattern_string(alloc: Global, input: &str) -> Result<String, Error>
@@ -23,7 +24,7 @@ pub fn escape_pattern_string(alloc: Global, input: &str) -> Result<String, Error
     Ok(written(alloc, &Escaped::pattern(input))?)
 }
 
-/// The characters that are escaped with a backslash.
+/// Which characters get a backslash before them.
 #[derive(Clone, Copy)]
 pub enum Marks {
     /// The special characters of regular expressions in this syntax.
@@ -33,7 +34,7 @@ pub enum Marks {
 }
 
 impl Marks {
-    /// Whether the character is among the marks.
+    /// Whether the character gets a backslash before it.
     fn contain(self, c: char) -> bool
         ensures { result ≡ is_among (marks_of self) c }
     {
@@ -44,8 +45,8 @@ impl Marks {
         }
     }
 
-    /// Writes the text with a backslash before each mark. The text between two backslashes is
-    /// written in one call.
+    /// Writes the text with a backslash before each character that is among the marks. What is
+    /// between two backslashes is written in one call.
     fn write_escaped<W: Writer>(self, text: &str, writer: &mut W)
         requires { W.Fits writer.old (escaped (marks_of self) (chars text.now)) }
         ensures { W.Writes writer.old (escaped (marks_of self) (chars text.now)) writer.new }
@@ -64,7 +65,8 @@ impl Marks {
     }
 }
 
-/// Whether the character is special in a regular expression.
+/// Whether the character is special in a regular expression of either syntax. A slash, which is
+/// escaped for ECMAScript only, is left to the caller.
 fn is_regexp_mark(c: char) -> bool
     ensures { result ≡ is_among regexp_marks c }
 {
@@ -74,14 +76,14 @@ fn is_regexp_mark(c: char) -> bool
     )
 }
 
-/// Whether the character is special in a pattern.
+/// Whether the character is special in a pattern text.
 fn is_pattern_mark(c: char) -> bool
     ensures { result ≡ is_among pattern_marks c }
 {
     matches!(c, '+' | '*' | '?' | ':' | '{' | '}' | '(' | ')' | '\\')
 }
 
-/// A text that is written with a backslash before each mark.
+/// A text that is written with a backslash before each character that is among `marks`.
 #[derive(Clone, Copy)]
 pub struct Escaped<'a> {
     marks: Marks,
@@ -89,7 +91,8 @@ pub struct Escaped<'a> {
 }
 
 impl<'a> Escaped<'a> {
-    /// Returns the text, escaped for a regular expression.
+    /// Returns a `Writable` that writes `text` escaped for a regular expression in the syntax of
+    /// `options`.
     pub fn regexp(text: &'a str, options: &Options) -> Self
         ensures { escaped_text result ≡ escaped_regexp (options_view options.now) (chars text.now) }
     {
@@ -99,7 +102,7 @@ impl<'a> Escaped<'a> {
         }
     }
 
-    /// Returns the text, escaped for a pattern.
+    /// Returns a `Writable` that writes `text` escaped for a pattern.
     pub fn pattern(text: &'a str) -> Self
         ensures { escaped_text result ≡ escaped_pattern (chars text.now) }
     {
@@ -119,7 +122,7 @@ impl Writable for Escaped<'_> {
     }
 }
 
-/// A character that is written with a backslash before it if it is among the marks.
+/// Marks, and a character that is written with a backslash before it if it is among the marks.
 #[derive(Clone, Copy)]
 struct EscapedChar(Marks, char);
 
@@ -135,7 +138,8 @@ impl Writable for EscapedChar {
     }
 }
 
-/// The regular expression of a segment: one or more characters other than the delimiter.
+/// The regular expression of a segment wildcard under these options: one or more characters other
+/// than the delimiter, or `.+?` without a delimiter.
 ///
 /// <https://urlpattern.spec.whatwg.org/#generate-a-segment-wildcard-regexp>
 #[derive(Clone, Copy)]

@@ -1,5 +1,5 @@
-//! The syntax of URL patterns: the tokens and parts of a component's pattern text and what they
-//! mean, the errors, and how texts are written and escaped.
+//! The syntax of URL patterns: tokens, parts, options and errors; how texts are written and
+//! escaped; and definitions of the parts that a pattern text reads as.
 #![tactic(auto)]
 
 pub mod error;

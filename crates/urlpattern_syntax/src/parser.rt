@@ -1,13 +1,16 @@
 //! The parts of a pattern text, and the options with which it is parsed.
 //!
 //! <https://urlpattern.spec.whatwg.org/#parts-and-part-lists>
-ghost use Rattle.std.specs.Prelude.{◌≡◌, Some};
+ghost use Rattle.std.specs.Prelude.{◌≡◌, IfOk, Some};
 ghost use Rattle.std.specs.Str.{chars};
-ghost use Rattle.urlpattern_syntax.specs.{RegexpText.modifier_text, Text.text_of};
+ghost use Rattle.urlpattern_syntax.specs.{Errors.OnlyOutOfMemory, Text.text_of};
+ghost use Rattle.urlpattern_syntax.specs.Options.{default_options, hostname_options, options_view, pathname_options};
 ghost use Rattle.urlpattern_syntax.specs.Parts.{fixed_text, part_view};
+ghost use Rattle.urlpattern_syntax.specs.RegexpText.{escaped_regexp, modifier_text, segment_wildcard};
 
-mod option_sets;
-
+use crate::error::Error;
+use crate::escape::{Escaped, SegmentWildcard};
+use crate::writing::written;
 use serde::{Deserialize, Serialize};
 use std::alloc::Global;
 use std::fmt;
@@ -47,15 +50,85 @@ pub enum RegexSyntax {
 /// <https://urlpattern.spec.whatwg.org/#options-header>
 #[derive(Debug, Clone, Drop)]
 pub struct Options {
-    /// The character that ends a segment, which a name alone matches. Without a delimiter a name
-    /// matches any non-empty text.
+    /// The character that ends a segment. A name without a regular expression matches one segment,
+    /// or, without a delimiter, any non-empty text without line feed.
     pub delimiter_code_point: Option<char>,
-    /// The character that becomes the prefix of a group directly after it, or an empty text.
+    /// The character that becomes the prefix of a name, a regular expression or an asterisk
+    /// directly after it. Empty: no character does.
     pub prefix_code_point: String,
     /// The syntax of the generated regular expression.
     pub regex_syntax: RegexSyntax,
-    /// Whether case is ignored.
+    /// Whether the case of ASCII letters is ignored: by a matcher itself, and by its engine if that
+    /// honours the flag `i`.
     pub ignore_case: bool,
+}
+
+impl Options {
+    /// Returns the options of most components: no delimiter and no prefix code point.
+    ///
+    /// <https://urlpattern.spec.whatwg.org/#default-options>
+    pub fn default(alloc: Global) -> Self
+        ensures { options_view result ≡ default_options }
+    {
+        Self {
+            delimiter_code_point: None,
+            prefix_code_point: String::new(alloc),
+            regex_syntax: RegexSyntax::Rust,
+            ignore_case: false,
+        }
+    }
+
+    /// Returns the options of a hostname: a dot is the delimiter, and there is no prefix code
+    /// point.
+    ///
+    /// <https://urlpattern.spec.whatwg.org/#hostname-options>
+    pub fn hostname(alloc: Global) -> Self
+        ensures { options_view result ≡ hostname_options }
+    {
+        Self {
+            delimiter_code_point: Some('.'),
+            ..Self::default(alloc)
+        }
+    }
+
+    /// Returns the options of a pathname: a slash is the delimiter and the prefix code point.
+    ///
+    /// <https://urlpattern.spec.whatwg.org/#pathname-options>
+    pub fn pathname(alloc: Global) -> Result<Self, Error>
+        ensures ok { IfOk result (λ options. options_view options ≡ pathname_options) }
+        ensures memory { OnlyOutOfMemory result }
+    {
+        Ok(Self {
+            delimiter_code_point: Some('/'),
+            prefix_code_point: String::from_str(alloc, "/")?,
+            regex_syntax: RegexSyntax::Rust,
+            ignore_case: false,
+        })
+    }
+
+    /// Returns the text with a backslash before each character that is special in a regular
+    /// expression in the syntax of the options.
+    ///
+    /// <https://urlpattern.spec.whatwg.org/#escape-a-regexp-string>
+    pub fn escape_regexp_string(&self, alloc: Global, input: &str) -> Result<String, Error>
+        ensures escaped { IfOk result (λ text.
+            text_of text ≡ escaped_regexp (options_view self.now) (chars input.now)) }
+        ensures memory { OnlyOutOfMemory result }
+    {
+        Ok(written(alloc, &Escaped::regexp(input, self))?)
+    }
+
+    /// Returns the regular expression of a segment wildcard: one or more characters other than the
+    /// delimiter, or `.+?` without a delimiter.
+    ///
+    /// <https://urlpattern.spec.whatwg.org/#generate-a-segment-wildcard-regexp>
+    pub fn generate_segment_wildcard_regexp(&self, alloc: Global) -> Result<String, Error>
+        ensures wildcard { IfOk result (λ text.
+            text_of text ≡ segment_wildcard (options_view self.now)) }
+        ensures memory { OnlyOutOfMemory result }
+    {
+        Ok(written(alloc, &SegmentWildcard(self))?)
+    }
 }
 
 /// What a part matches.
@@ -63,17 +136,18 @@ pub struct Options {
 /// <https://urlpattern.spec.whatwg.org/#part-type>
 #[derive(Debug, PartialEq, Eq, Drop)]
 pub enum PartType {
-    /// The part's value.
+    /// The literal text `value` of the part.
     FixedText,
-    /// What a custom regular expression matches.
+    /// What the custom regular expression `value` matches.
     Regexp,
-    /// A non-empty text without the delimiter.
+    /// A non-empty text without the delimiter or, if the options have no delimiter, without line
+    /// feed.
     SegmentWildcard,
-    /// Any text.
+    /// Any text without line feed, written `.*` in the regular expression.
     FullWildcard,
 }
 
-/// How often a part may occur.
+/// How often a part may occur in a row.
 ///
 /// <https://urlpattern.spec.whatwg.org/#part-modifier>
 #[derive(Debug, Clone, Copy, PartialEq, Eq)]
@@ -89,7 +163,7 @@ pub enum PartModifier {
 }
 
 impl PartModifier {
-    /// Returns the modifier as patterns and regular expressions spell it.
+    /// Returns the sign of the modifier in patterns and regular expressions, empty for `None`.
     #[tactic(auto, using(crate::proofs::TextLemmas::modifier_chars))]
     pub fn as_str(&self) -> &'static str
         ensures bytes { result.now ≡ modifier_text self.now }
@@ -104,7 +178,7 @@ impl PartModifier {
     }
 }
 
-/// Writes the modifier as a pattern spells it.
+/// Writes the sign of the modifier in patterns, nothing for `None`.
 ///
 /// <https://urlpattern.spec.whatwg.org/#convert-a-modifier-to-a-string>
 impl fmt::Display for PartModifier {
@@ -132,11 +206,11 @@ impl fmt::Display for PartModifier {
 pub struct Part {
     /// What the part matches.
     pub kind: PartType,
-    /// The literal of a fixed text, the body of a custom regular expression, otherwise empty.
+    /// The literal text of a fixed text, the text of a custom regular expression, otherwise empty.
     pub value: String,
     /// How often the part may occur.
     pub modifier: PartModifier,
-    /// The name of the group, empty for a fixed text.
+    /// The name of the group, a number if the pattern text gives none; empty for a fixed text.
     pub name: String,
     /// The text before each occurrence, empty for a fixed text.
     pub prefix: String,
@@ -145,7 +219,8 @@ pub struct Part {
 }
 
 impl Part {
-    /// Returns a fixed text. Does not allocate.
+    /// Returns a part that matches the literal text `value`, as often as the modifier allows. Does
+    /// not allocate.
     pub fn fixed(alloc: Global, value: String, modifier: PartModifier) -> Self
         ensures { part_view result ≡ fixed_text (text_of value) modifier }
     {

@@ -2,7 +2,7 @@
 ghost use Rattle.std.specs.Prelude.{◌≡◌, ◌<◌, List, ℕ, ◌∷◌, ◌++◌, [], length, IfNone, IfSome};
 ghost use Rattle.std.specs.Str.{chars};
 
-/// Returns the text before its suffix `end`.
+/// Returns `text` without `end`, which has to be a suffix of `text`.
 pub fn before<'a>(text: &'a str, end: &str) -> &'a str
     requires { (front : List ℕ) × (chars text.now ≡ front ++ chars end.now) }
     ensures { chars text.now ≡ chars result.now ++ chars end.now }
@@ -10,7 +10,7 @@ pub fn before<'a>(text: &'a str, end: &str) -> &'a str
     &text[..text.len() - end.len()]
 }
 
-/// Returns the first character and the rest of the text, or `None` for an empty text.
+/// Returns the first character and the rest of the text. `None`: the text is empty.
 pub fn split_first(text: &str) -> Option<(char, &str)>
     ensures empty { IfNone result (chars text.now ≡ []) }
     ensures cut { IfSome result (λ found. chars text.now ≡ found.0 ∷ chars found.1.now) }

@@ -36,7 +36,7 @@ pub enum TokenType {
 impl TokenType {
     ghost use Rattle.urlpattern_syntax.specs.ErrorText.{kind_name};
 
-    /// Returns the name of the kind.
+    /// Returns the name of the kind, as the message of an error prints the kind.
     pub fn name(&self) -> &'static str
         ensures { result.now ≡ kind_name self.now }
     {
@@ -66,14 +66,15 @@ impl TokenType {
 pub struct Token<'a> {
     /// The kind of the token.
     pub kind: TokenType,
-    /// The byte index at which the spelling begins.
+    /// The byte index in the pattern text at which the token begins.
     pub index: usize,
-    /// The value, a slice of the pattern text: a name without its colon, the body of a regular
-    /// expression, an escaped character without its backslash, otherwise the spelling.
+    /// The value, a slice of the pattern text: a name without its colon, a custom regular
+    /// expression without its parentheses, an escaped character without its backslash, for other
+    /// kinds the whole token. `End` has an empty value.
     pub value: &'a str,
 }
 
-/// What the tokenizer does where no token begins.
+/// What the tokenizer does at a character at which no token begins.
 ///
 /// <https://urlpattern.spec.whatwg.org/#tokenize-policy>
 #[derive(Debug, PartialEq, Eq, Drop)]
@@ -84,7 +85,7 @@ pub enum TokenizePolicy {
     Lenient,
 }
 
-/// Whether a name may begin with the character.
+/// Whether the name of a group may begin with the character: ID_Start, `$` or `_`.
 ///
 /// <https://urlpattern.spec.whatwg.org/#is-a-valid-name-code-point>
 #[tactic(auto, using(crate::proofs::NameCharacters::start_ascii, crate::proofs::NameCharacters::start_other))]
@@ -97,7 +98,8 @@ pub fn is_name_start(c: char) -> bool
     is_id_start(c)
 }
 
-/// Whether a name may continue with the character.
+/// Whether the name of a group may have the character after its first one: ID_Continue, `$`, U+200C
+/// or U+200D.
 #[tactic(auto, using(crate::proofs::NameCharacters::part_ascii, crate::proofs::NameCharacters::part_other))]
 pub fn is_name_part(c: char) -> bool
     ensures { result ≡ is_name_part c }

@@ -12,6 +12,9 @@ use crate::text::split_first;
 use std::alloc::{AllocError, Global};
 
 /// A destination of text: a byte counter, a `String` with enough capacity, or a comparison.
+///
+/// `Fits` says that a text may be written, `Writes` how the writer changes when a text is written.
+/// The other ghost members are laws of the two: a text may be written in two pieces.
 pub trait Writer {
     ghost Fits: { Self → List ℕ → Type 0 };
 
@@ -41,7 +44,7 @@ pub trait Writer {
         → Writes before (xs ++ ys) after };
 }
 
-/// A byte counter, which saturates at the largest number.
+/// A writer that counts bytes and keeps no text. The count stops at `usize::MAX`.
 #[derive(Drop)]
 struct Counter {
     bytes: usize,
@@ -93,14 +96,14 @@ impl Writer for String {
     ghost writes_both = { appends_both };
 }
 
-/// A text that is compared with what is written: the rest of the text, or `None` after a
-/// difference.
+/// A text that is compared with what is written. `left` is what is not compared yet, or `None`
+/// after a difference.
 #[derive(Drop)]
 struct Comparison<'a> {
     left: Option<&'a str>,
 }
 
-/// Strips what is written from the start of the text.
+/// Strips each text that is written from the start of what is left.
 impl Writer for Comparison<'_> {
     ghost Fits = { λ comparison text. Unit {0} };
 
@@ -135,13 +138,14 @@ impl Writer for Comparison<'_> {
 pub trait Writable {
     ghost text: { Self → List ℕ };
 
-    /// Writes the text.
+    /// Writes the whole text to `writer`.
     fn write_to<W: Writer>(&self, writer: &mut W)
         requires { W.Fits writer.old (text self.now) }
         ensures { W.Writes writer.old (text self.now) writer.new };
 }
 
-/// Returns the text as a `String`, with one allocation, or none if the text is empty.
+/// Writes the text to a new `String`, with one allocation, or with no allocation if the text is
+/// empty.
 ///
 /// `AllocError`: memory ran out, or the text is longer than any `String`.
 pub fn written<T: Writable>(alloc: Global, text: &T) -> Result<String, AllocError>
@@ -158,7 +162,7 @@ pub fn written<T: Writable>(alloc: Global, text: &T) -> Result<String, AllocErro
     Ok(string)
 }
 
-/// Whether the text equals what would be written. Does not allocate.
+/// Whether `text` equals the text that `written` writes. Does not allocate.
 pub fn is_written<T: Writable>(text: &str, written: &T) -> bool
     ensures { MatchBool result (chars text.now ≡ T.text written.now)
         (¬ (chars text.now ≡ T.text written.now)) }

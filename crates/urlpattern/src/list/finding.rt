@@ -18,7 +18,8 @@ use urlpattern_syntax::Error;
 use urlpattern_syntax::error::OutOfMemory;
 
 impl<R: RegExp> UrlPatternList<R> {
-    /// Returns a copy of the first match of eight texts. `None`: no pattern matches.
+    /// Returns the least index whose pattern matches eight texts, and a copy of the match. `None`:
+    /// no pattern matches.
     pub(super) fn first_result(
         &self,
         alloc: Global,
@@ -37,7 +38,8 @@ impl<R: RegExp> UrlPatternList<R> {
         }
     }
 
-    /// Returns the first match of eight texts. `None`: no pattern matches.
+    /// Returns the least index whose pattern matches eight texts, and the match, which borrows from
+    /// the pattern and the texts. `None`: no pattern matches.
     ///
     /// Only an engine allocates.
     pub(super) fn first<'p, 'u>(
@@ -55,8 +57,8 @@ impl<R: RegExp> UrlPatternList<R> {
         self.first_from(alloc, &texts, 0)
     }
 
-    /// Returns the first match of eight texts by a pattern whose index is at least `from`. `None`:
-    /// none of these patterns matches.
+    /// Returns the least index, not below `from`, whose pattern matches eight texts, and the match.
+    /// `None`: no such pattern matches.
     ///
     /// Only an engine allocates.
     pub(super) fn first_from<'p, 'u>(
@@ -80,16 +82,16 @@ impl<R: RegExp> UrlPatternList<R> {
             pathname: texts.pathname,
         });
         match self.next_candidate(&hashes, from) {
-            Some(index) => self.first_listed(alloc, texts, &hashes, index),
+            Some(index) => self.first_from_candidate(alloc, texts, &hashes, index),
             None => Ok(None),
         }
     }
 
-    /// Returns the first match of eight texts by the pattern at an index or a later one. `None`:
-    /// none of these patterns matches.
+    /// Returns the least index, not below `index`, whose pattern matches eight texts, and the
+    /// match. `hashes` are those of the texts. `None`: no such pattern matches.
     ///
     /// Only an engine allocates.
-    pub(super) fn first_listed<'p, 'u>(
+    pub(super) fn first_from_candidate<'p, 'u>(
         &'p self,
         alloc: Global,
         texts: &Eight<&'u str>,
@@ -118,8 +120,8 @@ impl<R: RegExp> UrlPatternList<R> {
         Ok(None)
     }
 
-    /// Returns the index of the first pattern, from an index on, that may match texts with these
-    /// hashes. `None`: no pattern from that index on matches.
+    /// Returns the least index, not below `from`, whose pattern may match texts with these hashes.
+    /// `None`: no such pattern matches.
     #[inline(always)]
     pub(super) fn next_candidate(&self, hashes: &AddressHashes, from: usize) -> Option<usize>
         ensures within { IfSome result (λ index. (from ≤ index) × (index < length self.now)) }

@@ -24,7 +24,7 @@ pub struct UrlPatternMatches<'p, 'u, R: RegExp> {
     list: &'p UrlPatternList<R>,
     alloc: Global,
     texts: Eight<&'u str>,
-    /// The index of the first pattern that has not been tried.
+    /// The index from which on the next call tries patterns.
     from: usize,
 }
 
@@ -34,7 +34,7 @@ impl<'p, 'u, R: RegExp> UrlPatternMatches<'p, 'u, R> {
     ghost use Rattle.urlpattern.specs.NextMatch.{matches_left};
     ghost use Rattle.urlpattern_matches.specs.GroupTexts.{borrowed_texts};
 
-    /// All matches of eight texts.
+    /// Returns an iterator over all matches of eight texts.
     pub(super) fn new(list: &'p UrlPatternList<R>, alloc: Global, texts: Eight<&'u str>) -> Self
         ensures { matches_left result
             ≡ record {

@@ -8,7 +8,9 @@ use urlpattern_index::{Fixed, fixed_text, known_path};
 use urlpattern_matcher::regexp::RegExp;
 use urlpattern_pattern::UrlPattern;
 
-/// The fixed texts of a pattern, by its parts. Nothing is fixed if the pattern has no parts.
+/// Returns what the parts of a pattern say of every input that the pattern matches: the protocol
+/// and the hostname, where they are fixed, and what is known of the path. Nothing is fixed if the
+/// pattern has no parts.
 pub(super) fn fixed_of<R: RegExp>(pattern: &UrlPattern<R>) -> Fixed<'_>
     ensures { AreFixed R.answer (pattern_view pattern.now) (fixed_texts result) }
 {

@@ -1,4 +1,4 @@
-//! The patterns of a list that are covered by an earlier one.
+//! The patterns of a list that an earlier one is known to cover.
 ghost use Rattle.std.specs.Prelude.{map, IfErr, IfOk};
 ghost use Rattle.urlpattern.specs.Unreached.{AreUnreached, HaveAllParts, LacksParts};
 
@@ -9,12 +9,12 @@ use urlpattern_matcher::regexp::RegExp;
 use urlpattern_pattern::{CompareError, UrlPattern};
 
 impl<R: RegExp> UrlPatternList<R> {
-    /// Lists each pattern that an earlier one is known to cover, in order: its index, and that of
-    /// the first pattern that covers it.
+    /// Lists each pattern that an earlier one is known to cover, in order: its index, and the index
+    /// of the first pattern that is known to cover it.
     ///
-    /// In a list of which the first match counts, such a pattern is never found. The parts of the
-    /// patterns are compared, as `rules::unreachable` does. A pattern that is covered only by
-    /// several others together is not listed.
+    /// In a list of which the first match counts, no listed pattern is found for texts without line
+    /// feed. The parts of the patterns are compared, as `rules::unreachable` does. A pattern that
+    /// is covered only by several others together is not listed.
     ///
     /// The error is `NoParts` if a pattern has no parts, or `OutOfMemory`.
     pub fn unreachable(&self, alloc: Global) -> Result<Vec<Shadowed>, CompareError>
@@ -26,7 +26,7 @@ impl<R: RegExp> UrlPatternList<R> {
     }
 }
 
-/// The parts of each pattern, in order.
+/// Returns the parts of each pattern, in order.
 ///
 /// The error is `NoParts` if a pattern has no parts, or `OutOfMemory`.
 fn parts_of_each<R: RegExp>(

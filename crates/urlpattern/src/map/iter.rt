@@ -35,6 +35,7 @@ impl<'a, T, R: RegExp> Model for UrlPatternMapIter<'a, T, R> {
 }
 
 impl<'a, T, R: RegExp> UrlPatternMapIter<'a, T, R> {
+    /// Pairs each pattern with its value: `patterns` and `values` have as many elements.
     pub(super) fn new(patterns: slice::Iter<'a, UrlPattern<R>>, values: slice::Iter<'a, T>) -> Self
         requires { length (iter_rest values) ≡ length (iter_rest patterns) }
         ensures { result ≡ zip (iter_rest patterns.entry) (iter_rest values.entry) }

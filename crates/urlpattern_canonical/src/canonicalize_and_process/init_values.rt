@@ -1,4 +1,5 @@
-//! The values of an init: unchanged for a pattern, canonical for a URL.
+//! The values of an init: for a pattern as they are, for a URL canonical. A final colon of a
+//! protocol and an initial mark of a search or a hash are removed for both.
 ghost use Rattle.std.specs.Prelude.{◌≡◌, Some, length, IfOk};
 ghost use Rattle.std.specs.Str.{chars};
 ghost use Rattle.urlpattern_syntax.specs.Text.{text_of, option_text};
@@ -11,7 +12,8 @@ use super::{Canonicalizer, ProcessType};
 use urlpattern_syntax::Error;
 
 impl Canonicalizer {
-    /// Returns the protocol of an init, without a final colon.
+    /// Returns the protocol of an init: the value without a final colon, made canonical if it is
+    /// for a URL.
     ///
     /// Fails with `Error::Url` if the value is for a URL and `url` rejects it.
     pub fn process_protocol(&self, value: &str, kind: &ProcessType) -> Result<String, Error>
@@ -25,7 +27,7 @@ impl Canonicalizer {
         }
     }
 
-    /// Returns the user name of an init.
+    /// Returns the user name of an init: unchanged for a pattern, canonical for a URL.
     ///
     /// Fails with `Error::Url` if the value is for a URL and `url` rejects it.
     pub fn process_username(&self, value: &str, kind: &ProcessType) -> Result<String, Error>
@@ -38,7 +40,7 @@ impl Canonicalizer {
         }
     }
 
-    /// Returns the password of an init.
+    /// Returns the password of an init: unchanged for a pattern, canonical for a URL.
     ///
     /// Fails with `Error::Url` if the value is for a URL and `url` rejects it.
     pub fn process_password(&self, value: &str, kind: &ProcessType) -> Result<String, Error>
@@ -51,7 +53,7 @@ impl Canonicalizer {
         }
     }
 
-    /// Returns the hostname of an init.
+    /// Returns the hostname of an init: unchanged for a pattern, canonical for a URL.
     ///
     /// Fails with `Error::Url` if the value is for a URL and `url` rejects it.
     pub fn process_hostname(&self, value: &str, kind: &ProcessType) -> Result<String, Error>
@@ -64,8 +66,8 @@ impl Canonicalizer {
         }
     }
 
-    /// Returns the port of an init: for a pattern unchanged, for a URL canonical, and empty if it
-    /// is the default of this protocol.
+    /// Returns the port of an init: unchanged for a pattern; for a URL canonical, and empty if it
+    /// is the default port of `protocol`.
     ///
     /// Fails with `Error::Url` if the value is for a URL and `url` rejects it.
     pub fn process_port(
@@ -82,8 +84,8 @@ impl Canonicalizer {
         }
     }
 
-    /// Returns the pathname of an init: for a pattern unchanged, for a URL the canonical path under
-    /// this protocol.
+    /// Returns the pathname of an init: unchanged for a pattern; for a URL canonical, as a list of
+    /// segments or as an opaque path, by `protocol` and an initial slash.
     ///
     /// Fails with `Error::Url` if the value is for a URL and `url` rejects it.
     pub fn process_pathname(
@@ -100,7 +102,8 @@ impl Canonicalizer {
         }
     }
 
-    /// Returns the search of an init, without an initial question mark.
+    /// Returns the search of an init: the value without an initial question mark, made canonical if
+    /// it is for a URL.
     ///
     /// Fails with `Error::Url` if the value is for a URL and `url` rejects it.
     pub fn process_search(&self, value: &str, kind: &ProcessType) -> Result<String, Error>
@@ -114,7 +117,8 @@ impl Canonicalizer {
         }
     }
 
-    /// Returns the hash of an init, without an initial number sign.
+    /// Returns the hash of an init: the value without an initial number sign, made canonical if it
+    /// is for a URL.
     ///
     /// Fails with `Error::Url` if the value is for a URL and `url` rejects it.
     pub fn process_hash(&self, value: &str, kind: &ProcessType) -> Result<String, Error>
@@ -128,7 +132,8 @@ impl Canonicalizer {
         }
     }
 
-    /// Returns the canonical path: of segments, or opaque.
+    /// Returns the canonical form of a path, which is a list of segments or opaque, by `protocol`
+    /// and an initial slash.
     fn pathname_under(&self, value: &str, protocol: Option<&str>) -> Result<String, Error>
         ensures { IsPathnameResult ProcessType.Url value.now protocol.entry result }
     {
@@ -139,7 +144,7 @@ impl Canonicalizer {
         }
     }
 
-    /// Returns a copy of the value.
+    /// Returns a copy of a value for a pattern.
     fn kept(&self, value: &str) -> Result<String, Error>
         ensures ok { IfOk result (λ text. text_of text ≡ chars value.now) }
         ensures memory { OnlyOutOfMemory result }
@@ -148,8 +153,8 @@ impl Canonicalizer {
     }
 }
 
-/// Whether a path is a list of segments: the protocol is empty or special, or the path begins with
-/// a slash.
+/// Whether a path is a list of segments: there is a protocol that is empty or special, or the path
+/// begins with a slash.
 fn is_hierarchical(protocol: Option<&str>, pathname: &str) -> bool
     ensures { result ≡ is_hierarchical (option_text protocol.entry) (chars pathname.now) }
 {
@@ -159,7 +164,7 @@ fn is_hierarchical(protocol: Option<&str>, pathname: &str) -> bool
     }
 }
 
-/// Whether any path under this protocol is a list of segments.
+/// Whether any path under this protocol is a list of segments: the protocol is empty or special.
 fn makes_hierarchical(protocol: &str) -> bool
     ensures { result ≡ is_hierarchical_under (Some (chars protocol.now)) }
 {

@@ -22,14 +22,15 @@ pub fn canonicalize_ipv6_hostname(alloc: Global, value: &str) -> Result<String, 
     Ok(value.to_ascii_lowercase(alloc)?)
 }
 
-/// Whether each character may occur in an IPv6 address in brackets.
+/// Whether each character of the text may occur in an IPv6 address in brackets.
 fn is_ipv6_text(value: &str) -> bool
     ensures { result ≡ list_all is_ipv6_character value.now }
 {
     value.as_bytes().iter().all(|&b| is_ipv6_byte(b))
 }
 
-/// Whether the character may occur in an IPv6 address in brackets.
+/// Whether the byte may occur in an IPv6 address in brackets: a hexadecimal digit, a bracket or a
+/// colon.
 fn is_ipv6_byte(b: u8) -> bool
     ensures { result ≡ is_ipv6_character b }
 {

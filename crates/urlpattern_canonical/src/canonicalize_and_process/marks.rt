@@ -1,4 +1,4 @@
-//! Marks at the ends of a text.
+//! Single characters at the start or the end of a text.
 ghost use Rattle.std.specs.Prelude.{◌≡◌, ◌<◌, ◌≤◌, ◌==◌, slice_index, length};
 ghost use Rattle.std.specs.Str.{chars};
 ghost use Rattle.url.specs.Ascii.{colon, slash};
@@ -13,7 +13,8 @@ pub fn begins_with_slash(text: &str) -> bool
     matches!(text.as_bytes(), [b'/', ..])
 }
 
-/// Returns the text without an initial `mark`, an ASCII character other than NUL.
+/// Returns the text without its first character if that is `mark`, an ASCII character other than
+/// NUL.
 pub fn without_first(text: &str, mark: u8) -> &str
     requires { (0 < mark) × (mark < 128) }
     ensures value { chars result.now ≡ without_first mark (chars text.now) }
@@ -25,7 +26,7 @@ pub fn without_first(text: &str, mark: u8) -> &str
     }
 }
 
-/// Returns the text without a final colon.
+/// Returns the text without its last character if that is a colon.
 pub(super) fn without_colon(text: &str) -> &str
     ensures value { chars result.now ≡ without_last colon (chars text.now) }
     ensures shorter { length result.now ≤ length text.now }

@@ -12,7 +12,8 @@ const LONG_TEXT: usize = 1 << 24;
 
 /// Converts a result of `url` for texts of at most `bytes` bytes.
 ///
-/// Fails with the error of `url`. An overflow is out of memory if no text is long.
+/// Fails with the error of `url`; with out of memory in place of an overflow if `bytes` is less
+/// than `LONG_TEXT`.
 pub fn reported<T>(answer: ParseResult<T>, bytes: usize) -> Result<T, Error>
     ensures { IsReported answer bytes result }
 {
@@ -22,8 +23,8 @@ pub fn reported<T>(answer: ParseResult<T>, bytes: usize) -> Result<T, Error>
     }
 }
 
-/// Converts a result of `url` for texts of at most `bytes` bytes, with `reason` for each error
-/// other than an overflow and out of memory.
+/// Converts a result of `url` for texts of at most `bytes` bytes. Fails with `reason` for each
+/// error of `url` other than an overflow and out of memory.
 pub(super) fn rejected_as(
     reason: ParseError,
     answer: ParseResult<()>,
@@ -40,7 +41,8 @@ pub(super) fn rejected_as(
     }
 }
 
-/// Returns the error for an error of `url` on texts of at most `bytes` bytes.
+/// Converts an error of `url` on texts of at most `bytes` bytes. An overflow is out of memory if
+/// `bytes` is less than `LONG_TEXT`.
 fn rejection(error: ParseError, bytes: usize) -> Error
     ensures { error_view result ≡ reported_error error bytes }
 {

@@ -12,7 +12,7 @@ pub fn is_special_scheme(scheme: &str) -> bool
     matches!(scheme, "http" | "https" | "ws" | "wss" | "ftp" | "file")
 }
 
-/// Returns the default port of a special scheme, if there is one.
+/// Returns the default port of a scheme. `None`: the scheme is not special, or is `file`.
 ///
 /// <https://url.spec.whatwg.org/#default-port>
 pub fn special_scheme_default_port(scheme: &str) -> Option<&'static str>

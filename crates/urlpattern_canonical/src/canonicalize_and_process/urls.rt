@@ -1,4 +1,4 @@
-//! The URLs on which values are set.
+//! The URLs by which values are made canonical.
 ghost use Rattle.std.specs.Prelude.{◌≡◌, None, Ok, IfOk, IfErr, MatchResult};
 ghost use Rattle.url.specs.Parser.{parse_url};
 ghost use Rattle.urlpattern_syntax.specs.Errors.{MemoryOr, OnlyOutOfMemory};
@@ -10,7 +10,7 @@ use std::alloc::Global;
 use url::Url;
 use urlpattern_syntax::Error;
 
-/// The URL on which a value is set to make it canonical.
+/// The URL on which most values are set to make them canonical.
 const DUMMY_URL: &str = "http://dummy.test";
 
 /// The URL on which opaque paths are set.
@@ -23,7 +23,7 @@ impl Canonicalizer {
     }
 
     /// Makes a canonicalizer for several values: the URL is parsed at once, and copied for each
-    /// value.
+    /// value that is set on it.
     pub fn shared(alloc: Global) -> Result<Self, Error>
         ensures { OnlyOutOfMemory result }
     {
@@ -34,7 +34,8 @@ impl Canonicalizer {
         })
     }
 
-    /// Returns the URL on which a value is set.
+    /// Returns `DUMMY_URL`, parsed, on which most values are set: a copy of the kept one, if there
+    /// is one.
     pub(super) fn dummy(&self) -> Result<Url, Error>
         ensures ok { IfOk result (λ url. dummy_url ≡ Ok url) }
         ensures memory { OnlyOutOfMemory result }
@@ -45,7 +46,8 @@ impl Canonicalizer {
         }
     }
 
-    /// Returns the URL on which values are set, with this path.
+    /// Returns `DUMMY_URL` with the path set to `path`. The value that `path` was made of has
+    /// `bytes` bytes, by which an overflow is reported.
     pub(super) fn dummy_with_path(&self, path: &str, bytes: usize) -> Result<Url, Error>
         ensures { MatchResult result (λ url. path_of dummy_url path.now ≡ Ok url.path)
             (MemoryOr (Reports (path_of dummy_url path.now) bytes)) }
@@ -56,7 +58,7 @@ impl Canonicalizer {
     }
 }
 
-/// Parses the URL on which opaque paths are set.
+/// Parses `OPAQUE_URL`, on which opaque paths are set.
 pub(super) fn parse_opaque(alloc: Global) -> Result<Url, Error>
     ensures ok { IfOk result (λ url. opaque_url ≡ Ok url) }
     ensures memory { OnlyOutOfMemory result }
@@ -64,7 +66,7 @@ pub(super) fn parse_opaque(alloc: Global) -> Result<Url, Error>
     parse(alloc, OPAQUE_URL, 0)
 }
 
-/// Parses the URL on which a value is set to make it canonical.
+/// Parses `DUMMY_URL`, on which most values are set to make them canonical.
 fn parse_dummy(alloc: Global) -> Result<Url, Error>
     ensures ok { IfOk result (λ url. dummy_url ≡ Ok url) }
     ensures memory { OnlyOutOfMemory result }
@@ -72,7 +74,8 @@ fn parse_dummy(alloc: Global) -> Result<Url, Error>
     parse(alloc, DUMMY_URL, 0)
 }
 
-/// Parses a URL of the scheme, for a value of at most `bytes` bytes.
+/// Parses the URL `{scheme}://dummy.test`, which makes the scheme canonical, and on which a port is
+/// set. Scheme and port have at most `bytes` bytes each, by which an overflow is reported.
 pub(super) fn parse_under(alloc: Global, scheme: &str, bytes: usize) -> Result<Url, Error>
     ensures ok { IfOk result (λ url. dummy_of_scheme scheme.now ≡ Ok url) }
     ensures err { IfErr result (MemoryOr (Reports (dummy_of_scheme scheme.now) bytes)) }
@@ -81,7 +84,8 @@ pub(super) fn parse_under(alloc: Global, scheme: &str, bytes: usize) -> Result<U
     parse(alloc, &text, bytes)
 }
 
-/// Parses a URL, for a value of at most `bytes` bytes.
+/// Parses the text of a URL by which a value is made canonical. An overflow is reported by `bytes`,
+/// the most bytes that a caller's value has, or 0 for a text without such a value.
 fn parse(alloc: Global, text: &str, bytes: usize) -> Result<Url, Error>
     ensures ok { IfOk result (λ url. parse_url None text.now ≡ Ok url) }
     ensures err { IfErr result (MemoryOr (Reports (parse_url None text.now) bytes)) }

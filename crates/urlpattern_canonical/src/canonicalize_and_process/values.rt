@@ -1,4 +1,5 @@
-//! Canonical values of the components of a URL: each is set on a URL of `url` and read back.
+//! Canonical values of the components of a URL, by `url`: a protocol begins a URL that is parsed,
+//! any other value is set on a URL and read back.
 #![tactic(auto, using(crate::proofs::SettingLemmas::empty_answered))]
 
 ghost use Rattle.std.specs.Prelude.{◌≡◌, length, IsAscii};
@@ -15,8 +16,8 @@ use url::{ParseError, quirks};
 use urlpattern_syntax::Error;
 
 impl Canonicalizer {
-    /// Returns the canonical protocol: the scheme of a URL. A special scheme is its own canonical
-    /// form.
+    /// Returns the canonical form of a protocol: the scheme of a URL that begins with the value. A
+    /// special scheme is its own canonical form.
     ///
     /// Fails with `Error::Url` if `url` rejects the value.
     pub fn protocol(&self, value: &str) -> Result<String, Error>
@@ -32,7 +33,7 @@ impl Canonicalizer {
         Ok(String::from_str(self.alloc, url.scheme())?)
     }
 
-    /// Returns the canonical user name.
+    /// Returns the canonical form of a user name.
     ///
     /// Fails with `Error::Url` if `url` rejects the value.
     pub fn username(&self, value: &str) -> Result<String, Error>
@@ -46,7 +47,7 @@ impl Canonicalizer {
         Ok(String::from_str(self.alloc, url.username())?)
     }
 
-    /// Returns the canonical password.
+    /// Returns the canonical form of a password.
     ///
     /// Fails with `Error::Url` if `url` rejects the value.
     pub fn password(&self, value: &str) -> Result<String, Error>
@@ -60,7 +61,7 @@ impl Canonicalizer {
         Ok(String::from_str(self.alloc, quirks::password(&url))?)
     }
 
-    /// Returns the canonical hostname.
+    /// Returns the canonical form of a hostname.
     ///
     /// Fails with `Error::Url` if `url` rejects the value.
     pub fn hostname(&self, value: &str) -> Result<String, Error>
@@ -75,7 +76,8 @@ impl Canonicalizer {
         Ok(String::from_str(self.alloc, quirks::hostname(&url))?)
     }
 
-    /// Returns the canonical port under a protocol, empty for the default port of the protocol.
+    /// Returns the canonical form of a port, empty if it is the default port of `protocol`. `None`:
+    /// there is no protocol, and no port is the default.
     ///
     /// Fails with `Error::Url` if `url` rejects the value.
     pub fn port(&self, value: &str, protocol: Option<&str>) -> Result<String, Error>
@@ -96,7 +98,8 @@ impl Canonicalizer {
         Ok(String::from_str(self.alloc, quirks::port(&url))?)
     }
 
-    /// Returns the canonical path of segments.
+    /// Returns the canonical form of a path that is a list of segments. `/-` is put before a value
+    /// without an initial slash, and removed from the path if still there.
     ///
     /// Fails with `Error::Url` if `url` rejects the value.
     pub fn pathname(&self, value: &str) -> Result<String, Error>
@@ -114,7 +117,7 @@ impl Canonicalizer {
         Ok(String::from_str(self.alloc, without_added_prefix(url.path()))?)
     }
 
-    /// Returns the canonical opaque path.
+    /// Returns the canonical form of an opaque path, such as that of a `data:` URL.
     ///
     /// Fails with `Error::Url` if `url` rejects the value.
     pub fn opaque_pathname(&self, value: &str) -> Result<String, Error>
@@ -128,7 +131,7 @@ impl Canonicalizer {
         Ok(String::from_str(self.alloc, url.path())?)
     }
 
-    /// Returns the canonical query.
+    /// Returns the canonical form of a query.
     ///
     /// Fails with `Error::Url` if `url` rejects the value.
     pub fn search(&self, value: &str) -> Result<String, Error>
@@ -142,7 +145,7 @@ impl Canonicalizer {
         Ok(String::from_str(self.alloc, url.query().unwrap_or(""))?)
     }
 
-    /// Returns the canonical fragment.
+    /// Returns the canonical form of a fragment.
     ///
     /// Fails with `Error::Url` if `url` rejects the value.
     pub fn hash(&self, value: &str) -> Result<String, Error>
@@ -157,7 +160,7 @@ impl Canonicalizer {
     }
 }
 
-/// Returns the scheme under which a port is parsed.
+/// Returns the scheme of the URL on which a port is set: the protocol, or `dummy` if that is empty.
 fn scheme_for_port(protocol: &str) -> &str
     ensures { chars result.now ≡ scheme_for_port (chars protocol.now) }
 {
@@ -168,7 +171,7 @@ fn scheme_for_port(protocol: &str) -> &str
     }
 }
 
-/// Returns the path without an initial `/-`.
+/// Returns the path without the `/-` at its start that was put before a value, if still there.
 fn without_added_prefix(path: &str) -> &str
     requires { IsAscii path.now }
     ensures { result.now ≡ without_added_prefix path.now }

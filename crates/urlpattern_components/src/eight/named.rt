@@ -1,4 +1,4 @@
-//! The values of the components, one after the other.
+//! The iterator over the values of an `Eight`.
 
 use super::{COMPONENTS, ComponentName, Eight};
 use std::slice;

@@ -1,4 +1,5 @@
-//! Whether a protocol is special.
+//! Whether the protocol of a constructor string is special: whether its pattern matches a special
+//! scheme.
 ghost use Rattle.std.specs.Prelude.{◌↔◌, IfErr, IfOk, IfSome, MatchBool, IsTrue};
 ghost use Rattle.std.specs.Str.{chars};
 ghost use Rattle.urlpattern_init.specs.SpecialProtocol.{AcceptsAny, AcceptsOnly, AcceptsSpecialScheme, CanonicalizesProtocol, IsKnownProtocol, IsSpecialTo, RejectsProtocol};
@@ -13,11 +14,13 @@ use urlpattern_matcher::regexp::RegExp;
 use urlpattern_parser::parser::{Options, parse_pattern_string};
 use urlpattern_syntax::Error;
 
-/// Whether a protocol's pattern is special: whether its matcher accepts a special scheme.
+/// Whether a protocol's pattern is special: whether its matcher, compiled under the default
+/// options, accepts a special scheme.
 ///
-/// If `keeps`, compiles the whole component and returns it with its text.
+/// If `keeps`, compiles the whole component and returns it with the pattern's text. Otherwise only
+/// the matcher is made, and the second value is `None`.
 ///
-/// The error is that of a rejected pattern, or `OutOfMemory`.
+/// Fails with the error of the rejected pattern, or with `OutOfMemory`.
 ///
 /// <https://urlpattern.spec.whatwg.org/#compute-protocol-matches-a-special-scheme-flag>
 pub(super) fn is_special_protocol<R: RegExp>(
@@ -44,7 +47,7 @@ pub(super) fn is_special_protocol<R: RegExp>(
     Ok((special, None))
 }
 
-/// Whether a matcher accepts a special scheme.
+/// Whether a protocol's matcher accepts at least one of the special schemes.
 pub fn accepts_special_scheme<R: RegExp>(alloc: Global, matcher: &Matcher<R>) -> Result<bool, Error>
     ensures answer { IfOk result (λ accepted.
         IsTrue accepted ↔ AcceptsSpecialScheme R.answer (matcher_view matcher.now)) }
@@ -60,7 +63,8 @@ pub fn accepts_special_scheme<R: RegExp>(alloc: Global, matcher: &Matcher<R>) ->
     )
 }
 
-/// The only text that a matcher accepts, if the matcher is a case-sensitive literal.
+/// Returns the only text that a matcher accepts, if the matcher is a case-sensitive literal without
+/// prefix and suffix. `None`: the matcher is of another form.
 fn only_text<R: RegExp>(matcher: &Matcher<R>) -> Option<&str>
     ensures { IfSome result (λ only.
         AcceptsOnly R.answer (matcher_view matcher.now) (chars only.now)) }
@@ -74,7 +78,7 @@ fn only_text<R: RegExp>(matcher: &Matcher<R>) -> Option<&str>
     }
 }
 
-/// Whether a matcher accepts any of the texts.
+/// Whether a matcher accepts at least one of the texts.
 fn accepts_any<R: RegExp>(
     alloc: Global,
     matcher: &Matcher<R>,

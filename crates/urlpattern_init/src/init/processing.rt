@@ -4,7 +4,7 @@ ghost use Rattle.std.specs.Str.{chars};
 ghost use Rattle.urlpattern_canonical.specs.Canonical.{Reports};
 ghost use Rattle.urlpattern_init.specs.Inheritance as spec;
 ghost use Rattle.urlpattern_init.specs.Inheritance.{bytes_of, longest_init_bytes, init_values, is_inheritable, missing, must_lack, up_to_last_slash, values_of, values_view};
-ghost use Rattle.urlpattern_init.specs.Processing.{IsFailureIn, IsGivenPathnameResult, IsTextResult, IsValueAfter, bytes_in, given_values, lacking_in, optional_bytes, value_in, values_in};
+ghost use Rattle.urlpattern_init.specs.Processing.{IsFailureIn, IsGivenPathnameResult, IsTextResult, IsValueUnlessProtocol, bytes_in, given_values, lacking_in, optional_bytes, value_in, values_in};
 ghost use Rattle.urlpattern_components.specs.declared.eight.ComponentName.{ComponentName};
 ghost use Rattle.urlpattern_components.specs.Eight.{at};
 ghost use Rattle.urlpattern_syntax.specs.Errors.{MemoryOr, OnlyOutOfMemory};
@@ -19,7 +19,8 @@ use urlpattern_canonical::canonicalize_and_process::{
 use urlpattern_components::{ComponentName, Eight};
 use urlpattern_syntax::Error;
 
-/// The components that an init must lack, along with the component itself, to inherit it.
+/// Returns the components that an init must lack, along with `component` itself, to inherit
+/// `component` from its base URL.
 fn must_lack(component: ComponentName) -> &'static [ComponentName]
     ensures { result.now ≡ must_lack component }
 {
@@ -59,7 +60,8 @@ fn must_lack(component: ComponentName) -> &'static [ComponentName]
     }
 }
 
-/// Whether the component may be inherited at all: a pattern inherits no user name and no password.
+/// Whether the component may be inherited at all when an init is processed as `kind`: a pattern
+/// inherits no user name and no password.
 fn is_inheritable(component: ComponentName, kind: &ProcessType) -> bool
     ensures { result ≡ is_inheritable kind.now component }
 {
@@ -72,7 +74,7 @@ fn is_inheritable(component: ComponentName, kind: &ProcessType) -> bool
     }
 }
 
-/// The text of a URL's component; empty if the URL lacks it.
+/// Returns the text of a URL's component; empty if the URL lacks the component.
 pub fn url_text(url: &Url, component: ComponentName) -> &str
     ensures { chars result.now ≡ spec.url_text component url.now }
 {
@@ -88,7 +90,7 @@ pub fn url_text(url: &Url, component: ComponentName) -> &str
     }
 }
 
-/// Whether an init lacks all of these components.
+/// Whether an init lacks every component of the list.
 fn lacks_all(init: &UrlPatternInit, components: &[ComponentName]) -> bool
     ensures { result ≡ spec.lacks_all (values_view init.now) components.now }
 {
@@ -102,7 +104,8 @@ fn lacks(init: &UrlPatternInit, component: ComponentName) -> bool
     init.get(component).is_none()
 }
 
-/// Whether a pathname is absolute.
+/// Whether a pathname is absolute: it begins with a slash, in a pattern perhaps after one backslash
+/// or one open brace.
 ///
 /// <https://urlpattern.spec.whatwg.org/#is-an-absolute-pathname>
 fn is_absolute(pathname: &str, kind: &ProcessType) -> bool
@@ -117,7 +120,7 @@ fn is_absolute(pathname: &str, kind: &ProcessType) -> bool
     }
 }
 
-/// A path up to its last slash, the slash included.
+/// Returns a path up to its last slash, the slash included; empty if the path has no slash.
 fn up_to_last_slash(path: &str) -> &str
     requires { IsAscii path.now }
     ensures { result.now ≡ up_to_last_slash path.now }
@@ -128,7 +131,7 @@ fn up_to_last_slash(path: &str) -> &str
     }
 }
 
-/// An init being processed, and the mode.
+/// An init, and whether it is processed as a pattern or as a URL.
 #[derive(Drop)]
 struct Processing<'a> {
     alloc: Global,
@@ -138,7 +141,8 @@ struct Processing<'a> {
 }
 
 impl Processing<'_> {
-    /// The processed values of the init, given that of the protocol.
+    /// Processes the components after the protocol, and returns their values with `protocol`, the
+    /// processed value of the protocol.
     fn values(&self, protocol: Option<String>) -> Result<Eight<Option<String>>, Error>
         requires { value_in self.now None ComponentName.Protocol
             ≡ Ok (option_map text_of protocol) }
@@ -146,30 +150,32 @@ impl Processing<'_> {
         ensures err { IfErr result (MemoryOr (Reports (values_in self.now) (bytes_in self.now))) }
     {
         let value = |name: ComponentName| -> Result<Option<String>, Error>
-            ensures { IsValueAfter self.entry.now (option_map text_of protocol) name result }
-        { self.value_after(name, &protocol) };
+            ensures { IsValueUnlessProtocol self.entry.now (option_map text_of protocol) name
+                result }
+        { self.value_unless_protocol(name, &protocol) };
         let mut values = Eight::try_from_fn(value)?;
         values.protocol = protocol;
         Ok(values)
     }
 
-    /// The processed value of a component, under the processed protocol; `None` for the protocol
-    /// itself.
-    fn value_after(
+    /// Returns the processed value of a component other than the protocol, like
+    /// `value_with_owned_protocol`; `None` for the protocol, which is processed before the others.
+    fn value_unless_protocol(
         &self,
         component: ComponentName,
         protocol: &Option<String>,
     ) -> Result<Option<String>, Error>
-        ensures { IsValueAfter self.now (option_map text_of protocol.now) component result }
+        ensures { IsValueUnlessProtocol self.now (option_map text_of protocol.now) component
+            result }
     {
         match component {
             ComponentName::Protocol => Ok(None),
-            _ => self.value_under(component, protocol),
+            _ => self.value_with_owned_protocol(component, protocol),
         }
     }
 
-    /// The processed value of a component, under the processed protocol.
-    fn value_under(
+    /// Returns the processed value of a component like `value`, from a `protocol` that is owned.
+    fn value_with_owned_protocol(
         &self,
         component: ComponentName,
         protocol: &Option<String>,
@@ -186,7 +192,9 @@ impl Processing<'_> {
         }
     }
 
-    /// The processed value of a component, under the processed protocol, if there is one.
+    /// Returns the processed value of a component: of its text in the init, or else inherited, or
+    /// else `None` in a pattern and empty in a URL. Port and pathname depend on `protocol`, the
+    /// processed value of the protocol.
     fn value(
         &self,
         component: ComponentName,
@@ -204,7 +212,8 @@ impl Processing<'_> {
         }
     }
 
-    /// The value of a component that the init lacks.
+    /// Returns the value of a component that the init lacks: inherited, or else `None` in a pattern
+    /// and empty in a URL.
     fn lacking(&self, component: ComponentName) -> Result<Option<String>, Error>
         ensures ok { IfOk result (λ value.
             option_map text_of value ≡ lacking_in self.now component) }
@@ -219,7 +228,7 @@ impl Processing<'_> {
         }
     }
 
-    /// Whether the init inherits a component that it lacks.
+    /// Whether the init, if it has a base URL, inherits a component that it lacks.
     fn inherits(&self, component: ComponentName) -> bool
         ensures { result
             ≡ (is_inheritable self.now.kind.now component
@@ -228,7 +237,8 @@ impl Processing<'_> {
         is_inheritable(component, self.kind) && lacks_all(self.init, must_lack(component))
     }
 
-    /// The value of a component that is neither given nor inherited.
+    /// Returns the value of a component that is neither given nor inherited: `None` in a pattern,
+    /// empty in a URL.
     fn missing(&self) -> Option<String>
         ensures { option_map text_of result ≡ missing self.now.kind.now }
     {
@@ -238,7 +248,8 @@ impl Processing<'_> {
         }
     }
 
-    /// Processes a text of the init.
+    /// Processes `text`, the text of a component in the init. Port and pathname depend on
+    /// `protocol`, the processed value of the protocol.
     fn processed(
         &self,
         component: ComponentName,
@@ -260,8 +271,9 @@ impl Processing<'_> {
         }
     }
 
-    /// Processes a pathname of the init. A relative pathname is appended to the base's path up to
-    /// its last slash.
+    /// Processes `text`, the pathname of the init, under the processed `protocol`. A relative
+    /// pathname is appended to the base URL's path up to its last slash, unless that path is
+    /// opaque.
     fn processed_pathname(&self, text: &str, protocol: Option<&str>) -> Result<String, Error>
         ensures { IsGivenPathnameResult self.now protocol.entry (chars text.now) result }
     {
@@ -299,7 +311,7 @@ pub fn process(
     Ok(UrlPatternInit::from_eight(values, None))
 }
 
-/// Processes the values of an init, as a pattern or as a URL.
+/// Processes an init like `process`, and returns the processed values by component.
 ///
 /// The error is the first rejection by `url`, or `OutOfMemory`. In a pattern nothing is rejected.
 ///

@@ -17,12 +17,15 @@ use urlpattern_printing::generate_regular_expression;
 use urlpattern_syntax::error::{Error, RegExpError};
 use urlpattern_syntax::writing::written;
 
-/// Generates the matcher of a list of parts. Plain fixed texts at the ends of the list become its
-/// prefix and its suffix.
+/// Generates the matcher of the parts `part_list`. A fixed text without modifier at the start of
+/// the list begins its prefix, and one at the end ends its suffix; without other parts, the matcher
+/// is a literal. `flags` are the flags for an engine.
 ///
 /// An expression that the engine rejects is kept in the matcher as an error. If no part has a
-/// custom regular expression and case is kept, the matcher returns what the parts mean, provided
-/// that an engine that it calls follows its regular expression.
+/// custom regular expression and case is kept, the matcher returns what the parts *mean*, for texts
+/// without line feeds: captures with which the parts can match the text, one after the other, or
+/// `None` if they cannot. An engine that the matcher calls has to follow its regular expression.
+/// The only error is that memory ran out.
 pub fn generate_matcher<R: RegExp>(
     alloc: Global,
     part_list: &[Part],
@@ -38,7 +41,8 @@ pub fn generate_matcher<R: RegExp>(
     Ok(generate_matcher_with_regexp(alloc, part_list, options, flags, None)?)
 }
 
-/// Generates the matcher of a list of parts, whose regular expression may be known.
+/// Generates the matcher of the parts `part_list`. `whole` is the regular expression of the parts,
+/// if it is already generated.
 pub(crate) fn generate_matcher_with_regexp<R: RegExp>(
     alloc: Global,
     part_list: &[Part],
@@ -69,8 +73,9 @@ pub(crate) fn generate_matcher_with_regexp<R: RegExp>(
     }
 }
 
-/// Returns the plain fixed texts at the ends of a list of parts, or empty texts, and the parts
-/// between them.
+/// Strips a fixed text without modifier, if there is one, from each end of a list of parts. Returns
+/// the text that is stripped from the start, the parts between, and the text that is stripped from
+/// the end. A text is empty if nothing is stripped.
 fn strip_fixed_texts(part_list: &[Part]) -> (&str, &[Part], &str)
     ensures { StripsFixedTexts (parts_view part_list.now) (chars result.0.now)
         (parts_view result.1.now) (chars result.2.now) }
@@ -80,8 +85,8 @@ fn strip_fixed_texts(part_list: &[Part]) -> (&str, &[Part], &str)
     (prefix, middle, suffix)
 }
 
-/// Returns the plain fixed text at the start of a list of parts, or an empty text, and the other
-/// parts.
+/// Strips a fixed text without modifier, if there is one, from the start of a list of parts.
+/// Returns its text, or an empty text, and the other parts.
 fn strip_fixed_prefix(part_list: &[Part]) -> (&str, &[Part])
     ensures { StripsFixedPrefix (parts_view part_list.now) (chars result.0.now)
         (parts_view result.1.now) }
@@ -92,8 +97,8 @@ fn strip_fixed_prefix(part_list: &[Part]) -> (&str, &[Part])
     }
 }
 
-/// Returns the plain fixed text at the end of a list of parts, or an empty text, and the other
-/// parts.
+/// Strips a fixed text without modifier, if there is one, from the end of a list of parts. Returns
+/// the other parts, and the stripped text, or an empty text.
 fn strip_fixed_suffix(part_list: &[Part]) -> (&[Part], &str)
     ensures { StripsFixedSuffix (parts_view part_list.now) (parts_view result.0.now)
         (chars result.1.now) }
@@ -111,8 +116,9 @@ pub fn is_plain(part: &Part) -> bool
     part.kind == PartType::FixedText && part.modifier == PartModifier::None
 }
 
-/// Returns what a wildcard without modifier captures: any text without this character, and whether
-/// the text may be empty. `None`: the part is no such wildcard.
+/// Returns what a wildcard without modifier captures: a character that the captured text may not
+/// contain, if there is one, and whether the text may be empty. `None`: the part is not a wildcard,
+/// or has a modifier.
 fn capture_of(part: &Part, options: &Options) -> Option<(Option<char>, bool)>
     ensures { result ≡ capture_of (options_view options.now) part.now.kind part.now.modifier }
 {
@@ -126,7 +132,7 @@ fn capture_of(part: &Part, options: &Options) -> Option<(Option<char>, bool)>
     }
 }
 
-/// Returns a matcher of one literal: prefix and suffix, joined.
+/// Returns a matcher of one literal: `prefix` followed by `suffix`.
 fn literal_matcher<R>(
     alloc: Global,
     prefix: &str,
@@ -146,7 +152,9 @@ fn literal_matcher<R>(
     })
 }
 
-/// Returns a matcher of one capture between two texts and those of its part.
+/// Returns a matcher of one capture, that of the wildcard `part`, between two texts: `prefix` with
+/// the part's own prefix, and the part's own suffix with `suffix`. The capture may not contain the
+/// character `filter`, and may be empty if `allow_empty` is set.
 fn capture_matcher<R>(
     alloc: Global,
     prefix: &str,
@@ -172,8 +180,8 @@ fn capture_matcher<R>(
     })
 }
 
-/// Returns a matcher that leaves the parts between two texts to an engine. The regular expression
-/// of these parts is generated unless it is known.
+/// Returns a matcher of the parts `middle`, which an engine matches, between `prefix` and `suffix`.
+/// `known` is the regular expression of these parts, if it is already generated.
 fn engine_matcher<R: RegExp>(
     alloc: Global,
     prefix: &str,
@@ -203,7 +211,7 @@ fn engine_matcher<R: RegExp>(
     })
 }
 
-/// Compiles a text with an engine. The inner error is that the engine rejects the text.
+/// Compiles `regexp` by `RegExp::parse`. The inner error is that the engine rejects `regexp`.
 fn call_engine<R: RegExp>(
     alloc: Global,
     regexp: &str,
@@ -220,7 +228,7 @@ fn call_engine<R: RegExp>(
     }
 }
 
-/// Joins two texts.
+/// Returns `front` followed by `back`.
 #[inline(always)]
 fn concatenated(alloc: Global, front: &str, back: &str) -> Result<String, AllocError>
     ensures { IfOk result (λ text. text_of text ≡ chars front.now ++ chars back.now) }

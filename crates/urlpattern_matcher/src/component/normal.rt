@@ -10,13 +10,13 @@ use urlpattern_printing::generate_pattern_string;
 use urlpattern_syntax::Error;
 use urlpattern_syntax::parser::{Options, Part};
 
-/// Returns the parts that the pattern string of a list of parts reads as.
+/// Returns the normal form of a list of parts: the parts that its pattern string is parsed to.
 ///
-/// Parts that mean the same may be cut in several ways, such as `a{}?b` and `ab`. Their normal form
-/// is what their pattern string reads as. The normal form of printable parts, such as those that
-/// were read under the standard's options, is these parts with adjacent plain fixed texts joined,
-/// if the callback returns each of their texts unchanged, or an error. The error is then one of the
-/// callback's, or that memory ran out.
+/// Parts that match alike may be cut in several ways: `a{}?b` is parsed to two fixed texts, and
+/// `ab` to one. If the parts are printable, as those that were parsed under the standard's options
+/// are, and the callback changes none of their texts, the normal form is these parts with adjacent
+/// fixed texts without modifier joined. The error for printable parts is one of the callback's, or
+/// that memory ran out; for other parts, the pattern string may also be rejected.
 pub fn normalize_part_list<F: Fn(&str) -> Result<String, Error> + Drop>(
     alloc: Global,
     part_list: &[Part],

@@ -9,7 +9,8 @@ use regex::Captures;
 use std::alloc::Global;
 use urlpattern_syntax::error::OutOfMemory;
 
-/// Returns what the groups from group 1 on span, with `None` for a group that took no part.
+/// Returns what the groups of a match capture, without group 0, the whole match. `None` in the
+/// list: the group took no part.
 pub(super) fn groups<'h>(
     alloc: Global,
     captures: &Captures<'_, 'h>,
@@ -24,7 +25,7 @@ pub(super) fn groups<'h>(
     Ok(groups)
 }
 
-/// Returns what a group spans. `None`: the group took no part.
+/// Returns what group `index` of a match captures. `None`: the group took no part.
 fn group<'h>(captures: &Captures<'_, 'h>, index: usize) -> Option<&'h str>
     ensures { option_text result
         ≡ option_map (text_between (captures_haystack captures.now))

@@ -4,10 +4,10 @@ use super::UrlPatternCaptures;
 use std::slice;
 use urlpattern_components::{COMPONENTS, ComponentName};
 
-/// The remaining groups of a component, in order: each name with its capture. `None`: the group
-/// took no part.
+/// An iterator over the groups of a component, in order: each name with its capture. A capture is
+/// `None` if the group took no part.
 ///
-/// `UrlPatternCaptures::groups` returns it.
+/// `UrlPatternCaptures::groups` returns this iterator.
 ///
 /// The groups of the path `/users/123`, which `/users/:id{/files/:file}?` matches:
 ///
@@ -28,7 +28,7 @@ impl<'c, 'p, 'u> UrlPatternGroups<'c, 'p, 'u> {
     ghost use Rattle.urlpattern_matches.specs.GroupTexts.{texts_of};
     ghost use Rattle.urlpattern_syntax.specs.Text.{option_text};
 
-    /// Returns the groups of these names and captures.
+    /// Returns an iterator over the groups with these names and captures, which are in one order.
     pub(super) fn new(names: &'p [String], captures: &'c [Option<&'u str>]) -> Self
         ensures { groups_left result ≡ zip (texts_of names.now) (map option_text captures.now) }
     {
@@ -56,9 +56,10 @@ impl<'c, 'p, 'u> Iterator for UrlPatternGroups<'c, 'p, 'u> {
     }
 }
 
-/// The remaining groups of all components, in the order of the standard, each with its component.
+/// An iterator over the groups of all components, in the order of the standard: component, name and
+/// capture. A capture is `None` if the group took no part.
 ///
-/// `UrlPatternCaptures::iter` returns it.
+/// `UrlPatternCaptures::iter` returns this iterator.
 ///
 /// ```rust all_groups
 /// let mut all_groups = found.iter();
@@ -79,7 +80,7 @@ impl<'c, 'p, 'u> UrlPatternCapturesIter<'c, 'p, 'u> {
     ghost use Rattle.urlpattern_matches.specs.BorrowedMatches.{all_groups_left, all_groups_view};
     ghost use Rattle.urlpattern_components.specs.Eight.{components};
 
-    /// Returns all groups of a match.
+    /// Returns an iterator over the groups of all components of a match.
     pub(super) fn new(captures: &'c UrlPatternCaptures<'p, 'u>) -> Self
         ensures { all_groups_left result ≡ all_groups_view captures.now components }
     {

@@ -9,7 +9,8 @@ use std::collections::BTreeSet;
 /// The number of names that are kept without allocating.
 const FEW: usize = 8;
 
-/// Names, as slices of the pattern's text: the first few in an array, all others in a set.
+/// A set of names, which are slices of the pattern's text: the first few in an array, the others in
+/// a tree.
 #[derive(Drop)]
 pub(super) struct GivenNames<'a> {
     few: ArrayVec<&'a str, FEW>,
@@ -34,7 +35,7 @@ impl<'a> GivenNames<'a> {
         self.few.contains(&name) || self.others.contains(name)
     }
 
-    /// Adds a name.
+    /// Adds a name to the set.
     pub(super) fn add_name(&mut self, name: &'a str) -> Result<(), AllocError>
         ensures { OnOk result ((other : List ℕ)
             → has_name self.new other ≡ (has_bytes other name.entry || has_name self.old other)) }

@@ -17,7 +17,8 @@ use super::{Part, PartModifier, PatternParser};
 use std::alloc::{AllocError, Global};
 use urlpattern_syntax::error::{Error, ParserError};
 
-/// The parts of a pattern text that are parsed so far.
+/// The parts of a pattern text that are parsed so far, the literal text after them that is not yet
+/// a part, the names that the pattern has given, and the number of groups without a given name.
 #[derive(Drop)]
 pub(super) struct PartList<'a> {
     pub(super) parts: Vec<Part>,
@@ -40,7 +41,10 @@ impl<'a> PartList<'a> {
         }
     }
 
-    /// Adds a piece.
+    /// Adds a piece. A literal text without a modifier is appended to the pending text; any other
+    /// piece becomes a part, after a part of the pending text. An empty text becomes no part.
+    ///
+    /// The error is one of the callback, a duplicate name, or that memory ran out.
     ///
     /// <https://urlpattern.spec.whatwg.org/#add-a-part>
     pub(super) fn add_piece<F: Fn(&str) -> Result<String, Error>>(
@@ -83,7 +87,8 @@ impl<'a> PartList<'a> {
         Ok(())
     }
 
-    /// Adds the pending text, then a text with a modifier.
+    /// Adds the pending text as a part, and then `text`, if not empty, as a fixed text with the
+    /// modifier.
     fn add_fixed<F: Fn(&str) -> Result<String, Error>>(
         &mut self,
         parser: &PatternParser<'_, F>,
@@ -106,7 +111,8 @@ impl<'a> PartList<'a> {
         Ok(())
     }
 
-    /// Adds the pending text, then a placeholder with the texts around it.
+    /// Adds the pending text as a part, and then a group: a placeholder with the text `before` as
+    /// its prefix and the text `after` as its suffix.
     fn add_group<F: Fn(&str) -> Result<String, Error>>(
         &mut self,
         parser: &PatternParser<'_, F>,
@@ -144,10 +150,11 @@ impl<'a> PartList<'a> {
         Ok(())
     }
 
-    /// Returns the name or, without one, the number of the placeholder among those without a name.
-    /// No earlier group has this name.
+    /// Returns and remembers the name of the next group: the name that the pattern gives, or, for
+    /// `None`, the number of earlier groups without a given name. No earlier group has the returned
+    /// name.
     ///
-    /// The error is that the name is used before, or that memory ran out.
+    /// The error is that an earlier group has the name, or that memory ran out.
     ///
     /// <https://urlpattern.spec.whatwg.org/#is-a-duplicate-name>
     fn new_name(&mut self, alloc: Global, name: Option<&'a str>) -> Result<String, Error>
@@ -182,7 +189,7 @@ impl<'a> PartList<'a> {
         }
     }
 
-    /// Adds the pending text as a fixed text, if there is one.
+    /// Adds the pending text, if not empty, as a fixed text without a modifier, and clears it.
     ///
     /// <https://urlpattern.spec.whatwg.org/#maybe-add-a-part-from-the-pending-fixed-value>
     #[inline(always)]
@@ -210,7 +217,7 @@ impl<'a> PartList<'a> {
     }
 }
 
-/// Returns the name of a placeholder without one: a number, most often 0.
+/// Returns the decimal number that names a group without a given name. Most often `number` is 0.
 fn numeric_name(alloc: Global, number: usize) -> Result<String, AllocError>
     ensures { IfOk result (λ name. string_bytes name ≡ decimal number) }
 {
@@ -220,7 +227,7 @@ fn numeric_name(alloc: Global, number: usize) -> Result<String, AllocError>
     number.to_string(alloc)
 }
 
-/// Adds a part, with room for a single part at first, since most texts have one.
+/// Adds a part, with room for a single part at first, since most pattern texts have one part.
 fn push(parts: &mut Vec<Part>, part: Part) -> Result<(), AllocError>
     ensures { OnOk result (parts.new.items ≡ parts.old.items ++ part ∷ []) }
 {

@@ -1,11 +1,12 @@
-//! The pieces of a pattern, parsed from its tokens one by one.
+//! The pieces of a pattern, parsed from its tokens one by one. A fault of a text is a
+//! `TokenizerError`: no token begins at a place of the text.
 //!
 //! <https://urlpattern.spec.whatwg.org/#parse-a-pattern-string>
 ghost use Rattle.std.specs.Prelude.{◌≡◌, ◌≢◌, ◌∷◌, ◌<◌, ◌≤◌, ℕ, List, IsTrue, IfErr, IfNone, IfOk, IfSome, OnOk, length};
 ghost use Rattle.std.specs.Str.{chars};
 ghost use Rattle.urlpattern_syntax.specs.declared.tokenizer.TokenType.TheVariants as kinds;
 ghost use Rattle.urlpattern_syntax.specs.Parsing.{BeginsWithModifier, BeginsWithTexts, IsNameGiven};
-ghost use Rattle.urlpattern_parser.specs.Readers.{HasTokensLeft, IsNext, IsNextAfter, IsNextNamed, IsShorter, IsAtPlace, StartsText, Consumes, ConsumesClose, ConsumesPlaceholder, ConsumesRow, reader_left, reader_text};
+ghost use Rattle.urlpattern_parser.specs.Readers.{HasTokensLeft, IsNext, IsNextAfter, IsNextNamed, IsShorter, IsAtPlace, StartsText, Consumes, ConsumesClose, ConsumesPlaceholder, ConsumesCharacters, reader_left, reader_text};
 ghost use Rattle.urlpattern_syntax.specs.Pieces.{is_placeholder, is_text};
 ghost use Rattle.urlpattern_syntax.specs.Text.{option_text, text_of};
 ghost use Rattle.urlpattern_syntax.specs.Tokens.{ReportsFault, TokenView, token_view};
@@ -15,44 +16,45 @@ use std::alloc::Global;
 use urlpattern_syntax::error::Error;
 use urlpattern_syntax::parser::PartModifier;
 
-/// The text that a placeholder matches.
+/// What a placeholder matches.
 #[derive(Clone, Copy)]
 pub(super) enum PlaceholderKind<'a> {
-    /// A segment.
+    /// A segment: a non-empty text without the delimiter or, under options without a delimiter,
+    /// without line feed.
     Segment,
     /// A match of the custom regular expression with this body.
     Custom(&'a str),
-    /// Any text.
+    /// Any text without line feed.
     Anything,
 }
 
-/// A placeholder, perhaps with a name.
+/// A placeholder, such as `:id`, `(\d+)` or `*`, with its name or `None`, and what it matches.
 #[derive(Clone, Copy)]
 pub(super) struct Placeholder<'a> {
     pub(super) name: Option<&'a str>,
     pub(super) matched: PlaceholderKind<'a>,
 }
 
-/// A piece of a pattern.
+/// A piece of a pattern text: a character, a placeholder or a group in braces, with its modifier.
 #[derive(Drop)]
 pub(super) enum Piece<'a> {
-    /// A character.
+    /// A single literal character, escaped or not.
     Text(&'a str),
-    /// A placeholder without braces, after the prefix code point or nothing.
+    /// A placeholder without braces, after its prefix, which is the prefix code point or empty.
     Bare(&'a str, Placeholder<'a>, PartModifier),
-    /// Texts in braces.
+    /// A literal text in braces.
     TextGroup(String, PartModifier),
-    /// A placeholder in braces, with the texts before and after it.
+    /// A placeholder in braces, between the literal texts before and after it.
     Group(String, Placeholder<'a>, String, PartModifier),
 }
 
-/// The beginning of the tokens that are left.
+/// What `next_piece` finds at the beginning of the tokens that are left.
 #[derive(Drop)]
 pub(super) enum Next<'a> {
     /// A piece, which is consumed.
     Piece(Piece<'a>),
-    /// A character and the characters after it, which are consumed. Each character is a piece, and
-    /// a text follows.
+    /// A character and one or more characters after it, which are consumed. Each of them is a piece
+    /// of its own, and the next token is a further literal character.
     Characters(&'a str, &'a str),
     /// A token with which no piece begins, which is not consumed.
     Stops,
@@ -93,7 +95,7 @@ impl<'a> Reader<'a> {
         self.token
     }
 
-    /// Reads the other tokens, to the end of the text, without allocating.
+    /// Reads the tokens after the first to the end of the text, to find a fault. Does not allocate.
     ///
     /// The error is the first fault of the text.
     pub(super) fn read_to_end(&self) -> Result<(), Error>
@@ -104,7 +106,8 @@ impl<'a> Reader<'a> {
         self.cursor.read_to_end()
     }
 
-    /// Consumes the next piece, if the tokens begin with one, and writes their beginning to `next`.
+    /// Consumes the next piece, if the tokens begin with one, and writes what was found to `next`.
+    /// A character that is `prefix_code_point` belongs to the placeholder directly after it.
     ///
     /// The error is the first fault of the text, or that memory ran out.
     pub(super) fn next_piece(
@@ -139,7 +142,7 @@ impl<'a> Reader<'a> {
         }
     }
 
-    /// Consumes the first token.
+    /// Consumes the first token, which is not `End`, and returns it.
     fn take(&mut self) -> Result<Token<'a>, Error>
         requires stands { IsAtPlace self.old }
         requires more { self.old.token.kind ≢ kinds.End }
@@ -155,8 +158,9 @@ impl<'a> Reader<'a> {
         Ok(token)
     }
 
-    /// Consumes a character, and the placeholder after it if the character is its prefix, or else
-    /// the characters after it.
+    /// Consumes the first token, a character, and writes what was found to `next`. Characters after
+    /// it are consumed too, except for the last of them. If none is, a placeholder directly after
+    /// the first character is consumed too if the character is its prefix.
     fn character(&mut self, prefix_code_point: &str, next: &mut Next<'a>) -> Result<(), Error>
         requires stands { IsAtPlace self.old }
         requires character { self.old.token.kind ≡ kinds.Char }
@@ -178,13 +182,13 @@ impl<'a> Reader<'a> {
         Ok(())
     }
 
-    /// Consumes a character, and the characters after it except for the last, and returns their
-    /// values.
+    /// Consumes the first token, a character, and the literal characters after it except for the
+    /// last of them. Returns the first character, and the others that were consumed, perhaps none.
     fn characters(&mut self) -> Result<(&'a str, &'a str), Error>
         requires stands { IsAtPlace self.old }
         requires character { self.old.token.kind ≡ kinds.Char }
         ensures first { IfOk result (λ taken. taken.0 ≡ self.old.token.value) }
-        ensures more { IfOk result (λ taken. ConsumesRow self.old self.new taken.1) }
+        ensures more { IfOk result (λ taken. ConsumesCharacters self.old self.new taken.1) }
         ensures less { OnOk result (reader_left self.new < reader_left self.old) }
         ensures fault { IfErr result (ReportsFault (reader_text self.old)) }
     {
@@ -195,7 +199,8 @@ impl<'a> Reader<'a> {
         Ok((first, more))
     }
 
-    /// Consumes a placeholder without braces and its modifier, after this prefix.
+    /// Consumes a placeholder without braces and its modifier, and writes the piece, with `prefix`
+    /// before it, to `next`.
     fn bare(&mut self, prefix: &'a str, next: &mut Next<'a>) -> Result<(), Error>
         requires stands { IsAtPlace self.old }
         requires placeholder { IsTrue (is_placeholder self.old.token.kind) }
@@ -211,7 +216,8 @@ impl<'a> Reader<'a> {
         Ok(())
     }
 
-    /// Consumes a group from its opening brace, up to the place of its closing brace.
+    /// Consumes a group, from its opening brace to its modifier, and returns the piece, or
+    /// `LacksClose` if another token is in place of the closing brace.
     fn group(&mut self) -> Result<Next<'a>, Error>
         requires stands { IsAtPlace self.old }
         requires opening { self.old.token.kind ≡ kinds.Open }
@@ -237,7 +243,8 @@ impl<'a> Reader<'a> {
         }
     }
 
-    /// Consumes the texts that the tokens begin with, and returns their values, end to end.
+    /// Consumes the literal characters, escaped or not, at the beginning of the tokens, and returns
+    /// them as one text.
     fn texts(&mut self) -> Result<String, Error>
         requires { IsAtPlace self.old }
         ensures texts { IfOk result (λ text. Consumes self.old self.new (λ tokens rest.
@@ -252,7 +259,7 @@ impl<'a> Reader<'a> {
         Ok(text)
     }
 
-    /// Consumes a placeholder.
+    /// Consumes a placeholder: a name, a custom regular expression, both, or an asterisk.
     ///
     /// <https://urlpattern.spec.whatwg.org/#try-to-consume-a-regexp-or-wildcard-token>
     fn placeholder(&mut self) -> Result<Placeholder<'a>, Error>
@@ -289,7 +296,8 @@ impl<'a> Reader<'a> {
         }
     }
 
-    /// Consumes the closing brace of a group and its modifier, if the tokens begin with that brace.
+    /// Consumes the closing brace of a group and its modifier, and returns the modifier, or `None`,
+    /// with nothing consumed, if the first token is not a closing brace.
     fn close(&mut self) -> Result<Option<PartModifier>, Error>
         requires { IsAtPlace self.old }
         ensures closes { IfOk result (λ found. IfSome found (ConsumesClose self.old self.new)) }
@@ -305,7 +313,8 @@ impl<'a> Reader<'a> {
         Ok(Some(self.modifier()?))
     }
 
-    /// Consumes the modifier that the tokens begin with, if there is one.
+    /// Consumes the modifier that the tokens begin with, and returns it, or `PartModifier::None`,
+    /// with nothing consumed, if there is no modifier.
     ///
     /// <https://urlpattern.spec.whatwg.org/#try-to-consume-a-modifier-token>
     #[inline(always)]
@@ -332,7 +341,7 @@ impl<'a> Reader<'a> {
     }
 }
 
-/// Whether a token is a character, escaped or not.
+/// Whether a token of this kind is a literal character, escaped or not.
 fn is_text(kind: TokenType) -> bool
     ensures { result ≡ is_text kind }
 {

@@ -1,4 +1,5 @@
-//! The place where the pieces of a pattern text end.
+//! The place where the pieces of a pattern text end. A fault of a text is a `TokenizerError`: no
+//! token begins at a place of the text.
 ghost use Rattle.std.specs.Prelude.{IfErr, IfOk};
 ghost use Rattle.std.specs.Str.{chars};
 ghost use Rattle.urlpattern_syntax.specs.Stops.{IsStopOf};
@@ -9,18 +10,20 @@ use crate::tokenizer::Token;
 use std::alloc::Global;
 use urlpattern_syntax::error::Error;
 
-/// The place where the pieces of a pattern text end.
+/// The place where the pieces of a pattern text, its characters, placeholders and groups in braces,
+/// end.
 #[derive(Debug, Clone, Copy)]
 pub struct Stop<'a> {
     /// The first token that is in no piece: `found`, or the opening brace of a group without
     /// closing brace.
     pub first: Token<'a>,
-    /// The token before which the pieces end: `End` where they are the whole text.
+    /// The token with which no piece begins, or which is in place of the closing brace of a group.
+    /// `End` where the pieces are the whole text.
     pub found: Token<'a>,
 }
 
 impl<'a> Stop<'a> {
-    /// Finds where the pieces of a text end, under this prefix code point.
+    /// Finds where the pieces of the text `input` end, under this prefix code point.
     ///
     /// The error is the first fault of the text, or that memory ran out.
     pub fn of(alloc: Global, input: &'a str, prefix_code_point: &str) -> Result<Self, Error>

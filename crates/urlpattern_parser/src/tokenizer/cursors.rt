@@ -1,4 +1,5 @@
-//! The strict tokens of a text, one by one.
+//! The strict tokens of a text, one by one. A fault of a text is a `TokenizerError`: no token
+//! begins at a place of the text.
 ghost use Rattle.std.specs.Prelude.{◌≡◌, ◌≤◌, ◌+◌, List, length, IfOk, IfErr, OnOk};
 ghost use Rattle.std.specs.Str.{chars};
 ghost use Rattle.urlpattern_syntax.specs.Cursors.{AreCharactersBefore, AreTokensAfter, IsPlace, is_char_token, tokens_left};
@@ -69,10 +70,10 @@ impl<'a> Cursor<'a> {
         }
     }
 
-    /// Consumes the characters after this place that stand for themselves, except for the last,
-    /// which is left.
+    /// Consumes the literal characters after this place, except for the last of them, and returns
+    /// those that were consumed.
     ///
-    /// Each of the characters is a token. The text is empty where fewer than two of them follow.
+    /// A literal character is a `Char` token. The result is empty where fewer than two follow.
     pub(crate) fn characters(&mut self) -> &'a str
         requires { IsPlace (cursor_text self.old) (cursor_rest self.old) }
         ensures whole { self.new.input.now ≡ self.old.input.now }
@@ -95,7 +96,7 @@ impl<'a> Cursor<'a> {
         characters
     }
 
-    /// Reads all tokens after this place, without allocating.
+    /// Reads all tokens after this place, to find a fault. Does not allocate.
     ///
     /// The error is the first fault of the text.
     pub(crate) fn read_to_end(&self) -> Result<(), Error>
@@ -114,7 +115,7 @@ impl<'a> Cursor<'a> {
     }
 }
 
-/// Returns the byte at which this rest of a text begins.
+/// Returns the byte index in `input` at which `rest`, the end of `input`, begins.
 fn place_of(input: &str, rest: &str) -> usize
     requires { IsPlace (chars input.now) (chars rest.now) }
     ensures { BeginsAt (chars input.now) (chars rest.now) result }
@@ -122,7 +123,8 @@ fn place_of(input: &str, rest: &str) -> usize
     input.len() - rest.len()
 }
 
-/// Whether a character is a token by itself, and no mark.
+/// Whether a character is a `Char` token by itself: it does not begin another token, and is not
+/// skipped between tokens.
 fn is_char_token(c: char) -> bool
     ensures { result ≡ is_char_token c }
 {

@@ -21,7 +21,8 @@ pub(super) struct Lexeme<'a> {
 }
 
 /// Reads the token at the beginning of a text that is not empty and begins with no skipped
-/// character. Under the lenient policy a character with which no token begins is a token itself.
+/// character. Where no token begins there, the lenient policy returns the first character as an
+/// `InvalidChar`, and the strict policy the reason as an error.
 pub(super) fn next_token<'a>(
     text: &'a str,
     policy: &TokenizePolicy,
@@ -36,7 +37,7 @@ pub(super) fn next_token<'a>(
     }
 }
 
-/// Returns the first character of a text with which no token begins.
+/// Returns the first character of a text as an `InvalidChar`, since no token begins there.
 fn invalid_char(text: &str) -> Lexeme<'_>
     requires characters { ¬ (chars text.now ≡ []) }
     requires fault { (fault : FaultView) × IsFaultAt (chars text.now) fault }
@@ -52,7 +53,7 @@ fn invalid_char(text: &str) -> Lexeme<'_>
 }
 
 /// Reads the token at the beginning of a text that is not empty and begins with no skipped
-/// character.
+/// character. The error is the reason why no token begins there.
 pub(super) fn next_lexeme(text: &str) -> Result<Lexeme<'_>, TokenizerError>
     requires characters { ¬ (chars text.now ≡ []) }
     requires counts { ¬ BeginsWith is_ignored (chars text.now) }
@@ -78,7 +79,7 @@ pub(super) fn next_lexeme(text: &str) -> Result<Lexeme<'_>, TokenizerError>
     })
 }
 
-/// Reads the character after a backslash.
+/// Reads the token that ends with the first character of `text`, which follows a backslash.
 fn escaped_char(text: &str) -> Result<Lexeme<'_>, TokenizerError>
     ensures { Lexes (codes "\\" ++ chars text.now) result }
 {
@@ -92,7 +93,7 @@ fn escaped_char(text: &str) -> Result<Lexeme<'_>, TokenizerError>
     }
 }
 
-/// Reads the name after a colon, with all its characters.
+/// Reads the token that ends with the name at the beginning of `text`, which follows a colon.
 fn name(text: &str) -> Result<Lexeme<'_>, TokenizerError>
     ensures { Lexes (codes ":" ++ chars text.now) result }
 {
@@ -109,7 +110,8 @@ fn name(text: &str) -> Result<Lexeme<'_>, TokenizerError>
     }
 }
 
-/// Reads the body after an opening bracket, up to its closing bracket.
+/// Reads the token that ends with the body of a custom regular expression and its `)` at the
+/// beginning of `text`, which follows a `(`.
 fn regexp(text: &str) -> Result<Lexeme<'_>, TokenizerError>
     ensures { Lexes (codes "(" ++ chars text.now) result }
 {
@@ -120,7 +122,8 @@ fn regexp(text: &str) -> Result<Lexeme<'_>, TokenizerError>
     }
 }
 
-/// Reads a body that is neither empty nor begins with a question mark, up to its closing bracket.
+/// Reads the token that ends with the body of a custom regular expression and its `)` at the
+/// beginning of `text`, which follows a `(` and begins with neither `?` nor `)`.
 fn regexp_body(text: &str) -> Result<Lexeme<'_>, TokenizerError>
     requires { ¬ BeginsWith (is_among (codes "?)")) (chars text.now) }
     ensures { Lexes (codes "(" ++ chars text.now) result }
@@ -135,7 +138,7 @@ fn regexp_body(text: &str) -> Result<Lexeme<'_>, TokenizerError>
     }
 }
 
-/// A kind of characters.
+/// A kind of characters that `skip` leaves out, as a type.
 trait CharKind {
     ghost test: { ℕ → Bool };
 
@@ -155,7 +158,7 @@ impl CharKind for Ignored {
     }
 }
 
-/// The characters of a name.
+/// The characters that a name may have after its first one.
 struct NamePart;
 
 impl CharKind for NamePart {
@@ -166,7 +169,7 @@ impl CharKind for NamePart {
     }
 }
 
-/// Returns the text after the characters of the kind at its beginning.
+/// Returns the text without the characters of the kind `K` at its beginning.
 fn skip<K: CharKind>(text: &str) -> &str
     ensures skips { SkipsBy K.test (chars text.now) (chars result.now) }
     ensures all { ¬ BeginsWith K.test (chars result.now) }
@@ -182,7 +185,7 @@ fn skip<K: CharKind>(text: &str) -> &str
     rest
 }
 
-/// Returns the text after the characters at its beginning that are skipped between tokens.
+/// Returns the text without the characters at its beginning that are skipped between tokens.
 pub(super) fn skip_ignored(text: &str) -> &str
     ensures skips { Skips (chars text.now) (chars result.now) }
     ensures all { ¬ BeginsWith is_ignored (chars result.now) }

@@ -1,7 +1,7 @@
 //! Compares patterns by the parts that they were made of.
 ghost use Rattle.std.specs.Prelude.{◌≡◌, IfErr, IfOk, Some};
 ghost use Rattle.urlpattern_components.specs.Eight.{at};
-ghost use Rattle.urlpattern_pattern.specs.PatternComparing.{HaveParts, LackParts, OfBoth, compare_error_text};
+ghost use Rattle.urlpattern_pattern.specs.PatternComparing.{HaveParts, LackParts, OfPartsOfBoth, compare_error_text};
 ghost use Rattle.urlpattern_pattern.specs.declared.pattern.compare.CompareError.TheVariants as errors;
 ghost use Rattle.urlpattern_compare.specs.Comparing.{IsPatternCovering, IsPatternOverlap};
 ghost use Rattle.urlpattern_compare.specs.Order.{parts_cmp};
@@ -46,14 +46,17 @@ impl From<AllocError> for CompareError {
 }
 
 impl<R: RegExp> UrlPattern<R> {
-    /// Returns whether this pattern covers `asked`: whether its parts match every eight texts that
-    /// the parts of `asked` match. Texts with a line feed are left out.
+    /// Returns whether this pattern covers `asked`: whether this pattern's parts match each
+    /// combination of eight texts, one for each component, that the parts of `asked` match. Texts
+    /// with a line feed are left out.
     ///
-    /// The comparison is that of `PatternParts::covers`.
+    /// Compares the parts of the two patterns as `PatternParts::covers` does.
     ///
-    /// The error is that a pattern has no parts, or that memory ran out.
+    /// The error is that a pattern was put together by hand and has no parts, or that memory ran
+    /// out.
     pub fn covers(&self, alloc: Global, asked: &Self) -> Result<PatternCovering, CompareError>
-        ensures covering { IfOk result (λ covering. OfBoth self.now asked.now (λ parts others.
+        ensures covering { IfOk result (λ covering.
+            OfPartsOfBoth self.now asked.now (λ parts others.
             IsPatternCovering parts others covering)) }
         ensures missing { IfErr result (LackParts self.now asked.now) }
     {
@@ -61,14 +64,15 @@ impl<R: RegExp> UrlPattern<R> {
         Ok(parts.covers(alloc, others)?)
     }
 
-    /// Returns whether this pattern and `other` overlap: whether the parts of both match some eight
-    /// texts without line feeds, and which.
+    /// Returns whether this pattern and `other` overlap: whether eight texts without line feeds,
+    /// one for each component, exist that the parts of both patterns match, and which.
     ///
-    /// The comparison is that of `PatternParts::overlaps`.
+    /// Compares the parts of the two patterns as `PatternParts::overlaps` does.
     ///
-    /// The error is that a pattern has no parts, or that memory ran out.
+    /// The error is that a pattern was put together by hand and has no parts, or that memory ran
+    /// out.
     pub fn overlaps(&self, alloc: Global, other: &Self) -> Result<PatternOverlap, CompareError>
-        ensures overlap { IfOk result (λ overlap. OfBoth self.now other.now (λ parts others.
+        ensures overlap { IfOk result (λ overlap. OfPartsOfBoth self.now other.now (λ parts others.
             IsPatternOverlap parts others overlap)) }
         ensures missing { IfErr result (LackParts self.now other.now) }
     {
@@ -76,17 +80,18 @@ impl<R: RegExp> UrlPattern<R> {
         Ok(parts.overlaps(alloc, others)?)
     }
 
-    /// Compares one component of two patterns: the more specific is the greater.
+    /// Compares the component `component` of two patterns, by its parts: the pattern with the more
+    /// specific parts is the greater.
     ///
-    /// The comparison is that of `compare_parts`, and does not allocate.
+    /// Compares the two lists of parts as `compare_parts` does, and does not allocate.
     ///
-    /// The error is that a pattern has no parts.
+    /// The error is `NoParts`: a pattern was put together by hand.
     pub fn compare_component(
         component: ComponentName,
         left: &Self,
         right: &Self,
     ) -> Result<Ordering, CompareError>
-        ensures order { IfOk result (λ order. OfBoth left.now right.now (λ parts others.
+        ensures order { IfOk result (λ order. OfPartsOfBoth left.now right.now (λ parts others.
             order
             ≡ parts_cmp (at parts.components component).parts.items
             (at others.components component).parts.items)) }
@@ -99,9 +104,9 @@ impl<R: RegExp> UrlPattern<R> {
         }
     }
 
-    /// Returns the parts of both patterns.
+    /// Returns the parts of this pattern and those of `other`.
     ///
-    /// The error is that a pattern has no parts.
+    /// The error is `NoParts`: a pattern was put together by hand.
     fn both_parts<'p>(
         &'p self,
         other: &'p Self,

@@ -27,17 +27,18 @@ impl<R: RegExp> UrlPattern<R> {
     /// Compiles a pattern from an init: from its own texts, and from those that it inherits from
     /// its base URL.
     ///
-    /// The error is that of the first component that is rejected, or that memory ran out. The
+    /// The error is an error of the first component that is rejected, or that memory ran out. The
     /// protocol is compiled first, then the hostname, the pathname, and the others in the order of
     /// a URL. A component is rejected for its text, for a fixed text in it that `url` rejects, or
     /// for its regular expression, by the engine.
     ///
-    /// The pattern keeps the parts that its texts were parsed into. Its components are made of
-    /// these parts.
+    /// The pattern keeps the parts that its texts were parsed into, which its components are made
+    /// of.
     ///
-    /// With an engine whose matchers return first ways, as those of `PatternRegexp` do, the pattern
-    /// matches by its texts (`ReturnsByItsText`). The first way is the captures that a backtracking
-    /// engine finds first.
+    /// A *way* is one way in which an expression matches a text; a backtracking engine finds the
+    /// first way first. With an engine whose matchers return the captures of the first way, as
+    /// those of `PatternRegexp` do, matches follow from the pattern texts, as `ReturnsByItsText`
+    /// says.
     ///
     /// With `Pattern` as `UrlPattern<PatternRegexp>`, and a pattern for the path alone:
     ///
@@ -63,11 +64,11 @@ impl<R: RegExp> UrlPattern<R> {
         Self::parse_with_protocol(alloc, init, None, options)
     }
 
-    /// Compiles a pattern from a constructor string, the pattern of a whole URL, and from a base
-    /// URL, if any.
+    /// Compiles a pattern from the constructor string `pattern`, the pattern of a whole URL. The
+    /// pattern may inherit components that the string leaves out from `base_url`.
     ///
-    /// The error is that `url` rejects the base URL, that the string is rejected, that of compiling
-    /// the pattern, or that memory ran out.
+    /// The error is that `url` rejects the base URL, that the string is rejected, or any error of
+    /// `parse`.
     ///
     /// With `USERS` as the text `https://example.com/users/:id`:
     ///
@@ -100,8 +101,8 @@ impl<R: RegExp> UrlPattern<R> {
         Self::parse_with_protocol(alloc, init, known, options)
     }
 
-    /// Compiles a pattern as `parse` does. The protocol may already be compiled, and comes with its
-    /// text.
+    /// Compiles a pattern as `parse` does. `known` is the protocol's component, if it is already
+    /// compiled, with the pattern text that it was compiled from.
     ///
     /// The errors are those of `parse`.
     fn parse_with_protocol(
@@ -130,14 +131,15 @@ impl<R: RegExp> UrlPattern<R> {
 
     /// Compiles the pattern of an init and matches one input: `parse`, then `exec`.
     ///
-    /// The groups of a match are captures with which the pattern texts mean the texts of the input;
-    /// without a match, the pattern texts do not mean them. The premises: components without custom
-    /// regular expressions, case that is kept, texts without line feeds, and an engine that follows
-    /// its regular expression, where one is needed. With an engine whose matchers return first
-    /// ways, as those of `PatternRegexp` do, the groups are those of the first way, without a
-    /// premise on the engine.
+    /// Parts *mean* a text, with captures, if they can match it one after the other. In a match,
+    /// each pattern text's parts mean the component's text with the captures that are returned.
+    /// `None`: the parts do not mean all eight texts, or `url` rejects the input. The premises:
+    /// components without custom regular expressions, case that is kept, texts without line feeds,
+    /// and an engine that follows its regular expression, where one is needed. With an engine whose
+    /// matchers return first ways, as those of `PatternRegexp` do, the captures are those of the
+    /// first way, without a premise on the engine.
     ///
-    /// The error is why the pattern is rejected, or that memory ran out.
+    /// The error says why the pattern is rejected, or that memory ran out.
     pub fn exec_once(
         alloc: Global,
         init: UrlPatternInit,
@@ -155,7 +157,7 @@ impl<R: RegExp> UrlPattern<R> {
     }
 }
 
-/// Separates components from their parts.
+/// Separates each component of `made` from the parts that it was made of.
 fn separate_parts<R: RegExp>(
     made: Eight<ComponentWithParts<R>>,
 ) -> (Eight<Component<R>>, PatternParts)

@@ -16,10 +16,11 @@ use urlpattern_matcher::regexp::RegExp;
 use urlpattern_syntax::error::OutOfMemory;
 
 impl<R: RegExp> UrlPattern<R> {
-    /// Returns what is wrong with a constructor string, or with its base URL. `None`: the pattern
-    /// is accepted.
+    /// Returns what is wrong with the constructor string `pattern`, or with `base_url`. `None`:
+    /// `from_constructor_string` accepts them.
     ///
-    /// A string that is rejected is parsed a second time, to find the fault.
+    /// If the pattern is rejected, the string is split or the components are compiled a second
+    /// time, to find the fault.
     ///
     /// With `Pattern` as `UrlPattern<PatternRegexp>`:
     ///
@@ -44,10 +45,11 @@ impl<R: RegExp> UrlPattern<R> {
         diagnose_text::<R>(alloc, pattern, base_url, options)
     }
 
-    /// Returns what is wrong with an init. `None`: the pattern is accepted.
+    /// Returns what is wrong with an init. `None`: `parse` accepts the init.
     ///
-    /// The text of the diagnosis is the value of the component that is rejected. An init that is
-    /// rejected is compiled a second time, to find the fault.
+    /// The text of the diagnosis is the value of the component that is rejected, or its pattern if
+    /// the init lacks the component. An init that is rejected is compiled a second time, to find
+    /// the fault.
     pub fn diagnose_init(
         alloc: Global,
         init: &UrlPatternInit,

@@ -11,17 +11,17 @@ use urlpattern_generate::{GenerateError, GivenGroup, generate_component};
 use urlpattern_matcher::regexp::RegExp;
 
 impl<R: RegExp> UrlPattern<R> {
-    /// Returns a text that the component matches and whose groups capture the given texts, in
-    /// canonical form. The first of several texts for one group counts. Texts for other components,
-    /// or for groups that the component does not have, are ignored.
+    /// Returns a text that `component` matches, and in which its groups capture the texts that
+    /// `groups` gives, in canonical form. The first of several texts for one group counts. Texts
+    /// for other components, or for groups that the component does not have, are ignored.
     ///
-    /// A group without a text takes no part if its modifier permits that; otherwise a wildcard
-    /// without name is empty. A fixed text with a modifier occurs as few times as the modifier
-    /// permits.
+    /// A group to which `groups` gives no text is left out if its modifier permits that; otherwise
+    /// a full wildcard without name captures the empty text. A fixed text with a modifier occurs as
+    /// few times as the modifier permits.
     ///
-    /// The error is that a group has no text, that a group cannot capture its text, that the groups
-    /// would capture other texts in the result or the result is not canonical, that the pattern was
-    /// put together by hand and so has no parts, or that memory ran out.
+    /// The error is that a group needs a text and has none, that a group cannot capture its text,
+    /// that the groups would capture other texts in the result or the result is not canonical, that
+    /// the pattern was put together by hand and so has no parts, or that memory ran out.
     ///
     /// With `pattern` as a function that compiles a constructor string:
     ///

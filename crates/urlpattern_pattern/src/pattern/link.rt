@@ -21,13 +21,15 @@ use urlpattern_generate::{
 use urlpattern_matcher::regexp::RegExp;
 
 impl<R: RegExp> UrlPattern<R> {
-    /// Returns the URL that the pattern matches with these groups. Each of its texts is that of the
-    /// component's parts, and the URL is what `url` parses from these texts, put together. A
-    /// component that the pattern leaves open is therefore empty, unless its wildcard is given a
-    /// text by its number. Each match of the URL captures the given texts, in canonical form.
+    /// Returns a URL that the pattern matches. Each match of the URL captures the texts that
+    /// `groups` gives to groups of the pattern, in canonical form.
     ///
-    /// The error is that of the first component that has no text with its groups, that no URL has
-    /// the texts of the components, that the text of a component would be read with other groups,
+    /// The text of each component is written from its parts, and `url` parses the eight texts, put
+    /// together. A component that the pattern leaves open is therefore empty, unless `groups` gives
+    /// its wildcard a text, by the wildcard's number.
+    ///
+    /// The error says why the first component that has no text has none, that no URL has the texts
+    /// of the components, that a component captures other texts than those that `groups` gives,
     /// that the pattern was put together by hand, or that memory ran out.
     ///
     /// With a pattern that was compiled from `https://example.com/users/:id`:
@@ -66,8 +68,8 @@ impl<R: RegExp> UrlPattern<R> {
         }
     }
 
-    /// Returns the first component whose matcher does not find the expected captures in its text.
-    /// `None`: every matcher finds them.
+    /// Matches each of `texts`, which were written from `parts` with `groups`, and returns the
+    /// first component that does not capture what `groups` requests. `None`: every component does.
     fn unconfirmed(
         &self,
         alloc: Global,
@@ -88,7 +90,8 @@ impl<R: RegExp> UrlPattern<R> {
         Ok(None)
     }
 
-    /// Whether the matcher of a component finds the expected captures in its text.
+    /// Whether the component `name` matches its text of `texts`, which was written from `parts`
+    /// with `groups`, and captures what `groups` requests.
     fn is_confirmed(
         &self,
         alloc: Global,
@@ -109,9 +112,9 @@ impl<R: RegExp> UrlPattern<R> {
     }
 }
 
-/// Returns the texts of all components, as their parts spell them with these groups.
+/// Returns the text of each component, written from its parts with the texts that `groups` gives.
 ///
-/// The error is that of the first component that has no text.
+/// The error says why the first component that has no text has none, or that memory ran out.
 fn written_each<'d>(
     alloc: Global,
     parts: &'d PatternParts,
@@ -142,9 +145,9 @@ fn written_each<'d>(
     })
 }
 
-/// Returns the text of a component, as its parts spell it with these groups.
+/// Returns the text of `component`, written from its parts with the texts that `groups` gives.
 ///
-/// The error is why the component has no text, or that memory ran out.
+/// The error says why the component has no text, or that memory ran out.
 #[inline(always)]
 fn written<'d>(
     alloc: Global,

@@ -1,7 +1,7 @@
 //! Matches URLs, inits and texts, and returns the groups of a match.
 //!
-//! All components look at their texts before anything is allocated. Engines are called last, and
-//! the first component that does not match ends the search.
+//! All texts are matched as far as possible before an engine is called. The first component that
+//! does not match its text ends a call.
 ghost use Rattle.std.specs.Prelude.{◌≡◌, None, Some, IfErr, IfNone, IfOk, IfSome};
 ghost use Rattle.urlpattern_matcher.specs.Looks.{look_result, NeedsEngine};
 ghost use Rattle.urlpattern_init.specs.declared.init.UrlPatternMatchInput.TheVariants as inputs;
@@ -26,15 +26,15 @@ use urlpattern_inputs::MatchInput;
 use urlpattern_matcher::matcher::Look;
 use urlpattern_matcher::regexp::RegExp;
 use urlpattern_matches::{
-    GroupCaptures, Missed, UrlPatternCaptures, UrlPatternResult, assemble_match, input_texts,
+    GroupCaptures, NoCaptures, UrlPatternCaptures, UrlPatternResult, assemble_match, input_texts,
     parse_match_input, url_texts,
 };
 use urlpattern_syntax::Error;
 use urlpattern_syntax::error::OutOfMemory;
 
 impl<R: RegExp> UrlPattern<R> {
-    /// Whether the pattern matches an input: the texts of a URL, or those that an init results in,
-    /// with what it inherits. An input that `url` rejects does not match.
+    /// Whether the pattern matches the eight texts of an input: of a URL, or of an init with what
+    /// it inherits from its base URL. An input that `url` rejects does not match.
     ///
     /// For a URL, only an engine allocates.
     ///
@@ -63,9 +63,9 @@ impl<R: RegExp> UrlPattern<R> {
         }
     }
 
-    /// Returns what the groups capture of an input: of the texts of a URL, or of those that an init
-    /// results in, with what it inherits. `None`: the pattern does not match. An input that `url`
-    /// rejects does not match.
+    /// Returns the match of an input, owned: the eight texts of a URL, or of an init with what it
+    /// inherits from its base URL, and what the groups capture. `None`: the pattern does not match.
+    /// An input that `url` rejects does not match.
     ///
     /// For a URL, only an engine and the copy of a match allocate.
     ///
@@ -98,7 +98,7 @@ impl<R: RegExp> UrlPattern<R> {
         }
     }
 
-    /// Whether the pattern matches a URL, as `test` returns it.
+    /// Whether the pattern matches a URL. Returns what `test` returns for the URL.
     ///
     /// Only an engine allocates.
     pub fn test_url(&self, alloc: Global, url: &Url) -> Result<bool, Error>
@@ -111,8 +111,8 @@ impl<R: RegExp> UrlPattern<R> {
         Ok(self.is_matched(alloc, &url_texts(url))?)
     }
 
-    /// Returns what the groups capture of a URL, as `exec` does. `None`: the pattern does not match
-    /// the URL.
+    /// Returns the match of a URL, owned, as `exec` does. `None`: the pattern does not match the
+    /// URL.
     ///
     /// Only an engine and the copy of a match allocate.
     pub fn exec_url(&self, alloc: Global, url: &Url) -> Result<Option<UrlPatternResult>, Error>
@@ -180,8 +180,9 @@ impl<R: RegExp> UrlPattern<R> {
         Ok(match_of_texts(alloc, self, &input_texts(input))?)
     }
 
-    /// Whether the pattern matches eight texts, as they are. `url_texts` borrows those of a URL,
-    /// and `pathname_texts` those of a path alone.
+    /// Whether the pattern matches eight texts, one for each component, which are not made
+    /// canonical. `url_texts` returns the texts of a URL, and `pathname_texts` those of a path
+    /// alone.
     ///
     /// Only an engine allocates.
     pub fn test_texts(&self, alloc: Global, texts: &Eight<&str>) -> Result<bool, Error>
@@ -194,9 +195,9 @@ impl<R: RegExp> UrlPattern<R> {
         Ok(self.is_matched(alloc, texts)?)
     }
 
-    /// Returns the match of eight texts, as they are, borrowed from the pattern and from the owner
-    /// of the texts. `None`: the pattern does not match the texts. `url_texts` borrows those of a
-    /// URL, and `pathname_texts` those of a path alone.
+    /// Returns the match of eight texts, one for each component, borrowed from the pattern and from
+    /// the owner of the texts. `None`: the pattern does not match the texts. The texts are not made
+    /// canonical; `url_texts` returns those of a URL, and `pathname_texts` those of a path alone.
     ///
     /// Only an engine allocates.
     ///
@@ -244,7 +245,7 @@ impl<R: RegExp> UrlPattern<R> {
         }
     }
 
-    /// Whether the pattern matches eight texts.
+    /// Whether the pattern matches eight texts, one for each component.
     fn is_matched(&self, alloc: Global, texts: &Eight<&str>) -> Result<bool, OutOfMemory>
         ensures matched { IfOk result
             (TestsTexts R.answer (pattern_view self.now) (borrowed_texts texts.now)) }
@@ -254,7 +255,8 @@ impl<R: RegExp> UrlPattern<R> {
         Ok(self.group_captures(alloc, texts)?.is_some())
     }
 
-    /// Returns the match that has these texts and captures.
+    /// Puts a match together: `texts`, the names of the pattern's groups, and `captures`, what
+    /// these groups capture.
     fn match_with_names<'p, 'u>(
         &'p self,
         texts: &Eight<&'u str>,
@@ -270,8 +272,8 @@ impl<R: RegExp> UrlPattern<R> {
         assemble_match(Eight::from_fn(names), with_fields!(Eight, texts), captures)
     }
 
-    /// Returns what the components see in their texts before an engine is called. `None`: a
-    /// component does not match its text.
+    /// Matches each text as far as possible without an engine. Returns for each component what is
+    /// left to do: nothing, or to call an engine. `None`: a component does not match its text.
     #[inline(always)]
     fn look<'p, 'u>(&'p self, texts: &Eight<&'u str>) -> Option<Eight<Look<'p, 'u, R>>>
         ensures some { IfSome result
@@ -294,7 +296,8 @@ impl<R: RegExp> UrlPattern<R> {
         })
     }
 
-    /// Returns what the groups capture of eight texts. `None`: a component does not match its text.
+    /// Returns what the groups of each component capture of its text. `None`: a component does not
+    /// match its text.
     ///
     /// Only an engine allocates.
     fn group_captures<'u>(
@@ -341,7 +344,8 @@ pub fn match_of_texts<'p, 'u, R: RegExp>(
     }
 }
 
-/// Returns what eight looks capture. `None`: an engine that is called does not match.
+/// Calls the engines that `looks`, the result of `UrlPattern::look`, ask for, and returns what each
+/// component captures. `None`: an engine does not match its text.
 fn finish_looks<'u, R: RegExp>(
     alloc: Global,
     looks: Eight<Look<'_, 'u, R>>,
@@ -353,7 +357,7 @@ fn finish_looks<'u, R: RegExp>(
 {
     match looks.try_map(|look| GroupCaptures::of_look(alloc, look)) {
         Ok(captures) => Ok(Some(captures)),
-        Err(Missed::Unmatched) => Ok(None),
-        Err(Missed::OutOfMemory) => Err(OutOfMemory),
+        Err(NoCaptures::Unmatched) => Ok(None),
+        Err(NoCaptures::OutOfMemory) => Err(OutOfMemory),
     }
 }

@@ -14,11 +14,11 @@ use urlpattern_matches::url_texts;
 use urlpattern_syntax::Error;
 
 impl<R: RegExp> UrlPattern<R> {
-    /// Returns the first component that does not match its text of a URL, in the order protocol,
-    /// username, password, hostname, port, pathname, search, hash. `None`: the pattern matches the
-    /// URL.
+    /// Returns the first component, in the order of the standard, that does not match its text of a
+    /// URL. `None`: the pattern matches the URL.
     ///
-    /// Only an engine allocates, and no engine is called after the component that is returned.
+    /// Only an engine allocates, and no engine of a component after the one that is returned is
+    /// called.
     ///
     /// With `pattern` as a function that compiles a constructor string:
     ///
@@ -39,10 +39,11 @@ impl<R: RegExp> UrlPattern<R> {
         self.mismatch_of_texts(alloc, &url_texts(url))
     }
 
-    /// Returns the first component that does not match its text, in the order of `mismatch`.
-    /// `None`: the pattern matches the eight texts.
+    /// Returns the first component, in the order of the standard, that does not match its text of
+    /// `texts`. `None`: the pattern matches the eight texts.
     ///
-    /// Only an engine allocates, and no engine is called after the component that is returned.
+    /// Only an engine allocates, and no engine of a component after the one that is returned is
+    /// called.
     pub fn mismatch_of_texts(
         &self,
         alloc: Global,

@@ -4,17 +4,18 @@ ghost use Rattle.std.specs.Prelude.{◌≡◌, ◌∷◌};
 ghost use Rattle.std.specs.Str.{chars};
 ghost use Rattle.urlpattern_steps.specs.FailedStates.{IsStateOf};
 ghost use Rattle.urlpattern_steps.specs.Walk.{walk};
-ghost use Rattle.urlpattern_steps.specs.Taken.{MatchesRestIfOk};
+ghost use Rattle.urlpattern_steps.specs.AddedCaptures.{MatchesRestIfOk};
 
 use crate::run_ends::{longest_prefix, memoize_run, next_of_run};
 use crate::step::{Run, Step};
 use crate::text_cuts::{after_prefix, split_at_first, without_last};
-use crate::walk::{Attempt, Taken};
+use crate::walk::{Attempt, DoesMatch};
 use urlpattern_syntax::text::before;
 
 impl<'t> Attempt<'_, 't> {
-    /// Whether the steps match the whole text, the first a nonempty run without `end`. The shortest
-    /// run is tried first. On a match the captures are added.
+    /// Whether `steps`, a lazy run without `end` followed by `others`, matches the whole text. The
+    /// shortest run is tried first. On a match the run and the captures of `others` are added to
+    /// `self.captures`, otherwise nothing.
     #[cycle(following)]
     pub(super) fn match_shortest_run(
         &mut self,
@@ -23,7 +24,7 @@ impl<'t> Attempt<'_, 't> {
         steps: &[Step],
         others: &[Step],
         text: &'t str,
-    ) -> Taken
+    ) -> DoesMatch
         requires state { IsStateOf ignore_case self.old.failed steps.now (chars text.now) }
         requires first { steps.now ≡ Step.LazyRun end ∷ others.now }
         ensures { MatchesRestIfOk self.old self.new result
@@ -40,8 +41,9 @@ impl<'t> Attempt<'_, 't> {
         Ok(false)
     }
 
-    /// Whether the steps match the whole text, the first a run without a line feed. The longest run
-    /// is tried first. On a match the captures are added.
+    /// Whether `steps`, a `DotStar` followed by `others`, matches the whole text. The longest run
+    /// is tried first. On a match the run and the captures of `others` are added to
+    /// `self.captures`, otherwise nothing.
     #[cycle(following)]
     pub(super) fn match_longest_run(
         &mut self,
@@ -49,7 +51,7 @@ impl<'t> Attempt<'_, 't> {
         steps: &[Step],
         others: &[Step],
         text: &'t str,
-    ) -> Taken
+    ) -> DoesMatch
         requires state { IsStateOf ignore_case self.old.failed steps.now (chars text.now) }
         requires first { steps.now ≡ Step.DotStar ∷ others.now }
         ensures { MatchesRestIfOk self.old self.new result
@@ -69,8 +71,9 @@ impl<'t> Attempt<'_, 't> {
         }
     }
 
-    /// Whether a run of characters and the steps match the whole text. The longest run is tried
-    /// first. On a match the run and the captures of the steps are added.
+    /// Whether `run`, followed by `steps`, matches the whole text. The longest run is tried first.
+    /// On a match the run and the captures of the steps are added to `self.captures`, otherwise
+    /// nothing.
     #[cycle(following)]
     pub(super) fn match_greedy_run(
         &mut self,
@@ -78,7 +81,7 @@ impl<'t> Attempt<'_, 't> {
         run: Run,
         steps: &[Step],
         text: &'t str,
-    ) -> Taken
+    ) -> DoesMatch
         requires { IsStateOf ignore_case self.old.failed steps.now (chars text.now) }
         ensures { MatchesRestIfOk self.old self.new result
             (walk ignore_case (Step.GreedyRun run ∷ steps.now) (chars text.now)) }

@@ -4,18 +4,22 @@ ghost use Rattle.std.specs.Prelude.{◌∷◌, IfOk, OnOk};
 ghost use Rattle.std.specs.Str.{chars};
 ghost use Rattle.urlpattern_steps.specs.FailedStates.{IsStateOf};
 ghost use Rattle.urlpattern_steps.specs.Walk.{walk};
-ghost use Rattle.urlpattern_steps.specs.Taken.{MatchesRestIfOk, IsEndHere, IsEndOfSegments, Untouched};
+ghost use Rattle.urlpattern_steps.specs.AddedCaptures.{MatchesRestIfOk, IsEndHere, IsEndOfSegments, Untouched};
 
-use crate::repeats::{end_if_continued, ends, entry_after_literal, first_steps, pass};
+use crate::repeats::{choose_ends, end_if_continued, entry_after_literal, first_steps, skip_steps};
 use crate::step::{Segments, Step};
 use crate::text_cuts::{after_prefix, split_at_boundary, without_last};
-use crate::walk::{Attempt, Taken};
+use crate::walk::{Attempt, DoesMatch};
 use std::mem;
 use urlpattern_syntax::error::OutOfMemory;
 
 impl<'t> Attempt<'_, 't> {
     /// Whether runs joined by a separator, and the steps after them, match the whole text. On a
-    /// match one capture for all of the preferred runs and the captures of the steps are added.
+    /// match the preferred runs, as one capture, and the captures of the steps are added to
+    /// `self.captures`, otherwise nothing.
+    ///
+    /// `steps` begins with the literal steps that have the characters of the separator after the
+    /// first.
     #[cycle(following)]
     pub(super) fn match_segments(
         &mut self,
@@ -23,13 +27,13 @@ impl<'t> Attempt<'_, 't> {
         segments: Segments,
         steps: &[Step],
         text: &'t str,
-    ) -> Taken
+    ) -> DoesMatch
         requires { IsStateOf ignore_case self.old.failed steps.now (chars text.now) }
         ensures { MatchesRestIfOk self.old self.new result
             (walk ignore_case (Step.Segments segments ∷ steps.now) (chars text.now)) }
     {
         let literal = first_steps(steps, segments.separator.others);
-        let others = pass(steps, segments.separator.others);
+        let others = skip_steps(steps, segments.separator.others);
         match self.end_of_segments(ignore_case, segments, literal, others, text)? {
             Some(count) => {
                 let (front, rest) = split_at_boundary(text, count);
@@ -39,9 +43,11 @@ impl<'t> Attempt<'_, 't> {
         }
     }
 
-    /// The length in bytes of the preferred separated runs after which the other steps match the
-    /// rest. `None`: there are none. The separator is its first character and the characters of the
-    /// literal steps.
+    /// Returns the length in bytes of the preferred separated runs at the start of `text` after
+    /// which `others` matches the rest. `None`: no match. No capture is added.
+    ///
+    /// The separator is its first character, then the character of each literal step in `literal`.
+    /// The ends are found from the end of the text to its start.
     #[cycle(following)]
     fn end_of_segments(
         &mut self,
@@ -71,7 +77,7 @@ impl<'t> Attempt<'_, 't> {
             );
             let stopping = self.end_here(ignore_case, others, next, front.len(), rest)?;
             let onward = end_if_continued(rest, segments.end, ignore_case, later);
-            let (beginning, either) = ends(segments.is_greedy, onward, stopping);
+            let (beginning, either) = choose_ends(segments.is_greedy, onward, stopping);
             let Some(shorter) = without_last(front) else {
                 return Ok(beginning);
             };
@@ -81,8 +87,9 @@ impl<'t> Attempt<'_, 't> {
         }
     }
 
-    /// The end of separated runs, one of which may end here: `next`, where the runs after it end,
-    /// or else `here`, if the steps match the rest.
+    /// Returns the end in bytes of separated runs, one of which may end at `here`, before `rest`:
+    /// `next`, the end if a separator and more runs follow, or else `here`, if the steps match
+    /// `rest`. `None`: `next` is `None`, and the steps do not match `rest`.
     #[cycle(following)]
     fn end_here(
         &mut self,
@@ -102,8 +109,8 @@ impl<'t> Attempt<'_, 't> {
         }
         let alloc = *self.captures.allocator();
         let captures = mem::replace(&mut self.captures, Vec::new(alloc));
-        let is_taken = self.match_rest(ignore_case, steps, rest)?;
+        let does_match = self.match_rest(ignore_case, steps, rest)?;
         self.captures = captures;
-        if is_taken { Ok(Some(here)) } else { Ok(None) }
+        if does_match { Ok(Some(here)) } else { Ok(None) }
     }
 }

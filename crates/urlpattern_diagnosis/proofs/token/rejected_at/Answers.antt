@@ -15,7 +15,7 @@ pub returns-in-Err-clause-end : goal.returns-in-Err-clause-end
 returns-in-Err-clause-end c =
     let fault = c.in-Err.fault in
     let is = c.in-Err.ensures.refused in
-    refused_end c.args.body.now c.requires.faulty.0 c.requires.faulty.1 (fault_view fault.error) fault.refused is.0 is.1
+    refused_end c.args.body.now c.requires.faulty.0 c.requires.faulty.1 (fault_view fault.error) fault.invalid_bytes is.0 is.1
 
 pub returns-in-Err-clause-left : goal.returns-in-Err-clause-left
 returns-in-Err-clause-left c = (rejected_part _ _ _ c.in-Err.ensures.refused.1).0

@@ -5,9 +5,9 @@ use Rattle.urlpattern_engine.proofs.bounded_search.write.Goals as goal
 pub returns-then-slot-lt2 : goal.returns-then-slot-lt2
 returns-then-slot-lt2 c = sym (put_low _ _ _ c.if-slot-lt2.true)
 
-pub returns-then-index-lt-FEW : goal.returns-then-index-lt-FEW
-returns-then-index-lt-FEW c = sym (put_kept _ _ _ c.if-slot-lt2.false)
+pub returns-then-index-lt-CELL_COUNT : goal.returns-then-index-lt-CELL_COUNT
+returns-then-index-lt-CELL_COUNT c = sym (put_kept _ _ _ c.if-slot-lt2.false)
 
-pub returns-else-index-lt-FEW : goal.returns-else-index-lt-FEW
-returns-else-index-lt-FEW c =
-    sym (put_past _ _ _ c.if-slot-lt2.false (omega (arith, c.told-cells, c.if-index-lt-FEW.false)))
+pub returns-else-index-lt-CELL_COUNT : goal.returns-else-index-lt-CELL_COUNT
+returns-else-index-lt-CELL_COUNT c =
+    sym (put_past _ _ _ c.if-slot-lt2.false (omega (arith, c.told-cells, c.if-index-lt-CELL_COUNT.false)))

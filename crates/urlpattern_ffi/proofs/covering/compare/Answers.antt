@@ -1,6 +1,6 @@
 use Rattle.std.proofs.Common.{inl, inr}
 use Rattle.urlpattern_ffi.proofs.CoveringLemmas.{of_both}
-use Rattle.urlpattern_ffi.specs.ReportedCoverings.{IsPartedIn, IsUnknownIn}
+use Rattle.urlpattern_ffi.specs.ReportedCoverings.{HasPartingIn, IsUnknownIn}
 use Rattle.urlpattern_ffi.specs.Mismatches.{component_number}
 use Rattle.urlpattern_compare.specs.Comparing.{IsParting, IsReasonIn}
 use Rattle.urlpattern_ffi.proofs.covering.compare.Goals as goal
@@ -11,7 +11,7 @@ returns-in-Ok-Covered c = (c.requires, rw c.in-Ok-Covered.field-0-is at c.in-Ok-
 pub returns-in-Ok-NotCovered : goal.returns-in-Ok-NotCovered
 returns-in-Ok-NotCovered c =
     let parting = c.in-Ok-NotCovered.parting in
-    of_both c.args.pattern.now c.args.asked.now (λ parts others. IsParting parts others parting) (IsPartedIn c.component_number.result)
+    of_both c.args.pattern.now c.args.asked.now (λ parts others. IsParting parts others parting) (HasPartingIn c.component_number.result)
     (λ parts others parts_them. (parting, parts_them, c.component_number.ensures.number)) (rw c.in-Ok-NotCovered.field-0-is at c.in-Ok-NotCovered.ensures.covering)
 
 pub returns-in-Ok-Unknown : goal.returns-in-Ok-Unknown

@@ -1,11 +1,11 @@
 use Rattle.urlpattern_meaning.specs.Laws.{listed}
-use Rattle.urlpattern_meaning.specs.LawsOfReading.{OfPartsThatWereRead, OfPrintableParts, Saying}
+use Rattle.urlpattern_meaning.specs.LawsOfReading.{OfPartsThatWereRead, OfPrintableParts, PrintedProperty}
 use Rattle.urlpattern_meaning.specs.RoundTrip.{IsNotRejected, PrintsTheSame, ReadsAsJoined, ReadsOnlyAsJoined}
 use Rattle.urlpattern_meaning.proofs.ReadsBack.{kept_reads, kept_reads_only, kept_same, kept_unrefused, were_read_printable}
 use Rattle.urlpattern_meaning.proofs.meaning_laws.parts_that_were_read_print_and_read_back.Goals as goal
 
 -- A property of printable parts is a property of parts that were read.
-of_read : (Says : Saying) → OfPrintableParts Says → OfPartsThatWereRead Says
+of_read : (Says : PrintedProperty) → OfPrintableParts Says → OfPartsThatWereRead Says
 of_read Says of_printable text options first answers parts read =
     of_printable options answers parts (were_read_printable text options (listed first) parts read)
 

@@ -56,7 +56,8 @@ returns-in-Some-2-clause-refused c =
     let big : 128 ≤ c.in-Some-split_first.escaped = search rules in
     let len : c.len_utf8.result ≡ byte_len (c.in-Some-split_first.escaped ∷ []) = c.len_utf8.ensures.len ∙ sym (byte_len-char c.in-Some-split_first.escaped) in
     let next = chars c.in-Some-split_first.next.now in
-    let more = c.in-Some-split_first.ensures.cut in (
+    let more = c.in-Some-split_first.ensures.cut in
+    rw c.invalid.ensures (
       fault_escape _ _ _ read c.requires _ (InvalidRegex (reason EscapedNotAscii)) cut (c.in-Some-split_first.escaped, next, more, big, refl),
       (
         after_front _ _ _ read c.requires,
@@ -69,13 +70,14 @@ pub returns-in-None-clause-refused : goal.returns-in-None-clause-refused
 returns-in-None-clause-refused c =
     let cut : chars c.loop-first.rest.now ≡ 92 ∷ chars c.in-Some.after.now = search rules in
     let none : chars c.in-Some.after.now ≡ [] = search rules in
-    (fault_escape _ _ _ c.loop-first.invariant.has_read c.requires _ IncompleteEscapeCode cut none, inl refl)
+    rw c.unfinished.ensures (fault_escape _ _ _ c.loop-first.invariant.has_read c.requires _ IncompleteEscapeCode cut none, inl refl)
 
 pub returns-in-Some-split_first-2-clause-refused : goal.returns-in-Some-split_first-2-clause-refused
 returns-in-Some-split_first-2-clause-refused c =
     let read = c.loop-first.invariant.has_read in
     let cut : chars c.loop-first.rest.now ≡ 40 ∷ chars c.in-Some.after.now = search rules in
-    let other : LacksQuestionMark (chars c.in-Some.after.now) (InvalidRegex (reason CapturingGroup)) = search rules in (
+    let other : LacksQuestionMark (chars c.in-Some.after.now) (InvalidRegex (reason CapturingGroup)) = search rules in
+    rw c.invalid-in-Some-split_first-2.ensures (
       fault_group _ _ _ read c.requires _ (InvalidRegex (reason CapturingGroup)) cut other,
       (
         after_front _ _ _ read c.requires,
@@ -88,7 +90,8 @@ pub returns-in-None-split_first-clause-refused : goal.returns-in-None-split_firs
 returns-in-None-split_first-clause-refused c =
     let read = c.loop-first.invariant.has_read in
     let cut : chars c.loop-first.rest.now ≡ 40 ∷ chars c.in-Some.after.now = search rules in
-    let none : chars c.in-Some.after.now ≡ [] = search rules in (
+    let none : chars c.in-Some.after.now ≡ [] = search rules in
+    rw c.invalid-in-None-split_first.ensures (
       fault_group _ _ _ read c.requires _ (InvalidRegex (reason GroupAtEnd)) cut (inl (none, refl)),
       (
         after_front _ _ _ read c.requires,
@@ -106,7 +109,8 @@ pub returns-in_default-2-clause-refused : goal.returns-in_default-2-clause-refus
 returns-in_default-2-clause-refused c =
     let read = c.loop-first.invariant.has_read in
     let cut = c.in-Some.ensures.cut in
-    let big : 128 ≤ c.in-Some.first = search rules in (
+    let big : 128 ≤ c.in-Some.first = search rules in
+    rw c.invalid-in_default-2.ensures (
       fault_not_ascii _ _ _ read c.requires _ _ cut big,
       (
         after_front _ _ _ read c.requires,
@@ -118,4 +122,4 @@ returns-in_default-2-clause-refused c =
 pub returns-clause-refused : goal.returns-clause-refused
 returns-clause-refused c =
     let read = c.loop-first.invariant.has_read in
-    (fault_end _ _ _ read c.requires (search rules), inr (all_read _ _ _ read c.requires (search rules)))
+    rw c.unfinished-2.ensures (fault_end _ _ _ read c.requires (search rules), inr (all_read _ _ _ read c.requires (search rules)))

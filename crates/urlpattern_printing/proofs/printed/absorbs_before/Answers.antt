@@ -10,7 +10,7 @@ pub returns-then-is_empty : goal.returns-then-is_empty
 returns-then-is_empty c =
     let before = c.in-Some.previous.now in
     let in_order = and_assoc (is_fixed_text before.kind) (not (is_empty (text_of before.value))) (bytes_eq (last_of (text_of before.value)) (text_of c.args.options.now.prefix_code_point)) in
-    rw (c.in-Some.is, is_empty-text c.args.part.now.prefix, ← c.is_empty.ensures, c.if-is_empty.true) (c.leaves_prefix.ensures ∙ sym in_order)
+    rw (c.in-Some.is, is_empty-text c.args.part.now.prefix, ← c.is_empty.ensures, c.if-is_empty.true) (c.is_text_ending_with_prefix.ensures ∙ sym in_order)
 
 pub returns-else-is_empty : goal.returns-else-is_empty
 returns-else-is_empty c = rw (c.in-Some.is, is_empty-text c.args.part.now.prefix, ← c.is_empty.ensures, c.if-is_empty.false)

@@ -7,7 +7,7 @@ use Rattle.urlpattern_steps.specs.declared.step.Step.{Step}
 use Rattle.urlpattern_steps.specs.FailedStates.{EndsWith}
 use Rattle.urlpattern_steps.specs.Walk.{walk}
 use Rattle.urlpattern_steps.specs.Table.{IsRow, following, row_at}
-use Rattle.urlpattern_steps.specs.Taken.{with_captures}
+use Rattle.urlpattern_steps.specs.AddedCaptures.{with_captures}
 use Rattle.urlpattern_steps.proofs.FailedLemmas.{ends_drop, ends_longer}
 use Rattle.urlpattern_steps.proofs.FollowLemmas.{end_taken}
 use Rattle.urlpattern_steps.proofs.TableLemmas.{row_within}

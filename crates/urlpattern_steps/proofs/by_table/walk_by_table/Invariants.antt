@@ -4,7 +4,7 @@ use denote.Shadow.{shadow}
 use Rattle.std.specs.Str.{chars}
 use Rattle.urlpattern_steps.specs.FailedStates.{EndsWith}
 use Rattle.urlpattern_steps.specs.Walk.{walk}
-use Rattle.urlpattern_steps.specs.Taken.{with_captures}
+use Rattle.urlpattern_steps.specs.AddedCaptures.{with_captures}
 use Rattle.urlpattern_steps.proofs.by_table.walk_by_table.Given as goal
 
 abbrev pub invariant-loop-step : goal.invariant-loop-step

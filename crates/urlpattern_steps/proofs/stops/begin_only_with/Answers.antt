@@ -11,7 +11,7 @@ loop-step-preserved-in-OptionalGroup-1 c stops =
     let others = c.in-Some.others.now in
     let whole : c.loop-step.rest.now ≡ OptionalGroup group ∷ others = c.in-Some.ensures.cases.0 ∙ ap (λ (s : Step). s ∷ others) c.in-OptionalGroup.is in
     c.loop-step.invariant (subst (BeginOnlyWith c.args.end) (sym whole)
-    (stop-maybe c.args.end group others (c.begin_with.ensures c.if-not-begin_with.false) (subst (BeginOnlyWith c.args.end) c.pass-rest.ensures stops)))
+    (stop-maybe c.args.end group others (c.begin_with.ensures c.if-not-begin_with.false) (subst (BeginOnlyWith c.args.end) c.skip_steps-rest.ensures stops)))
 
 pub returns-then-not-copies : goal.returns-then-not-copies
 returns-then-not-copies c = λ tested.
@@ -26,4 +26,4 @@ loop-step-preserved c stops =
     let others = c.in-Some.others.now in
     let whole : c.loop-step.rest.now ≡ RepeatedLiteral copies ∷ others = c.in-Some.ensures.cases.0 ∙ ap (λ (s : Step). s ∷ others) c.in-RepeatedLiteral.is in
     c.loop-step.invariant (subst (BeginOnlyWith c.args.end) (sym whole)
-    (stop-any_copies c.args.end copies others c.if-copies-end.false c.if-not-copies.false (subst (BeginOnlyWith c.args.end) c.pass-rest-in-RepeatedLiteral.ensures stops)))
+    (stop-any_copies c.args.end copies others c.if-copies-end.false c.if-not-copies.false (subst (BeginOnlyWith c.args.end) c.skip_steps-rest-in-RepeatedLiteral.ensures stops)))

@@ -19,8 +19,8 @@ use Rattle.urlpattern.proofs.list.UrlPatternList.first_captures.Goals.{After-fil
 hashed : (g : given.Over) (c : After-fill g) → hashes_view c.fill.new.self ≡ hashes_of (address_of (texts_of_url c.args.url.now))
 hashed g c = c.fill.ensures ∙ ap hashes_of c.url_address.ensures
 
-pub listed_captures-requires-clause-hashes : goal.listed_captures-requires-clause-hashes
-listed_captures-requires-clause-hashes g c = hashed g (goal.at.listed_captures-requires-clause-hashes g c).After-fill
+pub captures_from_candidate-requires-clause-hashes : goal.captures_from_candidate-requires-clause-hashes
+captures_from_candidate-requires-clause-hashes g c = hashed g (goal.at.captures_from_candidate-requires-clause-hashes g c).After-fill
 
 pub returns-in-Some-clause-first : goal.returns-in-Some-clause-first
 returns-in-Some-clause-first g c =
@@ -29,12 +29,12 @@ returns-in-Some-clause-first g c =
     let patterns = patterns_view c.args.self.now in
     let index = c.in-Some.index in
     let before = c.in-Some.ensures.passed texts (hashed g (goal.at.returns-in-Some-clause-first g c).After-fill) in
-    first-of_texts answer patterns (Url c.args.url.now) (λ (found : UrlPatternCaptures). pattern_captures_view found) texts c.listed_captures.result refl
-    (IfOk-weaker c.listed_captures.result (λ found. IsFirstMatchFrom answer patterns texts index (first_captures_view found))
+    first-of_texts answer patterns (Url c.args.url.now) (λ (found : UrlPatternCaptures). pattern_captures_view found) texts c.captures_from_candidate.result refl
+    (IfOk-weaker c.captures_from_candidate.result (λ found. IsFirstMatchFrom answer patterns texts index (first_captures_view found))
     (λ found. IsFirstMatchOf answer patterns texts (first_captures_view found))
     (λ found is. first-of_all answer texts patterns (first_captures_view found)
     (first-earlier answer texts patterns 0 index (first_captures_view found) c.in-Some.ensures.within.0 before is))
-    c.listed_captures.ensures.first)
+    c.captures_from_candidate.ensures.first)
 
 pub returns-in-Some-clause-asked : goal.returns-in-Some-clause-asked
 returns-in-Some-clause-asked g c =
@@ -42,9 +42,9 @@ returns-in-Some-clause-asked g c =
     let texts = texts_of_url c.args.url.now in
     let before = c.in-Some.ensures.passed texts (hashed g (goal.at.returns-in-Some-clause-asked g c).After-fill) in
     let patterns = patterns_view c.args.self.now in
-    IfErr-weaker c.listed_captures.result (λ _. CallsEngineBeforeMatchFrom answer patterns texts c.in-Some.index) (λ _. CallsEngineBeforeMatch answer patterns texts)
+    IfErr-weaker c.captures_from_candidate.result (λ _. CallsEngineBeforeMatchFrom answer patterns texts c.in-Some.index) (λ _. CallsEngineBeforeMatch answer patterns texts)
     (λ _ asks. asks-of_all answer texts patterns (asks-earlier answer texts patterns 0 c.in-Some.index c.in-Some.ensures.within.0 before asks))
-    c.listed_captures.ensures.asked
+    c.captures_from_candidate.ensures.asked
 
 pub returns-in-None-clause-first : goal.returns-in-None-clause-first
 returns-in-None-clause-first g c =

@@ -4,7 +4,7 @@ use Rattle.std.specs.Str.{chars}
 use Rattle.urlpattern_matcher.proofs.CompileLemmas.{text-or_asterisk}
 use Rattle.urlpattern_diagnosis.specs.Faults.{IsFaultOf}
 use Rattle.urlpattern_compile.specs.CompilerSteps.{settings_by}
-use Rattle.urlpattern_compile.specs.Diagnoses.{IsPartOfRejected}
+use Rattle.urlpattern_compile.specs.Diagnoses.{IsFaultOfRejectedPart}
 use Rattle.urlpattern_compile.proofs.DiagnosisLemmas.{shows_fault}
 use Rattle.urlpattern_syntax.specs.Options.{OptionsView}
 use Rattle.urlpattern_compile.proofs.compile.Compiler.component_diagnosis.Goals as goal
@@ -20,9 +20,9 @@ returns-clause-shows g c =
     let is = c.in_ok-of_part.ensures in
     let same : point ≡ settings.options.prefix = ap chars c.as_str-point.ensures.value ∙ ap (λ (options : OptionsView). options.prefix) c.in-Ok.ensures.ok in
     let text : chars pattern ≡ settings.text = text-or_asterisk c.pattern_of.result _ _ c.unwrap_or-pattern.ensures refl ∙ c.pattern_of.ensures in
-    let faulty : IsFaultOf (Some component) pattern point error c.match-refused.fault ⊎ IsPartOfRejected pattern error c.match-refused.fault = elim c.match-refused.branch [
-      | in-Some w ↦ inr (subst (IsPartOfRejected pattern error) (sym w.fault-is)
-          (subst (λ found. IfSome found (IsPartOfRejected pattern error)) w.in-Some.is c.in_ok-refused.ensures.part))
+    let faulty : IsFaultOf (Some component) pattern point error c.match-refused.fault ⊎ IsFaultOfRejectedPart pattern error c.match-refused.fault = elim c.match-refused.branch [
+      | in-Some w ↦ inr (subst (IsFaultOfRejectedPart pattern error) (sym w.fault-is)
+          (subst (λ found. IfSome found (IsFaultOfRejectedPart pattern error)) w.in-Some.is c.in_ok-refused.ensures.part))
       | in-None+in_ok-fault-in-None w ↦ inl (subst (IsFaultOf (Some component) pattern point error) (sym w.fault-is) w.in_ok-fault-in-None.ensures.fault)
     ] in
     (pattern, text, shows_fault component c.unwrap_or-text.result.now pattern point settings.options.prefix error c.in_ok-of_part.field-0 c.match-refused.fault is.error is.text same faulty is.fault)

@@ -9,9 +9,9 @@ returns-in_default c =
     let same = one_where_lacking c.args.self.mark c.args.self.may_be_empty (chars c.args.between.now) (chars c.args.text.now) c.in_default.ensures.none in
     (λ t. same.0 (c.is_one.ensures.0 t), λ are. c.is_one.ensures.1 (same.1 are))
 
-pub returns-in_default-without_back : goal.returns-in_default-without_back
-returns-in_default-without_back c =
-    refuted (λ are. none_where_no_front c.args.self.may_be_empty c.in-Some.ensures.cut c.in-Some-split_at_first.ensures.cut c.in_default-without_back.ensures.none (c.loop-front.invariant.same.0 are))
+pub returns-in_default-without_suffix : goal.returns-in_default-without_suffix
+returns-in_default-without_suffix c =
+    refuted (λ are. none_where_no_front c.args.self.may_be_empty c.in-Some.ensures.cut c.in-Some-split_at_first.ensures.cut c.in_default-without_suffix.ensures.none (c.loop-front.invariant.same.0 are))
 
 pub returns-in_default-without_prefix : goal.returns-in_default-without_prefix
 returns-in_default-without_prefix c =
@@ -19,12 +19,12 @@ returns-in_default-without_prefix c =
 
 pub returns-then-not-is_long_enough : goal.returns-then-not-is_long_enough
 returns-then-not-is_long_enough c =
-    refuted (λ are. none_where_short c.args.self.may_be_empty c.in-Some.ensures.cut c.in-Some-split_at_first.ensures.cut _ c.in-Some-without_back.ensures.cut
+    refuted (λ are. none_where_short c.args.self.may_be_empty c.in-Some.ensures.cut c.in-Some-split_at_first.ensures.cut _ c.in-Some-without_suffix.ensures.cut
     (λ may. false≢true (sym c.if-not-is_long_enough.true ∙ c.is_long_enough.ensures.1 may)) (c.loop-front.invariant.same.0 are))
 
 pub loop-front-preserved : goal.loop-front-preserved
 loop-front-preserved c =
-    let same = more_where_cut c.args.self.may_be_empty c.in-Some.ensures.cut c.in-Some-split_at_first.ensures.cut _ _ c.in-Some-without_back.ensures.cut c.in-Some-without_prefix.ensures.cut
+    let same = more_where_cut c.args.self.may_be_empty c.in-Some.ensures.cut c.in-Some-split_at_first.ensures.cut _ _ c.in-Some-without_suffix.ensures.cut c.in-Some-without_prefix.ensures.cut
     (c.is_long_enough.ensures.0 c.if-not-is_long_enough.false) in
     record {
       is_text = search rules;

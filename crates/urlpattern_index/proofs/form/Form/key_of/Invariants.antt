@@ -4,4 +4,4 @@ use Rattle.urlpattern_index.proofs.form.Form.key_of.Given as goal
 
 abbrev pub invariant-loop-index : goal.invariant-loop-index
 invariant-loop-index l =
-    mixed_segments l.key (drop l.index l.segments) (drop l.index l.own) ≡ mixed_segments l.initial.key l.segments l.own
+    mixed_segments l.key (drop l.index l.segments) (drop l.index l.actual) ≡ mixed_segments l.initial.key l.segments l.actual

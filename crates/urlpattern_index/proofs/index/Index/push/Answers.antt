@@ -12,15 +12,15 @@ use Rattle.urlpattern_index.proofs.index.Index.push.Goals as goal
 
 pub invariant_of-self-2 : goal.invariant_of-self-2
 invariant_of-self-2 c = λ q.
-    let more = numbers-push q 0 c.self.inside.keys.items c.place_for-form.result.key in
+    let more = numbers-push q 0 c.self.inside.keys.items c.form_key_for-form.result.key in
     let listed = c.self.invariant q in
     grind (arith, common_steps, nat_tests)
 
 pub returns-clause-appended : goal.returns-clause-appended
 returns-clause-appended c =
     let inside = c.self.inside in
-    let form = c.place_for-form.result.form in
-    let key = c.place_for-form.result.key in
+    let form = c.form_key_for-form.result.form in
+    let key = c.form_key_for-form.result.key in
     let found = c.has_form-is_new.result in
     let number = c.group-group.result in
     let old_forms = groups_view inside.forms in
@@ -36,7 +36,7 @@ returns-clause-appended c =
     omega (arith, within, c.group-group.ensures.group, length-map inside.forms (λ group. map (λ form. form_view form) group.items)) in
     let has = has-form (group old_forms (group_of_form (form_view form))) (form_view form) found
     (λ is. subst (λ (f : List (List FormView)). Contains (group f (group_of_form (form_view form))) (form_view form)) same_forms (c.has_form-is_new.ensures is)) in
-    appends (form_view form) key more (fixed_texts c.args.fixed) c.place_for-form.ensures
+    appends (form_view form) key more (fixed_texts c.args.fixed) c.form_key_for-form.ensures
     c.args.self.now inside.keys.items old_forms c.self.view_is within_view has _ _ keys forms
 
 pub returns-in_err-reserve-2-clause-unchanged : goal.returns-in_err-reserve-2-clause-unchanged

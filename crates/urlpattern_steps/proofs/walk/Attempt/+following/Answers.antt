@@ -67,14 +67,14 @@ match_first_step-returns-in-None n c =
 
 pub match_optional_group-match_in_turn-requires : goal.match_optional_group-match_in_turn-requires
 match_optional_group-match_in_turn-requires n c = (
-  omega (arith, passed_shorter c.args.group.steps c.args.others.now c.pass.result.now c.pass.ensures),
+  omega (arith, passed_shorter c.args.group.steps c.args.others.now c.skip_steps.result.now c.skip_steps.ensures),
   search (rules, places, c.in_ok-match_rest.ensures.whole),
 )
 
 pub match_optional_group-returns : goal.match_optional_group-returns
 match_optional_group-returns n c =
-    maybe_left c.args.ignore_case c.args.self.now c.match_rest.new.self _ c.match_in_turn.new.self c.args.group c.args.others.now c.pass.result.now (chars c.args.text.now) _ c.match_in_turn.result
-    c.if-branch.false c.in_ok-match_rest.ensures c.in_ok-push_unmatched.ensures refl c.pass.ensures c.match_in_turn.ensures
+    maybe_left c.args.ignore_case c.args.self.now c.match_rest.new.self _ c.match_in_turn.new.self c.args.group c.args.others.now c.skip_steps.result.now (chars c.args.text.now) _ c.match_in_turn.result
+    c.if-branch.false c.in_ok-match_rest.ensures c.in_ok-push_unmatched.ensures refl c.skip_steps.ensures c.match_in_turn.ensures
 
 -- ---- the steps in turn
 

@@ -5,7 +5,7 @@ use Rattle.std.specs.Str.{chars}
 use Rattle.urlpattern_syntax.specs.Text.{line_feed}
 use Rattle.urlpattern_steps.specs.declared.step.Step.TheVariants.{GreedyRun}
 use Rattle.urlpattern_steps.specs.Walk.{AreCopiesOf, captured_prefix, in_turn, literal_text, literals, longest, shortest, up_to_first, walk, walk_copies}
-use Rattle.urlpattern_steps.specs.Taken.{Untouched}
+use Rattle.urlpattern_steps.specs.AddedCaptures.{Untouched}
 use Rattle.urlpattern_steps.proofs.AttemptLemmas.{Leaves, Tries}
 use Rattle.urlpattern_steps.proofs.CopyLemmas.{led}
 use Rattle.urlpattern_steps.proofs.EndLemmas.{IsTable}

@@ -9,7 +9,7 @@ use Rattle.urlpattern_init.proofs.InheritanceLemmas.{asked-le, has_value, is_val
 use Rattle.urlpattern_init.specs.Inheritance.{bytes_of, values_of}
 use Rattle.std.specs.declared.alloc.Global.{Global}
 use Rattle.urlpattern_components.specs.declared.eight.ComponentName.{ComponentName}
-use Rattle.urlpattern_init.specs.Processing.{IsValueAfter, bytes_in, component_bytes, given_values, value_in, values_in}
+use Rattle.urlpattern_init.specs.Processing.{IsValueUnlessProtocol, bytes_in, component_bytes, given_values, value_in, values_in}
 use Rattle.urlpattern_init.proofs.init.processing.Processing.values.Goals as goal
 
 pub returns-in_err-values-clause-err : goal.returns-in_err-values-clause-err
@@ -23,7 +23,7 @@ returns-in_err-values-clause-err c =
     let bytes = component_bytes this (bytes_of protocol) name in
     rw (p.1, p.2)
     (reports-through (value_in this protocol name) (values_in this) (bytes_in this) error
-    (λ reason refused. refused-after this.kind.now (given_values this) this.init.now.base_url protocol reason name first.0 first.1 first.3 c.requires (All-weaker (λ other. (value : Option (String Global)) × (ComponentName × IsValueAfter this protocol other (Ok value))) _ (λ other had. has_value this.kind.now (given_values this) this.init.now.base_url protocol c.requires other (option_map text_of had.0) had.1.1.ok) first.0 first.4) refused)
+    (λ reason refused. refused-after this.kind.now (given_values this) this.init.now.base_url protocol reason name first.0 first.1 first.3 c.requires (All-weaker (λ other. (value : Option (String Global)) × (ComponentName × IsValueUnlessProtocol this protocol other (Ok value))) _ (λ other had. has_value this.kind.now (given_values this) this.init.now.base_url protocol c.requires other (option_map text_of had.0) had.1.1.ok) first.0 first.4) refused)
     (reports-more (value_in this protocol name) bytes (bytes_in this) error
     (asked-le this.kind.now (given_values this) this.init.now.base_url name protocol c.requires) first.5.1.err))
 

@@ -2,7 +2,7 @@ use Rattle.std.proofs.Common.{sym, ap, ◌∙◌, subst, arith, map, rules}
 use Rattle.std.specs.Str.{chars, IsUtf8}
 use Rattle.std.proofs.lemmas.Fmt.{IsAscii-decimal}
 use Rattle.std.proofs.lemmas.Str.{chars-IsAscii}
-use Rattle.urlpattern_syntax.specs.Parsing.{IsGiven, IsNameGiven}
+use Rattle.urlpattern_syntax.specs.Parsing.{BeginsAsName, IsNameGiven}
 use Rattle.urlpattern_syntax.specs.Parts.{part_view}
 use Rattle.urlpattern_syntax.specs.Reading.{name_or}
 use Rattle.urlpattern_syntax.specs.RegexpText.{group_names}
@@ -24,6 +24,6 @@ pub returns-in_ok-add_name-in-Some-clause-knows : goal.returns-in_ok-add_name-in
 returns-in_ok-add_name-in-Some-clause-knows c =
     let list = c.args.self.now in
     let name = c.in-Some.name in
-    let given : IsGiven (chars name.now) = subst (λ found. IsNameGiven (option_text found)) c.in-Some.is c.requires.named in
+    let given : BeginsAsName (chars name.now) = subst (λ found. IsNameGiven (option_text found)) c.in-Some.is c.requires.named in
     let utf8 : IsUtf8 name.now = search rules in
     rw c.in-Some.is (knows_name (group_names (map part_view list.parts.items)) list.given_names list.next_numeric_name c.requires.knows c.add_name.new.self name utf8 given c.in_ok-add_name-in-Some.ensures)

@@ -14,32 +14,32 @@ use Rattle.urlpattern_steps.proofs.walk.Attempt.+following.Goals as goal
 
 pub match_copies-match_any_copies-requires : goal.match_copies-match_any_copies-requires
 match_copies-match_any_copies-requires n c = (
-  omega (arith, passed_shorter c.args.copies.text.others c.args.steps.now c.pass-others.result.now c.pass-others.ensures),
+  omega (arith, passed_shorter c.args.copies.text.others c.args.steps.now c.skip_steps-others.result.now c.skip_steps-others.ensures),
   search (rules, places),
 )
 
 pub match_copies-match_any_copies-requires-in-Some : goal.match_copies-match_any_copies-requires-in-Some
 match_copies-match_any_copies-requires-in-Some n c =
     let behind : EndsWith (chars c.args.text.now) (chars c.in-Some.rest.now) = (c.in-Some.ensures.cut.0, c.in-Some.ensures.cut.1) in
-    (omega (arith, passed_shorter c.args.copies.text.others c.args.steps.now c.pass-others.result.now c.pass-others.ensures), search (rules, places, behind))
+    (omega (arith, passed_shorter c.args.copies.text.others c.args.steps.now c.skip_steps-others.result.now c.skip_steps-others.ensures), search (rules, places, behind))
 
 pub match_copies-returns-then-copies : goal.match_copies-returns-then-copies
 match_copies-returns-then-copies n c =
     follows_later c.args.self.now c.args.self.now c.match_any_copies.new.self _ _ c.match_any_copies.result (untouched-same c.args.self.now)
-    (copies_any c.args.ignore_case c.args.copies c.args.steps.now c.first_steps-literal.result.now c.pass-others.result.now (chars c.args.text.now) c.first_steps-literal.ensures c.pass-others.ensures c.if-copies.true)
+    (copies_any c.args.ignore_case c.args.copies c.args.steps.now c.first_steps-literal.result.now c.skip_steps-others.result.now (chars c.args.text.now) c.first_steps-literal.ensures c.skip_steps-others.ensures c.if-copies.true)
     c.match_any_copies.ensures
 
 pub match_copies-returns-in-Some : goal.match_copies-returns-in-Some
 match_copies-returns-in-Some n c =
     follows_later c.args.self.now c.args.self.now c.match_any_copies-in-Some.new.self _ _ c.match_any_copies-in-Some.result (untouched-same c.args.self.now)
-    (copies_some c.args.ignore_case c.args.copies c.args.steps.now c.first_steps-literal.result.now c.pass-others.result.now (chars c.args.text.now) c.first_steps-literal.ensures c.pass-others.ensures c.if-copies.false
+    (copies_some c.args.ignore_case c.args.copies c.args.steps.now c.first_steps-literal.result.now c.skip_steps-others.result.now (chars c.args.text.now) c.first_steps-literal.ensures c.skip_steps-others.ensures c.if-copies.false
     (chars c.in-Some.rest.now) c.in-Some.ensures.cut)
     c.match_any_copies-in-Some.ensures
 
 pub match_copies-returns-in-None : goal.match_copies-returns-in-None
 match_copies-returns-in-None n c =
     follows_missed c.args.self.now c.args.self.now _ (untouched-same c.args.self.now)
-    (copies_none c.args.ignore_case c.args.copies c.args.steps.now c.first_steps-literal.result.now c.pass-others.result.now (chars c.args.text.now) c.first_steps-literal.ensures c.pass-others.ensures c.if-copies.false
+    (copies_none c.args.ignore_case c.args.copies c.args.steps.now c.first_steps-literal.result.now c.skip_steps-others.result.now (chars c.args.text.now) c.first_steps-literal.ensures c.skip_steps-others.ensures c.if-copies.false
     c.in-None.ensures.other)
 
 pub match_any_copies-loop-shorter-init : goal.match_any_copies-loop-shorter-init

@@ -8,7 +8,7 @@ use Rattle.urlpattern_syntax.specs.Text.{line_feed}
 use Rattle.urlpattern_steps.specs.declared.step.Step.TheVariants.{DotStar, GreedyRun}
 use Rattle.urlpattern_steps.specs.FailedStates.{EndsWith, HasEnded}
 use Rattle.urlpattern_steps.specs.Walk.{Continuation, captured_prefix, longest, shortest, up_to_first, walk}
-use Rattle.urlpattern_steps.specs.Taken.{Untouched}
+use Rattle.urlpattern_steps.specs.AddedCaptures.{Untouched}
 use Rattle.urlpattern_steps.proofs.AttemptLemmas.{cut_sooner, follows_later, follows_missed, follows_none, follows_taken, follows_untouched, untouched-same}
 use Rattle.urlpattern_steps.proofs.FallingLemmas.{falling, falling-found, front_shrinks}
 use Rattle.urlpattern_steps.proofs.FollowLemmas.{bytes_join, last_passed, longest_dead, longest_missed, longest_taken, run_ended, run_passed, shortest_grown}
