@@ -17,7 +17,7 @@
 #include <stdlib.h>
 #include <string.h>
 
-enum { WORDS = 8, ROOM = 1 << 20, EDGE = 8, COMPONENTS = 8, SPANS = 1 << 12, NO_STATUS = 255 };
+enum { WORDS = 8, ROOM = 1 << 20, EDGE = 8, COMPONENTS = URLPATTERN_NO_COMPONENT, SPANS = 1 << 12, NO_STATUS = 255 };
 enum { BEGIN = 1, MIDDLE = 2, END = 3, NUMBERS = 5 };
 
 typedef struct {
@@ -342,8 +342,9 @@ static uint32_t link_with(const char *groups, size_t length, urlpattern_given pa
 /* Whether each part of the text of a link has to be UTF-8, and the text as a whole need not be. */
 static void ask_parts(void) {
     static const char pattern[] = "https://example.com/:id", groups[] = "id\xc3\xa9\xff";
-    static const urlpattern_given whole = { 5, 0, 2, 2, 2 }, cut = { 5, 0, 2, 2, 1 };
-    static const urlpattern_given bad = { 5, 0, 2, 4, 1 };
+    static const urlpattern_given whole = { URLPATTERN_PATHNAME, 0, 2, 2, 2 };
+    static const urlpattern_given cut = { URLPATTERN_PATHNAME, 0, 2, 2, 1 };
+    static const urlpattern_given bad = { URLPATTERN_PATHNAME, 0, 2, 4, 1 };
     static char url[] = "https://example.com/%C3%A9";
     text wanted = { url, sizeof url - 1 };
     size_t needed = 0, length = sizeof groups - 1;

@@ -71,7 +71,7 @@ def asked(module):
         ),
         "reason of link": (
             lambda n: said(lambda: dated.link(given(n))),
-            lambda n: f"the group `pathname.{missing(n)}` is missing",
+            lambda n: f"the group `pathname.{missing(n)}` is missing: give a text for it",
         ),
         "component": (lambda n: getattr(pattern, name_of(n)), lambda n: TEXTS[name_of(n)]),
         "has_regexp_groups": (lambda n: dated.has_regexp_groups, lambda n: True),

@@ -57,8 +57,9 @@ input-none pattern (Some texts) name members (captures, answers, is) =
     subst AreWithoutFloat (sym is) (refl, captured-none (pattern name).group_name_list captures)
 
 component-none : (explained : ExplainedView) (texts : Option Texts) (name : ComponentName) (tree : Data) → IsExplainedTree explained texts name tree → has_float tree ≡ false
-component-none explained texts name tree (place, members, there, are, is) =
-    ap has_float is ∙ all_with-none no_members (pattern_members explained name place ++ members)
+component-none explained texts name tree (members, are, is) =
+    let place = at explained.places name in
+    ap has_float is ∙ all_with-none no_members (pattern_members explained name ++ members)
     (refl, (refl, both-none (place_members place) members (place-none place) (input-none explained.pattern texts name members are))) refl
 
 -- ---- all components

@@ -3,7 +3,7 @@
 use Rattle.std.specs.Prelude.{◌≡◌, ◌==◌, ℕ, List, [], ◌++◌, codes, length, Option, None, Some, if◌then◌else◌}
 use Rattle.std.specs.List.{flat_map}
 use Rattle.urlpat_explain.specs.Explained.{ExplainedView}
-use Rattle.urlpat_explain.specs.ComponentPlaces.{ArePlaceCells}
+use Rattle.urlpat_explain.specs.ComponentPlaces.{place_cells}
 use Rattle.urlpat_explain.specs.declared.origin_notes.TheConstants.{DEFAULT_PORT, EMPTY_PORT, INHERITED, LEFT_OUT, PLACES}
 use Rattle.urlpattern_components.specs.Eight.{Values, at, components, name_text}
 use Rattle.urlpattern_components.specs.declared.eight.ComponentName.{ComponentName}
@@ -49,14 +49,9 @@ value_notes given values =
     ++ names_line LEFT_OUT.now (left_out_names values components)
     ++ port_note given.port values.port
 
--- `places` are the names of the components whose texts have a place in the constructor string, each
--- with that place.
-abbrev pub ArePlaces : ExplainedView → (places : List ℕ) → Type 0
-ArePlaces explained places = ArePlaceCells explained.string explained.given places
-
--- `notes` are all notes: the places of component texts, what is inherited, what is left out, and
--- what the port is. A note that would name nothing is left out.
-abbrev pub AreNotes : ExplainedView → (notes : List ℕ) → Type 0
-AreNotes explained notes =
-    (places : List ℕ) × ArePlaces explained places
-    × (notes ≡ names_line PLACES.now places ++ value_notes explained.given explained.values)
+-- All notes: the places of component texts, what is inherited, what is left out, and what the port
+-- is. A note that would name nothing is left out.
+abbrev pub all_notes : ExplainedView → List ℕ
+all_notes explained =
+    names_line PLACES.now (place_cells explained.places components)
+    ++ value_notes explained.given explained.values

@@ -79,9 +79,8 @@ fn component_tree(
     ensures { IfOk result (λ tree.
         IsExplainedTree (explained_view explained.now) (lent_texts texts.entry) name (view tree)) }
 {
-    let place = explained.place(name);
     let mut members = Map::new(alloc);
-    put_pattern(&mut members, alloc, explained, name, place)?;
+    put_pattern(&mut members, alloc, explained, name)?;
     let Some(texts) = texts else {
         return Ok(Value::Object(members));
     };
@@ -101,15 +100,14 @@ fn put_pattern(
     alloc: Global,
     explained: &Explained<'_>,
     name: ComponentName,
-    place: Option<Span>,
 ) -> Result<(), AllocError>
     ensures { OnOk result (GainAll members.old.entries members.new.entries
-        (pattern_members (explained_view explained.now) name place)) }
+        (pattern_members (explained_view explained.now) name)) }
 {
     let pattern = &explained.pattern.get(name).pattern_string;
     put_text(members, alloc, "pattern", pattern)?;
     put_text(members, alloc, "origin", explained.origin(name))?;
-    put_place(members, alloc, place)?;
+    put_place(members, alloc, explained.place(name))?;
     Ok(())
 }
 

@@ -2,10 +2,10 @@
 //! the base URL, what it leaves out, and what its port is.
 
 ghost use Rattle.std.specs.Prelude.{◌≡◌, string_bytes, IfOk, OnOk};
-ghost use Rattle.urlpat_matching.specs.GroupLines.{AppendsLines};
 ghost use Rattle.urlpat_explain.specs.Explained.{explained_view, AppendsBytes};
-ghost use Rattle.urlpat_explain.specs.OriginNotes.{AreNotes, ArePlaces, inherited_name, left_out_name, names_line, port_note, value_notes};
-ghost use Rattle.urlpat_explain.specs.ComponentPlaces.{place_cell};
+ghost use Rattle.urlpat_explain.specs.OriginNotes.{all_notes, inherited_name, left_out_name, names_line, port_note, value_notes};
+ghost use Rattle.urlpat_explain.specs.ComponentPlaces.{place_cell, place_cells};
+ghost use Rattle.urlpattern_components.specs.Eight.{components};
 ghost use Rattle.urlpattern_init.specs.Inheritance.{values_view};
 ghost use Rattle.urlpattern_syntax.specs.Text.{option_text};
 
@@ -38,7 +38,7 @@ pub fn push_notes(
     explained: &Explained<'_>,
 ) -> Result<(), AllocError>
     ensures { OnOk result
-        (AppendsLines (AreNotes (explained_view explained.now)) text.old text.new) }
+        (AppendsBytes text.old text.new (all_notes (explained_view explained.now))) }
 {
     let places = places_of(alloc, explained)?;
     let notes = value_notes(alloc, explained.init, explained.values)?;
@@ -50,7 +50,8 @@ pub fn push_notes(
 /// The name and the place of each component whose text has a place in the constructor string, with
 /// a space before each.
 fn places_of(alloc: Global, explained: &Explained<'_>) -> Result<String, AllocError>
-    ensures { IfOk result (λ cells. ArePlaces (explained_view explained.now) (string_bytes cells)) }
+    ensures { IfOk result (λ cells.
+        string_bytes cells ≡ place_cells (explained_view explained.now).places components) }
 {
     let mut cells = String::new(alloc);
     for name in ComponentName::all() {

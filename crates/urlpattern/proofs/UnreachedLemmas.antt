@@ -1,10 +1,11 @@
 -- Lemmas on the parts of patterns.
 use Rattle.std.proofs.Common.{◌≡◌, ◌∙◌, ◌<◌, ◌+◌, ℕ, Bor, List, [], ◌∷◌, ◌++◌, ap, get_or, length, map, subst, sym, take}
 use Rattle.std.proofs.lemmas.List.{get_or-map, length-map, map_more, map_push}
-use Rattle.std.proofs.lemmas.List.Elements.{Contains-get_or}
+use Rattle.std.proofs.lemmas.List.Elements.{All-more, Contains-get_or}
 use Rattle.std.specs.Prelude.{Contains, Option, None, Some}
 use Rattle.urlpattern.specs.Unreached.{HaveAllParts}
-use Rattle.urlpattern_pattern.specs.UrlPatterns.{UrlPattern}
+use Rattle.urlpattern_matcher.specs.declared.regexp.RegExp.{Ghosts as Engine}
+use Rattle.urlpattern_pattern.specs.UrlPatterns.{HasOwnParts, UrlPattern}
 use Rattle.urlpattern_compare.specs.declared.pattern_parts.PatternParts.{PatternParts}
 
 -- The parts of a pattern.
@@ -15,17 +16,19 @@ parts_of pattern = pattern.parts
 abbrev pub all_now : List (Bor PatternParts) → List PatternParts
 all_now parts = map (λ (them : Bor PatternParts). them.now) parts
 
-module _ {E : Type 0} (patterns : List (UrlPattern E)) (i : ℕ) (pattern : UrlPattern E) (within : i < length patterns) (is : pattern ≡ get_or patterns i pattern) where
+module _ {E : Type 0} (engine : Engine E) (patterns : List (UrlPattern E)) (i : ℕ) (pattern : UrlPattern E) (within : i < length patterns) (is : pattern ≡ get_or patterns i pattern) where
   -- The parts of a pattern are appended.
-  pub parts_more : (old new : List (Bor PatternParts)) (parts : Bor PatternParts) → pattern.parts ≡ Some parts.now → new ≡ old ++ parts ∷ []
-      → HaveAllParts (take i patterns) (all_now old) → HaveAllParts (take (i + 1) patterns) (all_now new)
-  parts_more old new parts has grown have =
+  pub parts_more : (old new : List (Bor PatternParts)) (parts : Bor PatternParts) → pattern.parts ≡ Some parts.now → HasOwnParts engine pattern → new ≡ old ++ parts ∷ []
+      → HaveAllParts engine (take i patterns) (all_now old) → HaveAllParts engine (take (i + 1) patterns) (all_now new)
+  parts_more old new parts has own grown (have, made) =
       let seen = map parts_of (take i patterns) in
       let one_more : map parts_of (take (i + 1) patterns) ≡ seen ++ parts_of (get_or patterns i pattern) ∷ [] = map_more parts_of patterns i pattern within in
       let last : parts_of (get_or patterns i pattern) ≡ Some parts.now = ap parts_of (sym is) ∙ has in
       let pushed : all_now new ≡ all_now old ++ parts.now ∷ [] = ap all_now grown ∙ map_push (λ (them : Bor PatternParts). them.now) old parts in
-      let all : map Some (all_now new) ≡ map Some (all_now old) ++ Some parts.now ∷ [] = ap (map Some) pushed ∙ map_push Some (all_now old) parts.now in
-      one_more ∙ ap (λ one. seen ++ one ∷ []) last ∙ ap (λ them. them ++ Some parts.now ∷ []) have ∙ sym all
+      let all : map Some (all_now new) ≡ map Some (all_now old) ++ Some parts.now ∷ [] = ap (map Some) pushed ∙ map_push Some (all_now old) parts.now in (
+        one_more ∙ ap (λ one. seen ++ one ∷ []) last ∙ ap (λ them. them ++ Some parts.now ∷ []) have ∙ sym all,
+        All-more (HasOwnParts engine) patterns i pattern within made (subst (HasOwnParts engine) is own),
+      )
 
   -- A pattern without parts is an element.
   pub has_none : pattern.parts ≡ None → Contains (map parts_of patterns) None

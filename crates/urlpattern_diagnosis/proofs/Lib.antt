@@ -1,3 +1,4 @@
 mod BracketLemmas
 pub mod NameLemmas
 mod TokenFaultLemmas
+pub mod PlaceExamples

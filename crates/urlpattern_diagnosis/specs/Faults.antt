@@ -1,10 +1,8 @@
--- Where a text is at fault: the pattern of a component, or a text that is rejected as a whole.
--- Texts are their bytes, but a prefix code point, and what is left of a text where no token begins,
--- are characters. The pieces of a text are the characters, placeholders and groups as which a
--- parser reads its tokens, up to the first token that begins no piece. A component is None for a
--- text that is not the pattern of a certain component.
-use Rattle.std.specs.Prelude.{◌≡◌, ℕ, ◌+◌, ◌⊎◌, ◌&&◌, ◌==◌, Bool, true, false, List, [], ◌∷◌, length, map, filter, take, drop, min, bytes_eq, IsTrue, Option, Some, None, IsSomeAnd, IfSome, MatchBool, string_bytes, ◌++◌, ◌||◌, MatchOption, codes, if◌then◌else◌, nat_eq}
-use Rattle.std.specs.List.{list_any, starts_with}
+-- Where the pattern text of a component is at fault. Texts are their bytes. The pieces of a text
+-- are the characters, placeholders and groups as which a parser reads its tokens, up to the first
+-- token that begins no piece.
+use Rattle.std.specs.Prelude.{◌≡◌, ℕ, ◌+◌, ◌⊎◌, ◌&&◌, ◌==◌, Bool, true, false, List, [], ◌∷◌, length, map, filter, take, drop, min, bytes_eq, Option, is_some, Some, None, IsSomeAnd, IfSome, MatchBool, string_bytes, ◌++◌, ◌||◌, MatchOption, codes, nat_eq, option_map}
+use Rattle.std.specs.List.{find, list_any, starts_with}
 use Rattle.std.specs.Str.{chars}
 use Rattle.urlpattern_diagnosis.specs.Spans.{IsSpanAt, IsSpanIn, whole_span}
 use Rattle.urlpattern_components.specs.declared.eight.ComponentName.{ComponentName}
@@ -62,26 +60,25 @@ IsWholeFault bytes fault = IsSingleSpan (λ span. span ≡ whole_span bytes) fau
 abbrev pub begins : (bytes front : List ℕ) → Bool
 begins bytes front = starts_with nat_eq bytes front
 
--- The length of the special scheme at the beginning of a text, or of the pattern `http{s}?`, if two
--- slashes follow: the place of the missing colon. None if the text does not begin so.
-abbrev pub missing_colon : (bytes : List ℕ) → Option ℕ
-missing_colon bytes =
-    if begins bytes (codes "http{s}?//") then Some 8
-    else if begins bytes (codes "https//") then Some 5
-    else if begins bytes (codes "http//") || begins bytes (codes "file//") then Some 4
-    else if begins bytes (codes "wss//") || begins bytes (codes "ftp//") then Some 3
-    else if begins bytes (codes "ws//") then Some 2
-    else None
+-- The special schemes, and a pattern of two of them.
+abbrev pub schemes : List (List ℕ)
+schemes =
+    codes "http{s}?" ∷ codes "https" ∷ codes "http" ∷ codes "file" ∷ codes "wss" ∷ codes "ftp"
+    ∷ codes "ws" ∷ []
 
--- The length of the special scheme at the beginning of a text, if `;` and two slashes follow: the
--- place of the `;`. None if the text does not begin so.
+-- The length of the scheme with which a text begins, if `sign` is there in place of the colon
+-- between the scheme and two slashes. None if the text does not begin so.
+abbrev pub length_before : (sign bytes : List ℕ) → Option ℕ
+length_before sign bytes =
+    option_map length (find (λ scheme. begins bytes (scheme ++ sign ++ codes "//")) schemes)
+
+-- The place of the colon that is missing after a special scheme.
+abbrev pub missing_colon : (bytes : List ℕ) → Option ℕ
+missing_colon bytes = length_before [] bytes
+
+-- The place of the `;` that is in place of the colon after a special scheme.
 abbrev pub mistyped_colon : (bytes : List ℕ) → Option ℕ
-mistyped_colon bytes =
-    if begins bytes (codes "https;//") then Some 5
-    else if begins bytes (codes "http;//") || begins bytes (codes "file;//") then Some 4
-    else if begins bytes (codes "wss;//") || begins bytes (codes "ftp;//") then Some 3
-    else if begins bytes (codes "ws;//") then Some 2
-    else None
+mistyped_colon bytes = length_before (codes ";") bytes
 
 -- The fault is the `;` in place of the colon after a special scheme, or else the whole text.
 abbrev pub IsSignFault : (bytes : List ℕ) → Fault → Type 0
@@ -96,15 +93,13 @@ IsUrlFault bytes fault =
     MatchOption (missing_colon bytes) (IsSignFault bytes fault) (λ place.
     IsSingleSpan (IsSpanAt bytes place 0) fault)
 
+-- Whether the colon after a special scheme is missing or mistyped.
+abbrev pub lacks_colon : (bytes : List ℕ) → Bool
+lacks_colon bytes = is_some (missing_colon bytes) || is_some (mistyped_colon bytes)
+
 -- Whether a character is one of a path, a search or a hash that no protocol has: `/`, `=` or `#`.
 abbrev pub is_path_sign : ℕ → Bool
 is_path_sign c = is_among (codes "/#=") c
-
--- `before`, the text before a colon, has a character of a path, a search or a hash, and so is not a
--- protocol; the fault is that colon, or the backslash that escapes it.
-abbrev pub IsColonFault : (bytes before : List ℕ) → Fault → Type 0
-IsColonFault bytes before fault =
-    IsTrue (list_any is_path_sign before) × IsSingleSpan (IsSpanAt bytes (length before) 1) fault
 
 -- ---- where no token begins
 

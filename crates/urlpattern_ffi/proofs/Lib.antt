@@ -3,3 +3,4 @@ pub mod CoveringLemmas
 pub mod ReportedInitLemmas
 pub mod WrittenLinkLemmas
 pub mod SpanLemmas
+pub mod ResultDepth

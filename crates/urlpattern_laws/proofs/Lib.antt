@@ -1,10 +1,13 @@
 pub mod MatchExamples
 pub mod OutcomesOne
-pub mod InitOutcomesExist
+pub mod InitValues
 pub mod FoldedTreeLaws
 pub mod ChangedParts
 pub mod FoldedMatchers
 pub mod FoldedWays
+pub mod CanonicalAgain
+pub mod InputTexts
+pub mod FoldedPatterns
 pub mod EcmaMatchers
 pub mod RegexGroups
 pub mod RequestedCaptures

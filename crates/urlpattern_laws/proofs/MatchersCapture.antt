@@ -7,8 +7,8 @@ use Rattle.urlpattern_matcher.specs.Components.{IsEngineOf}
 use Rattle.urlpattern_matcher.specs.FirstWays.{Keeping, Acceptance}
 use Rattle.urlpattern_matcher.specs.declared.regexp.RegExp.{Ghosts as Engine}
 use Rattle.urlpattern_laws.proofs.Catching.{Then}
-use Rattle.urlpattern_laws.proofs.MatchersTaken.{HasRoomForFewer, TookAsKept, all_plain, asked, engine_taken, fast_plain, fast_taken, matcher_asks, middle_all}
-use Rattle.urlpattern_laws.specs.LawsOfTexts.{IsCapturedByParts, IsSomeIfMatched, MatchersCapture, PartsCaptureMeanings, RegexpCondition, ValuesCapture}
+use Rattle.urlpattern_laws.proofs.MatchersTaken.{TookAsKept, all_plain, asked, engine_taken, fast_plain, fast_taken, matcher_asks, middle_all}
+use Rattle.urlpattern_laws.specs.LawsOfTexts.{IsCapturedByParts, IsSomeIfMatched, MatchersCapture, PartsCaptureMeanings, ValuesCapture}
 use Rattle.urlpattern_laws.specs.PartCaptures.{PartCaptures, PartsCapture}
 use Rattle.urlpattern_laws.specs.MatchedPartTexts.{CapturesNothing, PartsMatch}
 use Rattle.urlpattern_meaning.proofs.MatcherMeaning.{HasEnds}
@@ -123,13 +123,13 @@ fast_captured answer options parts matcher text None plain same never = λ takes
 
 -- If the values of an engine return what the parts capture, the matchers with accepted expressions
 -- do too.
-pub matchers_capture : {E : Type 0} (engine : Engine E) (Keeps : Keeping) (Fits : RegexpCondition) (Accepted : Acceptance E) → ValuesCapture engine Keeps Fits → HasRoomForFewer Fits → TookAsKept Accepted Keeps
-    → MatchersCapture engine Fits Accepted
-matchers_capture engine Keeps Fits Accepted values shorter took options flags parts matcher made silent text result no_feed fine answers =
+pub matchers_capture : {E : Type 0} (engine : Engine E) (Keeps : Keeping) (Accepted : Acceptance E) → ValuesCapture engine Keeps → TookAsKept Accepted Keeps
+    → MatchersCapture engine Accepted
+matchers_capture engine Keeps Accepted values took options flags parts matcher made silent text result no_feed fine answers =
     let m = made.is_made in
     let silent_middle = middle_all (λ part. CapturesNothing part.kind part.value) parts m.front m.middle m.back m.are_stripped silent in
-    matcher_asks engine Keeps Fits Accepted shorter took options flags parts matcher made (IsCapturedByParts options parts text result)
+    matcher_asks engine Keeps Accepted took options flags parts matcher made (IsCapturedByParts options parts text result)
     (λ is. fast_captured engine.answer options parts matcher text result (all_plain parts m.front m.middle m.back m.are_stripped (fast_plain (IsEngineOf engine false flags) options (end_text m.front) m.middle (end_text m.back) matcher m.is_made is))
     (λ captures. fast_means engine.answer (IsEngineOf engine false flags) options parts matcher text captures m made.case_kept no_feed is) answers)
     (λ value e keeps ends of. engine_captured engine.answer options parts m.front m.middle m.back matcher value text result m.are_stripped ends e made.case_kept
-    (values options flags m.middle value keeps of.alone silent_middle of.fits of.is_made) fine answers)
+    (values options flags m.middle value keeps of.alone silent_middle of.is_made) fine answers)

@@ -6,9 +6,8 @@ use Rattle.urlpattern_matcher.specs.Components.{IsEngineOf}
 use Rattle.urlpattern_matcher.specs.FirstWays.{Keeping, Acceptance}
 use Rattle.urlpattern_matcher.specs.declared.regexp.RegExp.{Ghosts as Engine}
 use Rattle.urlpattern_laws.proofs.FirstOfTrees.{first_of_tree}
-use Rattle.urlpattern_laws.proofs.MatchersTaken.{HasRoomForFewer, TookAsKept, all_plain, answered, asked, fast_plain, matcher_asks, middle_all}
+use Rattle.urlpattern_laws.proofs.MatchersTaken.{TookAsKept, all_plain, answered, asked, fast_plain, matcher_asks, middle_all}
 use Rattle.urlpattern_laws.proofs.StrippedWays.{between_ends, first_peeled}
-use Rattle.urlpattern_laws.specs.LawsOfTexts.{RegexpCondition}
 use Rattle.urlpattern_laws.specs.LawsOfWays.{MatchersReturnFirstOfParts, ValuesReturnFirstOfParts}
 use Rattle.urlpattern_laws.specs.MatchedPartTexts.{CapturesNothing}
 use Rattle.urlpattern_laws.specs.PartWays.{parts_first_way}
@@ -50,14 +49,14 @@ fast_middle answer options parts (RegExp value) is = absurd is
 
 -- If the values of an engine return the first way of the parts, the matchers with accepted
 -- expressions do too.
-pub matchers_first : {E : Type 0} (engine : Engine E) (Keeps : Keeping) (Fits : RegexpCondition) (Accepted : Acceptance E) → ValuesReturnFirstOfParts engine Keeps Fits → HasRoomForFewer Fits → TookAsKept Accepted Keeps
-    → MatchersReturnFirstOfParts engine Fits Accepted
-matchers_first engine Keeps Fits Accepted values shorter took options flags parts matcher made silent text result no_feed fine answers =
+pub matchers_first : {E : Type 0} (engine : Engine E) (Keeps : Keeping) (Accepted : Acceptance E) → ValuesReturnFirstOfParts engine Keeps → TookAsKept Accepted Keeps
+    → MatchersReturnFirstOfParts engine Accepted
+matchers_first engine Keeps Accepted values took options flags parts matcher made silent text result no_feed fine answers =
     let m = made.is_made in
     let silent_middle = middle_all (λ part. CapturesNothing part.kind part.value) parts m.front m.middle m.back m.are_stripped silent in
-    matcher_asks engine Keeps Fits Accepted shorter took options flags parts matcher made (result ≡ parts_first_way options parts text) fast
+    matcher_asks engine Keeps Accepted took options flags parts matcher made (result ≡ parts_first_way options parts text) fast
     (λ value e keeps ends of. engine_first engine.answer options parts m.front m.middle m.back matcher value text result m.are_stripped ends e made.case_kept
-    (values options flags m.middle value keeps of.alone silent_middle of.fits of.is_made) fine answers)
+    (values options flags m.middle value keeps of.alone silent_middle of.is_made) fine answers)
   where
     -- Without an engine no part is custom, and the first way is that of the tree.
     fast : IsFast matcher.inner → result ≡ parts_first_way options parts text

@@ -201,7 +201,7 @@ init_refusal_one engine init asked values error other are_values decides of too 
 -- ---- engines that decide
 
 -- A component whose pattern text has a meaning matches by the text.
-answers_by : {E : Type 0} (engine : Engine E) (settings : ParseSettings) (compiled : ComponentView E) → MakesFirstWays engine → HasMeaning settings → IsComponentCompiled engine settings compiled → ReturnsByText engine.answer settings compiled
+pub answers_by : {E : Type 0} (engine : Engine E) (settings : ParseSettings) (compiled : ComponentView E) → MakesFirstWays engine → HasMeaning settings → IsComponentCompiled engine settings compiled → ReturnsByText engine.answer settings compiled
 answers_by engine settings compiled firsts has is_compiled =
     component_by engine settings compiled is_compiled has (λ parts reads is_component generated. firsts settings.options (engine_flags settings.options) parts compiled.matcher (record {
       is_made = is_component.has_matcher;

@@ -1,4 +1,6 @@
+pub mod CanonicalLaws
 pub mod Folded
+pub mod FoldedPatterns
 pub mod LinkLaws
 pub mod MatchLinks
 pub mod Outcomes

@@ -6,11 +6,14 @@
 ghost use Rattle.std.specs.Prelude.{⊤, ℕ, List, Option};
 ghost use Rattle.urlpattern_pattern.specs.ByText.{MakesFirstWays};
 ghost use Rattle.urlpattern_engine.specs.EcmaRegexps.{KeepsRegex, ecma_engine};
-ghost use Rattle.urlpattern_laws.specs.PatternLaws.{ResultsMeanTheParts, FirstResultsAreOne, MatchesAreOne, RegexMeetsPremises, RegexResultsAreFirst, TestsAgree, TestsAreOne};
+ghost use Rattle.urlpattern_laws.specs.PatternLaws.{EqualTextsHaveEqualResults, EqualTextsHaveEqualTests, ResultsMeanTheParts, FirstResultsAreOne, MatchesAreOne, RegexMeetsPremises, RegexResultsAreFirst, TestsAgree, TestsAreOne};
+ghost use Rattle.urlpattern_canonical.specs.Canonical.{canonical_hash, canonical_password, canonical_search, canonical_username};
+ghost use Rattle.urlpattern_laws.specs.CanonicalLaws.{AreCanonicalAgain};
 ghost use Rattle.urlpattern_laws.specs.Folded.{FoldedFirstsAreReturned, FoldedWaysAreReturned};
+ghost use Rattle.urlpattern_laws.specs.FoldedPatterns.{FindingsAreByCase, FindingsByCaseAreOne, InputFindingsAreByCase};
 ghost use Rattle.urlpattern_laws.specs.LinkLaws.{LinksAreOne, LinksDiffer, LinksOfCapturesAreTheTexts};
-ghost use Rattle.urlpattern_laws.specs.MatchLinks.{GroupsOfCapturesAreGiven, GroupsOfMatchesDiffer, GroupsOfResultsAreGiven, LinksOfMatchesAreTheTexts};
-ghost use Rattle.urlpattern_laws.specs.Outcomes.{DecidesGenerated, FirstWaysDecide, InitRejectionsAreOne, InitsHaveOutcomes, InitsHaveValues, PatternsExcludeRejections};
+ghost use Rattle.urlpattern_laws.specs.MatchLinks.{GroupsOfCapturesAreGiven, GroupsOfMatchesDiffer, GroupsOfResultsAreGiven, LinksOfCompiledMatchesAreTheTexts, LinksOfMatchesAreTheTexts};
+ghost use Rattle.urlpattern_laws.specs.Outcomes.{DecidesGenerated, FirstWaysDecide, InitRejectionsAreOne, InitsHaveValues, PatternsExcludeRejections};
 ghost use Rattle.urlpattern_pattern.specs.ByTextLaws.{CompiledHaveMeaning, FindingsAreByText, FindingsAreOne, InputFindingsAreByText, PatternsReturnAlike, PatternsReturnByText, ReadingsAsAreOne, AcceptedPatternsReturnByText};
 ghost use Rattle.urlpattern_matcher.specs.FirstWays.{EachReturnsFirst};
 ghost use Rattle.urlpattern_matcher.specs.Regexes.{regex_engine};
@@ -74,6 +77,26 @@ pub fn tests_agree_with_matches<E>()
     ensures not_both { (answer : E → List ℕ → Option Captures) → TestsAreOne answer }
 {}
 
+/// What is found in an input depends on the input by its eight texts alone. For inputs with equal
+/// texts, such as an init and the URL with its texts, any two results are equal, and any two tests.
+///
+/// Premise: no text of the inputs is longer than `url` is certain to accept. A URL meets it.
+pub fn equal_texts_are_matched_alike<E>()
+    ensures results { (answer : E → List ℕ → Option Captures) → EqualTextsHaveEqualResults answer }
+    ensures tests { (answer : E → List ℕ → Option Captures) → EqualTextsHaveEqualTests answer }
+{}
+
+/// A canonical user name, password, search or hash is its own canonical form.
+///
+/// Nothing is said of protocols, hostnames, ports and pathnames. Of an init, `?` at the start of
+/// the search and `#` at the start of the hash are removed before the value is made canonical.
+pub fn canonical_values_are_canonical_again()
+    ensures username { AreCanonicalAgain canonical_username }
+    ensures password { AreCanonicalAgain canonical_password }
+    ensures search { AreCanonicalAgain canonical_search }
+    ensures hash { AreCanonicalAgain canonical_hash }
+{}
+
 /// A pattern compiled by `regex::Regex` meets the premise of `groups_mean_the_parts` on a
 /// component's engine, if the engine accepted its regular expression. In a match the groups of the
 /// component are the names of its parts with the captures of the first way, the first in which a
@@ -132,11 +155,9 @@ pub fn patterns_by_these_engines_answer_by_their_texts()
     ensures ecma_regexp { AcceptedPatternsReturnByText ecma_engine (AcceptedText KeepsRegex) }
 {}
 
-/// An init has a single outcome: it is compiled to a pattern, or it is rejected with a single
-/// error. The outcome exists if `url` has a result for each text that it is called with, and the
-/// engine makes a value of each regular expression or may reject it. Processing an init as a
-/// pattern rejects no value. Two errors are left aside: out of memory, and a text too long for
-/// `url`.
+/// An init has at most one outcome: it is compiled to a pattern, or it is rejected with a single
+/// error, and never both. Processing an init as a pattern rejects no value. Two errors are left
+/// aside: out of memory, and a text too long for `url`.
 ///
 /// Premises: the engine does not both accept and reject a regular expression of a component's
 /// parts, or of some of them in a row; and any two matchers that it makes for the protocol accept a
@@ -147,7 +168,6 @@ pub fn inits_have_one_outcome<R: RegExp>()
     ensures not_both { PatternsExcludeRejections R.RegExp }
     ensures refusals { InitRejectionsAreOne R.RegExp }
     ensures values { InitsHaveValues }
-    ensures exist { InitsHaveOutcomes R.RegExp }
     ensures by_first_ways { FirstWaysDecide R.RegExp }
     ensures pattern_regexp { DecidesGenerated pattern_engine }
 {}
@@ -171,6 +191,21 @@ pub fn folded_ways_are_answered<R: RegExp>()
 /// In lower case, the captures are those of the first way.
 pub fn first_ways_are_answered_where_case_is_ignored()
     ensures { FoldedFirstsAreReturned pattern_engine }
+{}
+
+/// A compiled pattern over `PatternRegexp` matches by its pattern texts, also in components that
+/// ignore case. Each component without a custom regular expression has the names of the parts of
+/// its pattern text, and for a text without line feeds the captures of the first way in which the
+/// parts match it: as `patterns_answer_by_their_texts` says if case is kept, and as
+/// `first_ways_are_answered_where_case_is_ignored` says if it is ignored. There is no match only if
+/// the parts of a component do not match its text.
+///
+/// What is found is determined by the pattern texts: exactly in a component that keeps case, and in
+/// lower case in one that ignores it.
+pub fn patterns_answer_by_their_texts_where_case_is_ignored()
+    ensures found { FindingsAreByCase pattern_engine }
+    ensures executed { InputFindingsAreByCase pattern_engine }
+    ensures one { FindingsByCaseAreOne }
 {}
 
 /// A pattern and groups have at most one link. Two links of a pattern whose groups are to capture
@@ -208,6 +243,11 @@ pub fn groups_of_matches_are_given<R: RegExp>()
 /// Premises, for each component: its names are those of its parts and differ; if its matcher
 /// returns these captures for its text, the parts mean the text with them; no fixed text has a
 /// modifier; and each captured text is its own canonical form.
+///
+/// A compiled pattern over `PatternRegexp` or `regex::Regex` meets the first two in a component
+/// without a custom part whose case is kept, for a text without line feeds.
 pub fn links_of_matches_are_the_texts<R: RegExp>()
-    ensures { LinksOfMatchesAreTheTexts R.answer }
+    ensures matches { LinksOfMatchesAreTheTexts R.answer }
+    ensures pattern_regexp { LinksOfCompiledMatchesAreTheTexts pattern_engine }
+    ensures regex { LinksOfCompiledMatchesAreTheTexts regex_engine }
 {}

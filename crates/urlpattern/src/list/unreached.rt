@@ -1,6 +1,8 @@
 //! The patterns of a list that an earlier one is known to cover.
 ghost use Rattle.std.specs.Prelude.{map, IfErr, IfOk};
-ghost use Rattle.urlpattern.specs.Unreached.{AreUnreached, HaveAllParts, LacksParts};
+ghost use Rattle.urlpattern.specs.Unreached.{AreUnreached, HaveAllParts, LacksParts, UnreachedAreNeverFirst};
+ghost use Rattle.urlpattern_engine.specs.PatternRegexps.{pattern_engine};
+ghost use Rattle.urlpattern_matcher.specs.Regexes.{regex_engine};
 
 use super::UrlPatternList;
 use std::alloc::Global;
@@ -12,19 +14,27 @@ impl<R: RegExp> UrlPatternList<R> {
     /// Lists each pattern that an earlier one is known to cover, in order: its index, and the index
     /// of the first pattern that is known to cover it.
     ///
-    /// In a list of which the first match counts, no listed pattern is found for texts without line
-    /// feed. The parts of the patterns are compared, as `rules::unreachable` does. A pattern that
-    /// is covered only by several others together is not listed.
+    /// The first match of a URL is never a listed pattern, as the law
+    /// `rules::unreachable_patterns_are_never_first` says. The parts of the patterns are compared,
+    /// as `rules::unreachable` does. A pattern that is covered only by several others together is
+    /// not listed.
     ///
     /// The error is `NoParts` if a pattern has no parts, or `OutOfMemory`.
     pub fn unreachable(&self, alloc: Global) -> Result<Vec<Shadowed>, CompareError>
-        ensures found { IfOk result (λ found. AreUnreached self.now found.items) }
+        ensures found { IfOk result (λ found. AreUnreached R.RegExp self.now found.items) }
         ensures missing { IfErr result (LacksParts self.now) }
     {
         let parts = parts_of_each(alloc, &self.patterns)?;
         Ok(unreachable(alloc, &parts)?)
     }
 }
+
+/// In a list over `PatternRegexp` or `regex::Regex`, a pattern that `unreachable` lists is the
+/// first match of no URL.
+pub fn unreachable_patterns_are_never_first()
+    ensures pattern_regexp { UnreachedAreNeverFirst pattern_engine }
+    ensures regex { UnreachedAreNeverFirst regex_engine }
+{}
 
 /// Returns the parts of each pattern, in order.
 ///
@@ -34,7 +44,7 @@ fn parts_of_each<R: RegExp>(
     patterns: &[UrlPattern<R>],
 ) -> Result<Vec<&PatternParts>, CompareError>
     ensures parts { IfOk result (λ parts.
-        HaveAllParts patterns.now (map (λ them. them.now) parts.items)) }
+        HaveAllParts R.RegExp patterns.now (map (λ them. them.now) parts.items)) }
     ensures missing { IfErr result (LacksParts patterns.now) }
 {
     let mut all = Vec::new(alloc);

@@ -11,6 +11,6 @@ returns-clause-text c =
     let init = c.args.init.now in
     let values = values_view c.in_ok-values.values in
     IfOk-weaker c.answer-found.result
-    (IsExplained c.args.json (record { string = asked.string; pattern = pattern; given = values_view init; values = values }) asked.base asked.input)
-    (IsExplanationOf c.args.json pattern init asked)
+    (IsExplained c.args.json (record { pattern = pattern; given = values_view init; places = c.args.places.now; values = values }) asked.base asked.input)
+    (IsExplanationOf c.args.json pattern init c.args.places.now asked)
     (λ found is. (values, c.in_ok-values.ensures.ok, is)) c.answer-found.ensures.text

@@ -5,7 +5,7 @@ use Rattle.urlpattern_meaning.proofs.PartTrees.{IsNotCustom}
 use Rattle.urlpattern_syntax.specs.Parts.{PartView}
 use Rattle.urlpattern_engine.proofs.EngineLaws.{taken_first}
 use Rattle.urlpattern_engine.specs.PatternRegexps.{pattern_engine}
-use Rattle.urlpattern_laws.proofs.InitOutcomesExist.{init_outcome, inits_have_values}
+use Rattle.urlpattern_laws.proofs.InitValues.{inits_have_values}
 use Rattle.urlpattern_laws.proofs.OutcomesOne.{first_ways_decide, init_refusal_one, pattern_or_refusal}
 use Rattle.urlpattern_laws.specs.Outcomes.{NeverAcceptsAndRejectsGenerated}
 use Rattle.urlpattern_laws.proofs.laws.inits_have_one_outcome.Goals as goal
@@ -29,9 +29,6 @@ returns-clause-refusals g c = init_refusal_one g.R.RegExp
 
 pub returns-clause-values : goal.returns-clause-values
 returns-clause-values g c = inits_have_values
-
-pub returns-clause-exist : goal.returns-clause-exist
-returns-clause-exist g c = init_outcome g.R.RegExp
 
 pub returns-clause-by_first_ways : goal.returns-clause-by_first_ways
 returns-clause-by_first_ways g c = first_ways_decide g.R.RegExp

@@ -11,6 +11,6 @@ returns-clause-found g c =
     let parts = all_now c.in_ok-parts.parts.items in
     let found = c.in_ok-unreachable.field-0.items in (
       parts,
-      subst (λ (patterns : List (UrlPattern g.row.R.Denot)). HaveAllParts patterns parts) (c.deref.ensures.value ∙ c.self.view_is) c.in_ok-parts.ensures.parts,
+      subst (λ (patterns : List (UrlPattern g.row.R.Denot)). HaveAllParts g.R.RegExp patterns parts) (c.deref.ensures.value ∙ c.self.view_is) c.in_ok-parts.ensures.parts,
       subst (λ (them : List (Bor PatternParts)). AreUnreachable (all_now them) found) c.deref-2.ensures.value c.in_ok-unreachable.ensures,
     )

@@ -1,5 +1,5 @@
-use Rattle.std.proofs.Common.{◌+◌, List, ◌∷◌, ◌++◌, drop, take, sym, ap, ◌∙◌, subst}
-use Rattle.std.proofs.lemmas.List.{take_more}
+use Rattle.std.proofs.Common.{arith, ◌+◌, List, ◌∷◌, ◌++◌, drop, take, sym, ap, ◌∙◌, subst}
+use Rattle.std.proofs.lemmas.List.{take_all, take_more}
 use Rattle.std.specs.List.{AllByRecursion}
 use Rattle.urlpattern_compile.specs.Compiled.{FirstRejected}
 use Rattle.urlpattern_compile.specs.CompilerSteps.{settings_by}
@@ -28,3 +28,9 @@ loop-name-preserved g c =
     let Is = IsCompiledBy g.R.RegExp (settings_by c.args.self.now c.args.hierarchical) in
     let compiled = rw c.in-None.is at c.in_ok-rejection.ensures.compiled in
     subst (AllByRecursion Is) (sym (take_more names i _ c.loop-name-test.true)) (all_more Is (take i names) _ c.loop-name.invariant compiled)
+
+pub returns-clause-accepted : goal.returns-clause-accepted
+returns-clause-accepted g c =
+    let names = c.args.names.now in
+    let past = c.loop-name-test.false in
+    subst (AllByRecursion (IsCompiledBy g.R.RegExp (settings_by c.args.self.now c.args.hierarchical))) (take_all c.loop-name.name-index names (omega (arith, past))) c.loop-name.invariant
