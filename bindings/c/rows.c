@@ -4,9 +4,9 @@
  * handle, `init STATUS IGNORES JSON` an init, `more` and `more_init` another into the same, `other` and `other_init` one into another new
  * handle, `exec STATUS URL BASE JSON` matches with the first, `groups STATUS URL BASE GROUPS` writes its groups, `link STATUS TEXT GIVEN URL`
  * asks for a URL with groups, `text COMPONENT TEXT` reads a component, `custom STATUS` asks for a custom regular expression,
- * `first STATUS URL BASE INDEX` finds the first match, and `covers STATUS COMPONENT` compares the first pattern with the second of its
- * handle, and with that of the other handle. The last line counts the answers that are as they should be. Texts that are not UTF-8 come
- * first.
+ * `meaning STATUS` asks whether each component has a meaning, `first STATUS URL BASE INDEX` finds the first match, and
+ * `covers STATUS COMPONENT` compares the first pattern with the second of its handle, and with that of the other handle. The last line
+ * counts the answers that are as they should be. Texts that are not UTF-8 come first.
  *
  * A group of GROUPS is a byte 1, the digit of its component, its name, a byte 2, `+` with what it captured, if it took part, and a byte 3.
  * GIVEN has five numbers for each group, with commas between them.
@@ -17,7 +17,7 @@
 #include <stdlib.h>
 #include <string.h>
 
-enum { WORDS = 8, ROOM = 1 << 20, EDGE = 8, COMPONENTS = 8, SPANS = 1 << 12, NO_STATUS = 255 };
+enum { WORDS = 8, ROOM = 1 << 20, EDGE = 8, COMPONENTS = URLPATTERN_NO_COMPONENT, SPANS = 1 << 12, NO_STATUS = 255 };
 enum { BEGIN = 1, MIDDLE = 2, END = 3, NUMBERS = 5 };
 
 typedef struct {
@@ -222,6 +222,13 @@ static void ask_custom(char **words, unsigned number) {
     compare(status == (uint32_t)atoi(words[1]), number, status);
 }
 
+/* Whether the answer is given, and that of an index that has no pattern. */
+static void ask_meaning(char **words, unsigned number) {
+    uint32_t status = urlpattern_has_meaning(&patterns, 0);
+    bool is_right = status == (uint32_t)atoi(words[1]) && urlpattern_has_meaning(&patterns, 1) == URLPATTERN_NO_PATTERN;
+    compare(is_right, number, status);
+}
+
 /* Whether the first match is written with its groups, as `urlpattern_captures` writes those of the pattern at its index. */
 static bool is_same_first(text url, text base, uint32_t wanted, size_t wanted_index) {
     urlpattern_sizes sizes = { 0, 0 }, needed = { 0, 0 };
@@ -287,6 +294,8 @@ static void ask(char **words, unsigned number) {
         ask_text(words, number);
     } else if (strcmp(words[0], "custom") == 0) {
         ask_custom(words, number);
+    } else if (strcmp(words[0], "meaning") == 0) {
+        ask_meaning(words, number);
     } else if (strcmp(words[0], "first") == 0) {
         ask_first(words, number);
     } else if (strcmp(words[0], "covers") == 0) {
@@ -342,8 +351,9 @@ static uint32_t link_with(const char *groups, size_t length, urlpattern_given pa
 /* Whether each part of the text of a link has to be UTF-8, and the text as a whole need not be. */
 static void ask_parts(void) {
     static const char pattern[] = "https://example.com/:id", groups[] = "id\xc3\xa9\xff";
-    static const urlpattern_given whole = { 5, 0, 2, 2, 2 }, cut = { 5, 0, 2, 2, 1 };
-    static const urlpattern_given bad = { 5, 0, 2, 4, 1 };
+    static const urlpattern_given whole = { URLPATTERN_PATHNAME, 0, 2, 2, 2 };
+    static const urlpattern_given cut = { URLPATTERN_PATHNAME, 0, 2, 2, 1 };
+    static const urlpattern_given bad = { URLPATTERN_PATHNAME, 0, 2, 4, 1 };
     static char url[] = "https://example.com/%C3%A9";
     text wanted = { url, sizeof url - 1 };
     size_t needed = 0, length = sizeof groups - 1;

@@ -24,8 +24,8 @@
  * No URL. NO_MATCH says that a URL does not match, or that a text is no URL, and a URL or a base
  * URL of 16 MB (2^24 bytes) or more may count as none. So a program that denies what matches does
  * not permit a text for NO_MATCH alone, nor for any other status, but only if text and base also
- * have less than 16 MB, and `urlpattern_mismatch`, of whichever pattern, reports DONE or a component
- * less than 8: then the text is a URL.
+ * have less than 16 MB, and `urlpattern_mismatch`, of whichever pattern, reports DONE, or a
+ * component other than URLPATTERN_NO_COMPONENT: then the text is a URL.
  *
  * Base URLs. A base URL does not tie a URL to its host. Under `https://example.com/` the text
  * `//other.com/x` is the URL `https://other.com/x`, also with backslashes, and an absolute URL is
@@ -37,9 +37,10 @@
  *
  * Buffers. A text is written to the start of a buffer, without a byte 0 after it, and the rest of
  * the buffer is as it was; `needed` is how many bytes the text has. For TOO_SMALL `needed` is that
- * too, and the buffer is as it was. For each other status the buffer is as it was, and nothing is
- * promised of `needed`. Only `urlpattern_captures` and `urlpattern_first_captures` may leave part
- * of a match that is too large, as they say.
+ * too, and the buffer is as it was. For each other status the buffer is as it was, and `needed` is
+ * unspecified. So it is of each call but `urlpattern_captures` and `urlpattern_first_captures`:
+ * for TOO_SMALL their buffer and array are unspecified, for OUT_OF_MEMORY `needed` and `index` too,
+ * but nothing is written past the sizes.
  */
 #ifndef URLPATTERN_H
 #define URLPATTERN_H
@@ -63,11 +64,34 @@ enum urlpattern_status {
     URLPATTERN_DONE = 0,          /* it is done; of a match: there is one */
     URLPATTERN_NO_MATCH = 1,      /* no match, or the text counts as no URL */
     URLPATTERN_NOT_UTF8 = 2,      /* a text is not UTF-8 */
-    URLPATTERN_REFUSED = 3,       /* a pattern is refused; of `urlpattern_link`: there is no URL */
+    URLPATTERN_REFUSED = 3,       /* a pattern is refused; of `urlpattern_link`: there is no link,
+                                   * and the reason is written; no other call that takes a handle
+                                   * and an index reports it */
     URLPATTERN_OUT_OF_MEMORY = 4, /* memory ran out; the patterns are as they were */
-    URLPATTERN_NO_PATTERN = 5,    /* no pattern of this index, no component or group of a number */
+    URLPATTERN_NO_PATTERN = 5,    /* no pattern of this index, no component or group of a number;
+                                   * of `urlpattern_link` also: a part that is given is no text */
     URLPATTERN_TOO_SMALL = 6,     /* too little room; `needed` has the size that is needed */
     URLPATTERN_UNKNOWN = 7        /* it is not known whether a pattern covers another one */
+};
+
+/* The number of a component. Functions take and write it as a `uint32_t`. */
+enum urlpattern_component_number {
+    URLPATTERN_PROTOCOL = 0,
+    URLPATTERN_USERNAME = 1,
+    URLPATTERN_PASSWORD = 2,
+    URLPATTERN_HOSTNAME = 3,
+    URLPATTERN_PORT = 4,
+    URLPATTERN_PATHNAME = 5,
+    URLPATTERN_SEARCH = 6,
+    URLPATTERN_HASH = 7,
+    URLPATTERN_NO_COMPONENT = 8 /* is written where there is no component to name */
+};
+
+/* Which text a place lies in, as a `uint32_t`. */
+enum urlpattern_subject {
+    URLPATTERN_IN_PATTERN = 0,  /* the pattern's text */
+    URLPATTERN_IN_BASE = 1,     /* the base URL */
+    URLPATTERN_IN_COMPONENT = 2 /* of an init: 2 and the number of the component, added */
 };
 
 /* A handle: patterns in their order, as the routes of a router, each named by its index from 0
@@ -109,21 +133,22 @@ uint32_t urlpattern_test(urlpattern_list *patterns, size_t index, const char *ur
                          const char *base, size_t base_length);
 
 /* Finds the first pattern that matches a URL, and writes its index.
- * DONE, NO_MATCH, NOT_UTF8, OUT_OF_MEMORY, or NO_PATTERN (an empty handle); but for DONE,
+ * DONE, NO_MATCH, NOT_UTF8, OUT_OF_MEMORY, or NO_PATTERN (none is there); but for DONE,
  * `index` is as it was. */
 uint32_t urlpattern_first(urlpattern_list *patterns, const char *url, size_t length,
                           const char *base, size_t base_length, size_t *index);
 
 /* Whether the pattern of this index matches a URL, and if not, which component is the first that
- * does not: `component` is its number, as of `urlpattern_component`.
- * DONE (a match), NO_MATCH, NOT_UTF8, OUT_OF_MEMORY, or NO_PATTERN. For NO_MATCH a component of
- * 8 says that the text counts as no URL; for the other statuses it is 8. */
+ * does not: `component` is its number.
+ * DONE (a match), NO_MATCH, NOT_UTF8, OUT_OF_MEMORY, or NO_PATTERN. For NO_MATCH the component
+ * URLPATTERN_NO_COMPONENT says that the text counts as no URL; the other statuses write it too. */
 uint32_t urlpattern_mismatch(urlpattern_list *patterns, size_t index,
                              const char *url, size_t length, const char *base, size_t base_length,
                              uint32_t *component);
 
 /* Writes the match of a URL as JSON, in the shape of a browser's `exec`: an object with `input`
- * and `groups` of each component. A group that took no part is null.
+ * and `groups` of each component. A group that took no part is null. There is no white space
+ * between tokens.
  * DONE, NO_MATCH, NOT_UTF8, OUT_OF_MEMORY, NO_PATTERN, or TOO_SMALL. */
 uint32_t urlpattern_exec(urlpattern_list *patterns, size_t index, const char *url, size_t length,
                          const char *base, size_t base_length,
@@ -131,7 +156,7 @@ uint32_t urlpattern_exec(urlpattern_list *patterns, size_t index, const char *ur
 
 /* Where the text of a group lies in a text that is written. */
 typedef struct urlpattern_span {
-    uint32_t component; /* the number of the component, as of `urlpattern_component` */
+    uint32_t component; /* the number of the component */
     uint32_t took_part; /* 1: the group took part in the match; 0: it did not, and has no bytes */
     size_t group;       /* the number of the group in its component, from 0 on, as of
                          * `urlpattern_group_name` */
@@ -149,9 +174,10 @@ typedef struct urlpattern_sizes {
  * of each, one after the other, and to the array a span for each, component by component in the
  * order of their numbers. The rest of both is as it was.
  * DONE, NO_MATCH, NOT_UTF8, OUT_OF_MEMORY, NO_PATTERN, or TOO_SMALL (the buffer or the array
- * is). For DONE and TOO_SMALL `needed` is how many bytes and spans there are. For TOO_SMALL and
- * OUT_OF_MEMORY anything may be in the buffer and in the array, though nothing is written past
- * their sizes; for NO_MATCH, NOT_UTF8 and NO_PATTERN they are as they were. */
+ * is). For DONE and TOO_SMALL `needed` is how many bytes and spans there are; for the others it
+ * is unspecified. For TOO_SMALL and OUT_OF_MEMORY anything may be in the buffer and in the array,
+ * though nothing is written past their sizes; for NO_MATCH, NOT_UTF8 and NO_PATTERN they are as
+ * they were. */
 uint32_t urlpattern_captures(urlpattern_list *patterns, size_t index,
                              const char *url, size_t length, const char *base, size_t base_length,
                              char *buffer, size_t room, urlpattern_span *spans, size_t span_room,
@@ -159,8 +185,9 @@ uint32_t urlpattern_captures(urlpattern_list *patterns, size_t index,
 
 /* Finds the first pattern that matches a URL, and writes its index, and its groups as
  * `urlpattern_captures` does.
- * DONE, NO_MATCH, NOT_UTF8, OUT_OF_MEMORY, NO_PATTERN (an empty handle), or TOO_SMALL. For DONE
- * and TOO_SMALL `index` is written; for OUT_OF_MEMORY it may be; for the others it is as it was.
+ * DONE, NO_MATCH, NOT_UTF8, OUT_OF_MEMORY, NO_PATTERN (none is there), or TOO_SMALL. For DONE
+ * and TOO_SMALL `index` is written; for OUT_OF_MEMORY it may be, to whichever number; for the
+ * others it is as it was.
  * The buffer, the array and `needed` are as `urlpattern_captures` leaves them. */
 uint32_t urlpattern_first_captures(urlpattern_list *patterns, const char *url, size_t length,
                                    const char *base, size_t base_length, size_t *index,
@@ -170,23 +197,25 @@ uint32_t urlpattern_first_captures(urlpattern_list *patterns, const char *url, s
 
 /* What is given for a group: its name and a text for it, which are parts of one text. */
 typedef struct urlpattern_given {
-    uint32_t component; /* the number of the component, as of `urlpattern_component` */
+    uint32_t component; /* the number of the component */
     size_t name_start;  /* the byte at which the name of the group begins */
     size_t name_length; /* how many bytes the name has */
     size_t start;       /* the byte at which the text for the group begins */
     size_t length;      /* how many bytes it has */
 } urlpattern_given;
 
-/* Writes the URL that the pattern of this index matches with these groups, or why there is none.
+/* Writes the link of the pattern of this index with these groups, a URL that it matches with them,
+ * or why there is none.
  * A name has to be given, unless it is optional; a wildcard that is not given is empty. What is
  * given for a group that the pattern has not is ignored. Texts are made canonical, and a match of
  * the URL captures what they are then. A fixed text that may be missing or repeated is written as
- * few times as possible, so that `{/}?:x` has no URL with `a` for `x`, although it matches
+ * few times as possible, so that `{/}?:x` has no link with `a` for `x`, although it matches
  * `https://example.com/a`; the reason names the component.
- * DONE (the URL is written), REFUSED (the pattern has no URL with these groups, and the reason
+ * DONE (the URL is written), REFUSED (the pattern has no link with these groups, and the reason
  * is written), OUT_OF_MEMORY, NO_PATTERN (also where there is no component of a number, or a
- * part lies outside of the text or is not UTF-8, as one that cuts a character), or TOO_SMALL
- * (there is no room for the URL, or for the reason, and `needed` does not say for which). */
+ * part lies outside of the text or is not UTF-8, as one that cuts a character; that comes before
+ * OUT_OF_MEMORY), or TOO_SMALL (there is no room for the URL, or for the reason, and `needed`
+ * does not say for which). */
 uint32_t urlpattern_link(urlpattern_list *patterns, size_t index, const char *text, size_t length,
                          const urlpattern_given *given, size_t count,
                          char *buffer, size_t room, size_t *needed);
@@ -197,8 +226,7 @@ uint32_t urlpattern_link(urlpattern_list *patterns, size_t index, const char *te
 uint32_t urlpattern_group_name(urlpattern_list *patterns, size_t index, uint32_t component,
                                size_t group, char *buffer, size_t room, size_t *needed);
 
-/* Writes the pattern text of a component: 0 protocol, 1 username, 2 password, 3 hostname, 4
- * port, 5 pathname, 6 search, 7 hash.
+/* Writes the pattern text of a component, by its number.
  * DONE, NO_PATTERN, or TOO_SMALL. */
 uint32_t urlpattern_component(urlpattern_list *patterns, size_t index, uint32_t component,
                               char *buffer, size_t room, size_t *needed);
@@ -208,13 +236,23 @@ uint32_t urlpattern_component(urlpattern_list *patterns, size_t index, uint32_t 
  * DONE (it has one), NO_MATCH (it has none), or NO_PATTERN. */
 uint32_t urlpattern_has_regexp_groups(urlpattern_list *patterns, size_t index);
 
+/* Whether each component of the pattern of this index has a meaning, so that the text of the
+ * pattern alone says which URLs it matches, and what its groups capture. For that the pattern is
+ * compiled without `ignore_case`, and each of its custom regular expressions is simple, as `\d+`,
+ * `en|fr` and `[^/]+` are: of ASCII characters, without an assertion as `^`, `$` or `\b`, without a
+ * flag, and without a group that captures. A program that accepts patterns of others may refuse
+ * the rest, of which less is promised.
+ * DONE (each has one), NO_MATCH (not each has one), OUT_OF_MEMORY, or NO_PATTERN. */
+uint32_t urlpattern_has_meaning(urlpattern_list *patterns, size_t index);
+
 /* Whether the pattern of this index covers the asked one, another pattern of the handle or the
- * same: whether it matches each URL that the asked one matches. `component` is a number, as of
- * `urlpattern_component`, or 8 if there is none.
+ * same: whether it matches each URL that the asked one matches. `component` is the number of a
+ * component, or URLPATTERN_NO_COMPONENT.
  * DONE (it covers it), NO_MATCH (it does not: it does not match a text of this component that
- * the asked one matches), UNKNOWN (because of this component: it has a custom regular
- * expression, ignores case, or would take too many steps to compare), OUT_OF_MEMORY, or
- * NO_PATTERN (of one of the two indices). But for NO_MATCH and UNKNOWN `component` is 8. */
+ * the asked one matches), UNKNOWN (because of this component, where no other one decides: it has
+ * a custom regular expression, ignores case, or would take too many steps to compare),
+ * OUT_OF_MEMORY, or NO_PATTERN (of one of the two indices). But for NO_MATCH and UNKNOWN
+ * `component` is URLPATTERN_NO_COMPONENT. */
 uint32_t urlpattern_covers_within(urlpattern_list *patterns, size_t index, size_t asked,
                                   uint32_t *component);
 
@@ -233,10 +271,12 @@ static inline uint32_t urlpattern_covers(urlpattern_list *patterns, size_t index
                               : urlpattern_covers_between(patterns, index, others, asked, component);
 }
 
-/* The part of a text that is at fault, in bytes. */
+/* The part of a text that is at fault, in bytes: `start` is at most `end`, and `end` at most the
+ * length of the text. */
 typedef struct urlpattern_place {
-    uint32_t subject; /* 0: the pattern's text, 1: the base URL; of an init, 2 and the number of the
-                       * component whose text it is */
+    uint32_t subject; /* URLPATTERN_IN_PATTERN or URLPATTERN_IN_BASE; of an init: also
+                       * URLPATTERN_IN_COMPONENT + the number of the component whose text it is,
+                       * or URLPATTERN_IN_PATTERN for the init as a whole, with no part */
     size_t start;
     size_t end;
 } urlpattern_place;
@@ -249,7 +289,8 @@ uint32_t urlpattern_diagnose(const char *text, size_t length, const char *base, 
                              urlpattern_place *place);
 
 /* Writes why `urlpattern_add_init` refuses an init, and the place that is at fault in one of its
- * texts.
+ * texts; or, if the component at fault is inherited, since the init has no text for it, in what is
+ * inherited.
  * DONE, NO_MATCH (it is accepted), NOT_UTF8, REFUSED (the JSON is no init, or the base URL is
  * refused, and no reason is written), OUT_OF_MEMORY, or TOO_SMALL, with `place` as of
  * `urlpattern_diagnose`. */

@@ -4,6 +4,7 @@ import ctypes
 import gc
 import importlib.util
 import pickle
+import resource
 import sys
 import threading
 import unittest
@@ -47,6 +48,7 @@ def asked(module):
     """What threads ask of shared objects, by a number, and what the answer is: of each call."""
     pattern, dated, wide = map(module.URLPattern, (SOURCES[0], DATED, SOURCES[2]))
     routes = module.URLPatternList(SOURCES)
+    folded = module.URLPattern(SOURCES[0], ignore_case=True)
     is_user = lambda n: route(n) == 0
     name_of = lambda n: urlpattern.COMPONENTS[n % len(urlpattern.COMPONENTS)]
     missing = lambda n: NAMES[n % len(NAMES)]
@@ -71,10 +73,14 @@ def asked(module):
         ),
         "reason of link": (
             lambda n: said(lambda: dated.link(given(n))),
-            lambda n: f"the group `pathname.{missing(n)}` is missing",
+            lambda n: f"the group `pathname.{missing(n)}` is missing: give a text for it",
         ),
         "component": (lambda n: getattr(pattern, name_of(n)), lambda n: TEXTS[name_of(n)]),
         "has_regexp_groups": (lambda n: dated.has_regexp_groups, lambda n: True),
+        "has_meaning": (
+            lambda n: (dated, folded)[n % 2].has_meaning,
+            lambda n: n % 2 == 0,
+        ),
         "repr": (lambda n: repr(pattern), lambda n: REPR),
         "first": (lambda n: routes.first(url(n)).index, route),
         "first_captures": (
@@ -222,6 +228,17 @@ class Copies(unittest.TestCase):
             self.assertTrue(way(named).test(url(0)) and way(allowed).test(0, url(0)))
 
 
+class Memory(unittest.TestCase):
+    ROUNDS, MOST_GROWTH = 20_000, 10_000
+
+    def test_patterns_that_are_freed_give_their_memory_back(self):
+        URLPattern(SOURCES[0])
+        before = resource.getrusage(resource.RUSAGE_SELF).ru_maxrss
+        for _ in range(self.ROUNDS):
+            URLPattern(SOURCES[0])
+        self.assertLess(resource.getrusage(resource.RUSAGE_SELF).ru_maxrss - before, self.MOST_GROWTH)
+
+
 class Named(URLPattern):
     def __init__(self, name):
         super().__init__(f"https://example.com/{name}/*")
@@ -315,6 +332,7 @@ class Arguments(unittest.TestCase):
             lambda index: routes.link(index, []),
             lambda index: routes.component(index, "hash"),
             lambda index: routes.has_regexp_groups(index),
+            lambda index: routes.has_meaning(index),
             lambda index: routes.covers(index, 0),
             lambda index: routes.covers(0, index),
         )
@@ -400,6 +418,28 @@ class Answers(unittest.TestCase):
         self.assertEqual(found, [[True, False, False], [False, True, False], [True, True, True]])
         for index, _ in enumerate(SOURCES):
             self.assertTrue(routes.test(index, url(index)))
+
+    def test_a_meaning_is_one_of_each_component(self):
+        cases = {
+            "/:id": True,
+            "/:id(\\d+)": True,
+            "/(en|fr)?/*": True,
+            "/:file([^/]+\\.(?:png|svg))": True,
+            "/(\\bx)": False,
+            "/(^x$)": False,
+            "/((?i)x)": False,
+            "/((?P<year>\\d+))": False,
+            "/:id(\\d+)\\?q=(x$)": False,
+        }
+        plain, folded = URLPatternList(), URLPatternList()
+        for text, answer in cases.items():
+            plain.append(text, "https://example.com")
+            folded.append(text, "https://example.com", ignore_case=True)
+            self.assertIs(URLPattern(text, "https://example.com").has_meaning, answer)
+        found = [plain.has_meaning(index) for index in range(len(plain))]
+        self.assertEqual(found, list(cases.values()))
+        self.assertFalse(any(folded.has_meaning(index) for index in range(len(folded))))
+        self.assertFalse(URLPattern({"protocol": "https"}, ignore_case=True).has_meaning)
 
     def test_no_url_and_no_match(self):
         pattern = URLPattern("https://example.com/*")

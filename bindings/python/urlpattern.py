@@ -113,7 +113,7 @@ def _declared():
     ignores, string, init = ctypes.c_bool, [text, size, text, size], [text, size]
     reason = [text, size, ctypes.POINTER(size), ctypes.POINTER(_Place)]
     matching = ("test", "first", "mismatch", "exec", "captures", "first_captures")
-    writing = ("link", "group_name", "component", "has_regexp_groups")
+    writing = ("link", "group_name", "component", "has_regexp_groups", "has_meaning")
     comparing = ("covers_within", "covers_between")
     return SimpleNamespace(
         **{name: _function(name) for name in (*matching, *writing, *comparing)},
@@ -513,6 +513,11 @@ class URLPatternList:
         """Whether the pattern of this index has a custom regular expression."""
         return _checked(_calls.has_regexp_groups(self._address, _SIZE[index]))
 
+    def has_meaning(self, index):
+        """Whether each component of the pattern of this index has a meaning, as `has_meaning` of
+        URLPattern says."""
+        return _checked(_calls.has_meaning(self._address, _SIZE[index]))
+
 
 class URLPattern:
     """A pattern: a str, which is a constructor string, with a base URL if there is one, or a dict
@@ -551,6 +556,14 @@ class URLPattern:
     def has_regexp_groups(self):
         """Whether the pattern has a custom regular expression."""
         return self._list.has_regexp_groups(0)
+
+    @property
+    def has_meaning(self):
+        """Whether each component of the pattern has a meaning, so that its text alone says what it
+        matches and captures: case is not ignored, and each custom regular expression is simple, as
+        `\\d+`, `en|fr` and `[^/]+` are, without an assertion as `\\b`, a flag, or a group that
+        captures."""
+        return self._list.has_meaning(0)
 
     def exec(self, url, base=None):
         """The match, or None: a dict of components, each with `input` and `groups`."""

@@ -1,7 +1,7 @@
 //! Compiles and matches patterns as in a recorded case.
 
 use crate::calls::{self, Call};
-use crate::recorded::{Fault, has_text, is_set, optional_text, text};
+use crate::recorded::{Fault, has_text, is_set, list, optional_text, text};
 use crate::{Case, given, prints};
 use serde_json::Value;
 use std::alloc::Global;
@@ -18,7 +18,9 @@ use urlpattern_syntax::Error;
 pub fn is_same<R: RegExp>(case: &Case<'_>) -> Result<bool, Fault> {
     let found = built_through::<R>(case)?;
     case.is_answer(found, |pattern, recorded| {
-        Ok(has_same_texts(pattern, recorded) && has_same_results(case, pattern, recorded)?)
+        Ok(has_same_texts(pattern, recorded)
+            && has_same_meanings(case.alloc, pattern, recorded)?
+            && has_same_results(case, pattern, recorded)?)
     })
 }
 
@@ -78,6 +80,34 @@ fn has_same_texts<R: RegExp>(pattern: &UrlPattern<R>, recorded: &Value) -> bool 
 /// The pattern text of a component, generated anew.
 fn text_of<R: RegExp>(pattern: &UrlPattern<R>, name: ComponentName) -> &str {
     &pattern.get(name).pattern_string
+}
+
+/// Whether the components without a meaning are the recorded ones, if the case has them.
+fn has_same_meanings<R: RegExp>(
+    alloc: Global,
+    pattern: &UrlPattern<R>,
+    recorded: &Value,
+) -> Result<bool, Fault> {
+    match list(recorded, "lacking") {
+        Ok(lacking) => are_lacking(alloc, pattern, lacking),
+        Err(_) => Ok(true),
+    }
+}
+
+/// Whether the components without a meaning are the recorded ones.
+pub fn are_lacking<R: RegExp>(
+    alloc: Global,
+    pattern: &UrlPattern<R>,
+    lacking: &[Value],
+) -> Result<bool, Fault> {
+    let mut is_same = pattern.has_meaning(alloc)? == lacking.is_empty();
+    for name in ComponentName::all() {
+        let is_lacking = lacking.iter().any(|value| value.as_str() == Some(name.as_str()));
+        if pattern.component_has_meaning(alloc, name)? == is_lacking {
+            is_same = false;
+        }
+    }
+    Ok(is_same)
 }
 
 /// Whether the outcome for each input of a question is the recorded one, by the call that the

@@ -92,6 +92,8 @@ pub enum Operation {
     Covers,
     /// Finds the patterns of a list that an earlier one covers.
     Unreachable,
+    /// Decides which components of a pattern have a meaning.
+    Meaning,
     /// Writes a plain value as JSON that was parsed from JSON.
     Json,
     /// Compares the values of a type with each other.
@@ -121,6 +123,7 @@ pub const OPERATIONS: &[(&str, Operation)] = &[
     ("compare", Operation::Compare),
     ("covers", Operation::Covers),
     ("unreachable", Operation::Unreachable),
+    ("meaning", Operation::Meaning),
     ("json", Operation::Json),
     ("equal", Operation::Equal),
 ];

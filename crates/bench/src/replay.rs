@@ -112,6 +112,7 @@ fn is_same_over<R: RegExp>(operation: Operation, case: &Case<'_>) -> Result<bool
         Operation::Compare => rules::is_same_order(case),
         Operation::Covers => rules::is_same_covering(case),
         Operation::Unreachable => rules::is_same_unreachable(case),
+        Operation::Meaning => rules::is_same_meaning(case),
         Operation::Json => trees::is_same(case),
         Operation::Equal => trees::is_same_equality(case),
     }

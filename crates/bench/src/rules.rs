@@ -1,5 +1,6 @@
 //! Compares patterns, and lists and maps of them.
 
+use crate::patterns::are_lacking;
 use crate::recorded::{Answer, Fault, field, has_text, list, named, optional_text, text};
 use crate::{Case, given};
 use serde_json::Value;
@@ -73,6 +74,18 @@ pub fn is_same_unreachable(case: &Case<'_>) -> Result<bool, Fault> {
     Ok(is_same && of_map?.as_slice() == found.as_slice())
 }
 
+/// Whether the components without a meaning are the recorded ones.
+pub fn is_same_meaning(case: &Case<'_>) -> Result<bool, Fault> {
+    let Answer::Ok(recorded) = case.answer else {
+        return Ok(false);
+    };
+    let lacking = list(recorded, "lacking")?;
+    let pattern = pattern(case.alloc, field(case.question, "pattern")?)?;
+    let is_same = are_lacking(case.alloc, &pattern, lacking);
+    drop(pattern);
+    is_same
+}
+
 /// The list of patterns.
 fn listed(alloc: Global, given: &[Value]) -> Result<UrlPatternList<PatternRegexp>, Fault> {
     let mut patterns = UrlPatternList::new(alloc);
@@ -129,7 +142,10 @@ fn is_covering(covering: PatternCovering, recorded: &Value) -> Result<bool, Faul
         PatternCovering::Covered => Ok(recorded.as_str() == Some("covered")),
         PatternCovering::NotCovered(parting) => {
             let name = parting.component;
-            let length = parting.texts.get(name).chars().count();
+            let Some(text) = parting.texts.get(name) else {
+                return Ok(false);
+            };
+            let length = text.chars().count();
             Ok(
                 has_text(recorded, "component", name.as_str())
                     && recorded.get("length").and_then(Value::as_u64) == Some(length as u64),
@@ -140,14 +156,15 @@ fn is_covering(covering: PatternCovering, recorded: &Value) -> Result<bool, Faul
 }
 
 /// Whether the overlap is the recorded one: `apart`, the length of a pathname that both match, or
-/// the component that is not known with the reason.
+/// `same` if none is known and both have the same parts, or the component that is not known with
+/// the reason.
 fn is_overlap(overlap: PatternOverlap, recorded: &Value) -> Result<bool, Fault> {
     match overlap {
         PatternOverlap::Apart => Ok(recorded.as_str() == Some("apart")),
-        PatternOverlap::Common(texts) => {
-            let length = texts.pathname.chars().count();
-            Ok(recorded.as_u64() == Some(length as u64))
-        }
+        PatternOverlap::Common(texts) => match texts.get(ComponentName::Pathname) {
+            Some(text) => Ok(recorded.as_u64() == Some(text.chars().count() as u64)),
+            None => Ok(recorded.as_str() == Some("same")),
+        },
         PatternOverlap::Unknown(name, reason) => is_unknown(name, reason, recorded),
     }
 }

@@ -1,8 +1,8 @@
 -- The outcome of the pattern `https://example.com/users/:id` for a URL, by the parts of the URL.
-use Rattle.std.proofs.Common.{◌≡◌, ℕ, List, [], ◌∷◌, refl, sym, ap, ◌∙◌, subst, inl, inr, None, Some, Ok, Err, arith}
+use Rattle.std.proofs.Common.{◌≡◌, ℕ, List, [], ◌∷◌, refl, sym, ap, ◌∙◌, subst, inl, inr, None, Some, Ok, arith}
 use Rattle.std.specs.Borrow.{Bor}
 use Rattle.std.specs.Option.{option_flatten}
-use Rattle.std.specs.Prelude.{◌++◌, ◌&&◌, Bool, IfNone, IfOk, IfSome, MatchOption, Option, Result, bytes_eq, if◌then◌else◌, true, codes, decimal, option_map, unwrap_or}
+use Rattle.std.specs.Prelude.{◌++◌, ◌&&◌, Bool, IfNone, IfSome, MatchOption, Option, bytes_eq, if◌then◌else◌, true, codes, decimal, option_map, unwrap_or}
 use Rattle.std.proofs.lemmas.Slice.Eq.{bytes_eq-Decides}
 use Rattle.std.specs.List.{list_any}
 use Rattle.std.specs.Str.{chars}
@@ -17,8 +17,8 @@ use Rattle.url.specs.declared.host.Host.TheVariants.{Domain}
 use Rattle.url.specs.declared.scheme.SchemeType.TheVariants.{SpecialNotFile}
 use Rattle.url.specs.declared.slicing.Position.TheVariants.{AfterPort, BeforePort}
 use Rattle.urlpattern.proofs.ReadTexts.{IsTextAndSegment, anything_means, literal_means, text_and_segment_mean}
-use Rattle.urlpattern.proofs.UsersExample.{chars-path, chars-scheme, host_by_text, no_port, users_of_parts, users_options, users_parts, users_path}
-use Rattle.urlpattern.specs.Match.{HasMatch, HasNoMatch, IsMatch}
+use Rattle.urlpattern.proofs.UsersExample.{chars-path, chars-scheme, host_by_text, no_port, users_alone, users_of_parts, users_options, users_parts, users_path}
+use Rattle.urlpattern.specs.Match.{CallsAnEngine, HasMatch, HasNoMatch, IsMatch}
 use Rattle.urlpattern.specs.ResultViews.{ResultView, group_of}
 use Rattle.urlpattern.specs.MatchInput.{input_texts}
 use Rattle.urlpattern.specs.FromString.{IsPatternOfText}
@@ -40,7 +40,6 @@ use Rattle.urlpattern.specs.PartMeaning.{Captures, PartsMean}
 use Rattle.urlpattern.specs.Eight.{Texts, at, name_text}
 use Rattle.urlpattern.specs.Options.{OptionsView, default_options, hostname_options, pathname_options}
 use Rattle.urlpattern.specs.ComponentName.{ComponentName}
-use Rattle.urlpattern.specs.Error.{Error}
 use Rattle.urlpattern.specs.ComponentName.TheVariants.{Protocol, Username, Password, Hostname, Port, Pathname, Search, Hash}
 
 -- ---- texts and parts
@@ -141,21 +140,21 @@ module _ (pattern : PatternView PatternRegexp) (is : IsPatternOfText pattern_eng
       let found = user_found result match in
       let same : Some found.0 ≡ None = sym (ap option_flatten found.2) ∙ captured in absurd (cc same)
 
+-- No component calls an engine.
+pub calls_none : (pattern : PatternView PatternRegexp) → IsPatternOfText pattern_engine users_text None default_asked pattern → (texts : Texts) → ¬ CallsAnEngine pattern_result pattern texts
+unfolding chars
+calls_none pattern is texts calls =
+    let (component, (middle, has_middle, holds)) = calls.asked in users_alone pattern is component holds
+
 -- ---- results of calls
 
-abbrev pub Found : Type 0
-Found = Result (Option (Bor (List ℕ))) Error
+pub found_weaker : (P Q : List ℕ → Type 0) → ((id : List ℕ) → P id → Q id) → (found : Option (Bor (List ℕ))) → IfSome found (λ id. P (chars id.now)) → IfSome found (λ id. Q (chars id.now))
+found_weaker P Q weaker (Some id) holds = weaker (chars id.now) holds
+found_weaker P Q weaker None holds = tt
 
-pub found_weaker : (P Q : List ℕ → Type 0) → ((id : List ℕ) → P id → Q id) → (result : Found) → IfOk result (λ found. IfSome found (λ id. P (chars id.now))) →
-    IfOk result (λ found. IfSome found (λ id. Q (chars id.now)))
-found_weaker P Q weaker (Ok (Some id)) holds = weaker (chars id.now) holds
-found_weaker P Q weaker (Ok None) holds = tt
-found_weaker P Q weaker (Err error) holds = tt
-
-pub none_weaker : (P Q : Type 0) → (P → Q) → (result : Found) → IfOk result (λ found. IfNone found P) → IfOk result (λ found. IfNone found Q)
-none_weaker P Q weaker (Ok (Some id)) holds = tt
-none_weaker P Q weaker (Ok None) holds = weaker holds
-none_weaker P Q weaker (Err error) holds = tt
+pub none_weaker : (P Q : Type 0) → (P → Q) → (found : Option (Bor (List ℕ))) → IfNone found P → IfNone found Q
+none_weaker P Q weaker (Some id) holds = tt
+none_weaker P Q weaker None holds = weaker holds
 
 -- ---- links
 

@@ -8,6 +8,7 @@ use Rattle.urlpattern.specs.ResultViews.{ResultView, captured_text}
 use Rattle.urlpattern.specs.MatchInput.{pathname_alone}
 use Rattle.urlpattern.specs.Patterns.{PatternView}
 use Rattle.urlpattern.specs.PartMeaning.{Captures}
+use Rattle.urlpattern.specs.UrlTexts.{IsLine}
 use Rattle.urlpattern.specs.UrlPatternMatchInput.{UrlPatternMatchInput}
 use Rattle.urlpattern.specs.UrlPatternMatchInput.TheVariants as inputs
 use Rattle.urlpattern.specs.ComponentName.{ComponentName}
@@ -42,13 +43,17 @@ CapturesIdOfPath answer users path id =
     (result : ComponentName → ResultView) × IsMatchOf answer users (pathname_alone path) result
     × (captured_text (result Pathname) (chars (codes "id")) ≡ id)
 
--- The pattern of users matches the path, and the group `id` captures `user`.
+-- The path is a line, the pattern of users matches it, and the group `id` captures `user`.
 abbrev pub PathNamesUser : {E : Type 0} → (answer : E → List ℕ → Option Captures)
     → (users : PatternView E) → (path user : List ℕ) → Type 0
-PathNamesUser answer users path user = CapturesIdOfPath answer users path (Some user)
+PathNamesUser answer users path user =
+    IsLine path × CapturesIdOfPath answer users path (Some user)
 
--- The path names no user: the pattern of users does not match it, or the group takes no part.
+-- The path names no user: it is no line, the pattern of users does not match it, or the group takes
+-- no part.
 abbrev pub PathNamesNone : {E : Type 0} → (answer : E → List ℕ → Option Captures)
     → (users : PatternView E) → (path : List ℕ) → Type 0
 PathNamesNone answer users path =
-    DoesNotMatch answer users (pathname_alone path) ⊎ CapturesIdOfPath answer users path None
+    (¬ IsLine path)
+    ⊎ DoesNotMatch answer users (pathname_alone path)
+    ⊎ CapturesIdOfPath answer users path None

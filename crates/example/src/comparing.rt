@@ -22,7 +22,10 @@ pub fn covers_line(alloc: Global) -> Result<String, Error> {
             let component = parting.component;
             let text = parting.texts.get(component);
             // docs: end
-            Ok(format!(in alloc; "not covered: {component} `{text}`")?)
+            match text {
+                Some(text) => Ok(format!(in alloc; "not covered: {component} `{text}`")?),
+                None => Ok(format!(in alloc; "not covered: {component}")?),
+            }
         }
         PatternCovering::Unknown(component, _) => Ok(format!(in alloc; "unknown: {component}")?),
     }
@@ -40,7 +43,10 @@ pub fn overlaps_line(alloc: Global) -> Result<String, Error> {
     // docs: overlap
     match overlap {
         PatternOverlap::Apart => Ok(format!(in alloc; "apart")?),
-        PatternOverlap::Common(texts) => Ok(format!(in alloc; "common: {}", texts.pathname)?),
+        PatternOverlap::Common(texts) => match &texts.pathname {
+            Some(text) => Ok(format!(in alloc; "common: {text}")?),
+            None => Ok(format!(in alloc; "common, with the same parts")?),
+        },
         PatternOverlap::Unknown(component, _) => Ok(format!(in alloc; "unknown: {component}")?),
     }
     // docs: end

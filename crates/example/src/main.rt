@@ -57,7 +57,7 @@ fn user_line(alloc: Global, url: &Url) -> Result<String, Error> {
     let id = users.id(alloc, url);
     // The id is a slice of the URL, which is still there.
     drop(users);
-    match id? {
+    match id {
         Some(id) => Ok(format!(in alloc; "user {id}")?),
         None => text(alloc, "no user"),
     }

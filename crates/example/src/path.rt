@@ -8,14 +8,14 @@ ghost use Rattle.urlpattern.specs.Patterns.{pattern_view};
 
 use std::alloc::Global;
 use urlpattern::regexp::RegExp;
-use urlpattern::{ComponentName, Error, UrlPattern, pathname_texts};
+use urlpattern::{ComponentName, Error, UrlPattern, is_line, pathname_texts};
 
 /// The name of the group for the user.
 const ID: &str = "id";
 
 /// The user that a path names, borrowed from the path: the capture of the group `id`. `None`: the
-/// pattern of users does not match the path, whose other components are empty, or the group takes
-/// no part in the match.
+/// path has a line feed, the pattern of users does not match it, all other components being empty,
+/// or the group takes no part in the match.
 pub fn user<'u, R: RegExp>(
     alloc: Global,
     users: &UrlPattern<R>,
@@ -28,6 +28,11 @@ pub fn user<'u, R: RegExp>(
     ensures memory { OnlyOutOfMemory result }
 {
     // docs: path
+    // docs: line
+    if !is_line(path) {
+        return Ok(None);
+    }
+    // docs: end
     let Some(found) = users.captures_of_texts(alloc, &pathname_texts(path))? else {
         return Ok(None);
     };

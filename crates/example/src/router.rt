@@ -1,9 +1,11 @@
 //! A router for URLs under `/users/:id`.
 
 ghost use Rattle.example.specs.NamedUsers.{NamesNone, NamesUser};
-ghost use Rattle.std.specs.Prelude.{IfNone, IfOk, IfSome, Some};
+ghost use Rattle.std.specs.Prelude.{IfErr, IfNone, IfOk, IfSome, Some};
 ghost use Rattle.std.specs.Str.{chars};
 ghost use Rattle.urlpattern.specs.Errors.{OnlyOutOfMemory};
+ghost use Rattle.urlpattern.specs.Inheritance.{texts_of_url};
+ghost use Rattle.urlpattern.specs.Match.{CallsAnEngine};
 ghost use Rattle.urlpattern.specs.Patterns.{pattern_view};
 
 use std::alloc::Global;
@@ -19,6 +21,8 @@ const ID: &str = "id";
 
 /// The user that a URL names, borrowed from the URL: the capture of the group `id` of the path.
 /// `None`: the pattern of users does not match the URL, or the group takes no part in the match.
+///
+/// Only an engine allocates.
 pub fn user<'u, R: RegExp>(
     alloc: Global,
     users: &UrlPattern<R>,
@@ -29,6 +33,8 @@ pub fn user<'u, R: RegExp>(
     ensures none { IfOk result (λ found.
         IfNone found (NamesNone R.answer (pattern_view users.now) url.now)) }
     ensures memory { OnlyOutOfMemory result }
+    ensures asked { IfErr result (λ _.
+        CallsAnEngine R.answer (pattern_view users.now) (texts_of_url url.now)) }
 {
     // docs: user
     let Some(found) = users.captures(alloc, url)? else {

@@ -3,7 +3,6 @@
 ghost use Rattle.std.specs.Prelude.{IfNone, IfOk, IfSome};
 ghost use Rattle.std.specs.Str.{chars};
 ghost use Rattle.example.specs.Users.{IsNoUser, IsUrlOfUser, IsUser};
-ghost use Rattle.urlpattern.specs.Errors.{OnlyOutOfMemory};
 
 use crate::router;
 use std::alloc::Global;
@@ -50,14 +49,18 @@ impl Users {
     /// The URL of a user is `https://example.com/users/` and the id, which is not empty and has no
     /// slash. The port is empty. User name, password, query and fragment may be anything, since the
     /// pattern does not restrict them.
-    pub fn id<'u>(&self, alloc: Global, url: &'u Url) -> Result<Option<&'u str>, Error>
-        ensures some { IfOk result (λ found. IfSome found (λ id. IsUser url.now (chars id.now))) }
-        ensures none { IfOk result (λ found. IfNone found (IsNoUser url.now)) }
-        ensures memory { OnlyOutOfMemory result }
+    ///
+    /// Only an engine allocates, and no component of the pattern needs one.
+    pub fn id<'u>(&self, alloc: Global, url: &'u Url) -> Option<&'u str>
+        ensures some { IfSome result (λ id. IsUser url.now (chars id.now)) }
+        ensures none { IfNone result (IsNoUser url.now) }
     {
         // A law of the library: each text of a URL is of characters without line feed.
         texts_are_lines(url);
-        router::user(alloc, &self.pattern, url)
+        match router::user(alloc, &self.pattern, url) {
+            Ok(id) => id,
+            Err(_) => unreachable!(),
+        }
     }
 
     /// Returns the URL of the user with this id, which is made canonical: `a b` is `a%20b`.

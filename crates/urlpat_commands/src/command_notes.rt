@@ -12,8 +12,8 @@ use urlpat_lines::Flags;
 use urlpat_matching::{Failure, base_of, first_diagnosis, match_diagnosis, note_of};
 use urlpattern::error::OutOfMemory;
 use urlpattern::parser::parse_pattern_string;
-use urlpattern::{ComponentName, Diagnosis, Error, Subject};
-use urlpattern_diagnosis::{PatternOffset, fault_of};
+use urlpattern::{ComponentName, Diagnosis, Error};
+use urlpattern_diagnosis::fault_of;
 
 /// Whether errors are explained: the flags ask for it, or the command is not `component`, `match`
 /// or `first`.
@@ -157,16 +157,7 @@ fn component_diagnosis(
         &options.prefix_code_point,
         &error,
     )?;
-    let place = PatternOffset::of(pattern, pattern, 0, 0);
-    let diagnosis = Diagnosis::of_part(
-        alloc,
-        error,
-        Subject::Whole,
-        pattern,
-        pattern,
-        fault,
-        place,
-    )?;
+    let diagnosis = Diagnosis::of_pattern(alloc, error, pattern, fault)?;
     let text = format!(in alloc; "{diagnosis}\n");
     drop(diagnosis);
     Ok(Some(text?))

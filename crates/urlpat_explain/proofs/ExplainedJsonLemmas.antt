@@ -5,7 +5,8 @@ use Rattle.std.specs.Prelude.{Option, None, Some}
 use Rattle.serde_json.specs.Data.{Data, Members, no_members, put}
 use Rattle.serde_json.specs.Written.{has_float, members_have_float}
 use Rattle.urlpat_explain.specs.Explained.{ExplainedView}
-use Rattle.urlpat_explain.specs.ExplainedJson.{AreInputMembers, IsExplainedTree, IsExplanationTree, Named, captured_members, groups_named, pattern_members, place_members, verdict_members}
+use Rattle.urlpat_explain.specs.ExplainedJson.{AreInputMembers, IsExplainedTree, IsExplanationTree, Named, captured_members, groups_named, noted_members, pattern_members, place_members, verdict_members}
+use Rattle.urlpat_explain.specs.declared.noted.Noted.{Noted}
 use Rattle.urlpat_matching.proofs.MatchJsonLemmas.{each-none, put-none}
 use Rattle.urlpattern_components.specs.Eight.{Texts, at, components}
 use Rattle.urlpattern_components.specs.declared.eight.ComponentName.{ComponentName}
@@ -39,6 +40,9 @@ place-none : (place : Option Span) → AreWithoutFloat (place_members place)
 place-none None = tt
 place-none (Some span) = (refl, (refl, tt))
 
+noted-none : (noted : Noted) → AreWithoutFloat (noted_members noted)
+noted-none noted = (refl, (refl, tt))
+
 groups-none : (groups : List (List ℕ × Option (List ℕ))) → AreWithoutFloat (groups_named groups)
 groups-none [] = tt
 groups-none ((name, None) ∷ groups) = (refl, groups-none groups)
@@ -57,9 +61,12 @@ input-none pattern (Some texts) name members (captures, answers, is) =
     subst AreWithoutFloat (sym is) (refl, captured-none (pattern name).group_name_list captures)
 
 component-none : (explained : ExplainedView) (texts : Option Texts) (name : ComponentName) (tree : Data) → IsExplainedTree explained texts name tree → has_float tree ≡ false
-component-none explained texts name tree (place, members, there, are, is) =
-    ap has_float is ∙ all_with-none no_members (pattern_members explained name place ++ members)
-    (refl, (refl, both-none (place_members place) members (place-none place) (input-none explained.pattern texts name members are))) refl
+component-none explained texts name tree (members, are, is) =
+    let place = at explained.places name in
+    let noted = at explained.noted name in
+    let own = both-none (place_members place) (noted_members noted) (place-none place) (noted-none noted) in
+    ap has_float is ∙ all_with-none no_members (pattern_members explained name ++ members)
+    (refl, (refl, both-none (place_members place ++ noted_members noted) members own (input-none explained.pattern texts name members are))) refl
 
 -- ---- all components
 

@@ -1,4 +1,4 @@
--- Lemmas on the notes about the port.
+-- Lemmas on texts without bytes, and on the notes about the port.
 use Rattle.std.proofs.Common.{◌≡◌, ◌<◌, ◌==◌, ◌∙◌, ℕ, List, [], ◌∷◌, arith, encode_utf8_all, false, true, length, refl, subst, sym}
 use Rattle.std.proofs.lemmas.Bool.{false≢true}
 use Rattle.std.proofs.lemmas.Bool.Decides.{nat_tests}
@@ -18,11 +18,11 @@ some_characters [] text same some = subst (λ (bytes : List ℕ). (length bytes 
 some_characters (c ∷ characters) text same some = not_zero (length (c ∷ characters)) (omega arith)
 
 -- A text that has bytes has characters.
-full : (text : List ℕ) → IsUtf8 text → (length text == 0) ≡ false → (length (chars text) == 0) ≡ false
+pub full : (text : List ℕ) → IsUtf8 text → (length text == 0) ≡ false → (length (chars text) == 0) ≡ false
 full text utf8 some = some_characters (chars text) text (encodes-chars text utf8) some
 
 -- A text without bytes has no characters.
-empty : (text : List ℕ) → (length text == 0) ≡ true → (length (chars text) == 0) ≡ true
+pub empty : (text : List ℕ) → (length text == 0) ≡ true → (length (chars text) == 0) ≡ true
 empty [] none = subst (λ (characters : List ℕ). (length characters == 0) ≡ true) (sym chars-nil) refl
 empty (b ∷ text) none = absurd (false≢true (sym (not_zero (length (b ∷ text)) (omega arith)) ∙ none))
 

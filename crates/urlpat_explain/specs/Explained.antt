@@ -1,8 +1,10 @@
--- What `explain` explains: a constructor string and its pattern.
+-- What `explain` explains: the pattern of a constructor string.
 use Rattle.std.specs.Prelude.{◌≡◌, ◌++◌, ℕ, List, Option, String, map, option_map, string_bytes, zip}
 use Rattle.std.specs.Borrow.{Bor}
 use Rattle.std.specs.declared.alloc.Global.{Global}
+use Rattle.urlpat_explain.specs.ComponentPlaces.{Places}
 use Rattle.urlpat_explain.specs.declared.explained.Explained.{Explained}
+use Rattle.urlpat_explain.specs.declared.noted.Noted.{Noted}
 use Rattle.urlpattern_components.specs.Eight.{Texts, Values}
 use Rattle.urlpattern_components.specs.declared.eight.Eight.{Eight}
 use Rattle.urlpattern_engine.specs.declared.pattern_regexp.PatternRegexp.{PatternRegexp}
@@ -11,21 +13,24 @@ use Rattle.urlpattern_matches.specs.GroupTexts.{borrowed_texts, texts_of}
 use Rattle.urlpattern_pattern.specs.Patterns.{PatternView, pattern_view}
 use Rattle.urlpattern_syntax.specs.Text.{option_text}
 
--- A constructor string, as bytes; its compiled pattern; the texts that the string itself has for
--- components (`given`); and the values of the components, inherited ones included.
+-- The compiled pattern of a constructor string; the texts that the string itself has for components
+-- (`given`), and their places in it; the values of the components, inherited ones included; and
+-- what is noted of each component.
 pub record ExplainedView : Type 0 where
-  pub string : List ℕ
   pub pattern : PatternView PatternRegexp
   pub given : Values
+  pub places : Places
   pub values : Values
+  pub noted : Eight Noted
 
 -- The view of an `Explained`.
 abbrev pub explained_view : Explained → ExplainedView
 explained_view explained = record {
-  string = explained.string.now;
   pattern = pattern_view explained.pattern.now;
   given = values_view explained.init.now;
+  places = explained.places.now;
   values = values_view explained.values.now;
+  noted = explained.noted.now;
 }
 
 -- The eight texts of an input, which are borrowed. `None`: there are no texts.

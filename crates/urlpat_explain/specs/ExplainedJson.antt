@@ -5,7 +5,7 @@ use Rattle.std.specs.declared.alloc.Global.{Global}
 use Rattle.serde_json.specs.Data.{Data, boolean, null, number, string, unsigned}
 use Rattle.serde_json.specs.declared.value.Value.{Value}
 use Rattle.urlpat_explain.specs.Explained.{ExplainedView}
-use Rattle.urlpat_explain.specs.ComponentPlaces.{MayBeAt}
+use Rattle.urlpat_explain.specs.declared.noted.Noted.{Noted}
 use Rattle.urlpat_matching.specs.MatchJson.{json_line}
 use Rattle.urlpattern_matcher.specs.Components.{ComponentView}
 use Rattle.urlpattern_components.specs.Eight.{Texts, at, name_text}
@@ -40,12 +40,19 @@ place_members (Some span) =
     (codes "start", Some (number (unsigned span.start)))
     ∷ (codes "end", Some (number (unsigned span.end))) ∷ []
 
--- The members for the pattern of a component, the origin of its value and its place.
-abbrev pub pattern_members : ExplainedView → ComponentName → Option Span → Named
-pattern_members explained name place =
+-- The members for what is noted of a component.
+abbrev pub noted_members : Noted → Named
+noted_members noted =
+    (codes "has_meaning", Some (boolean noted.has_meaning))
+    ∷ (codes "has_own_groups", Some (boolean noted.has_own_groups)) ∷ []
+
+-- The members for the pattern of a component, the origin of its value, its place, and what is noted
+-- of it.
+abbrev pub pattern_members : ExplainedView → ComponentName → Named
+pattern_members explained name =
     (codes "pattern", Some (string (encode_utf8_all (explained.pattern name).pattern_string)))
     ∷ (codes "origin", Some (string (origin (at explained.given name) (at explained.values name))))
-    ∷ place_members place
+    ∷ (place_members (at explained.places name) ++ noted_members (at explained.noted name))
 
 -- ---- the match of a component
 
@@ -99,10 +106,8 @@ AreInputMembers pattern (Some texts) name members =
 -- matching its text.
 abbrev pub IsExplainedTree : ExplainedView → (texts : Option Texts) → ComponentName → Data → Type 0
 IsExplainedTree explained texts name tree =
-    (place : Option Span) × (members : Named)
-    × MayBeAt explained.string (at explained.given name) place
-    × AreInputMembers explained.pattern texts name members
-    × (tree ≡ object_of (pattern_members explained name place ++ members))
+    (members : Named) × AreInputMembers explained.pattern texts name members
+    × (tree ≡ object_of (pattern_members explained name ++ members))
 
 -- The JSON of a pattern: an object with a key for each component.
 abbrev pub IsExplanationTree : ExplainedView → (texts : Option Texts) → Data → Type 0

@@ -4,25 +4,32 @@ use Rattle.std.specs.Prelude.{◌≡◌, ◌⊎◌, ℕ, Bool, true, false, List
 use Rattle.std.specs.Io.KnownBytes.{Appends}
 use Rattle.std.specs.Str.{chars}
 use Rattle.url.specs.Parts.{Parts}
-use Rattle.urlpat_matching.specs.PatternWords.{IsPatternOf, base_of}
+use Rattle.urlpat_matching.specs.PatternWords.{IsPatternOf, KeepsPartsOfWord, base_of}
 use Rattle.urlpattern_canonical.specs.BaseUrls.{IsRejectedText, IsUrlOf}
 use Rattle.urlpat_matching.specs.Status.{status_of}
+use Rattle.urlpat_explain.specs.ComponentPlaces.{Places, text_places}
 use Rattle.urlpat_explain.specs.Explained.{ExplainedView}
 use Rattle.urlpat_explain.specs.declared.explaining.{Asked.Asked, Explanation.Explanation}
+use Rattle.urlpat_explain.specs.declared.noted.Noted.{Noted}
 use Rattle.urlpat_explain.specs.ExplainedJson.{IsExplanationJson}
-use Rattle.urlpat_explain.specs.OriginNotes.{AreNotes}
+use Rattle.urlpat_explain.specs.Noted.{AreNoted}
+use Rattle.urlpat_explain.specs.OriginNotes.{all_notes}
 use Rattle.urlpat_explain.specs.Rows.{IsMatchTable, pattern_table}
 use Rattle.urlpat_lines.specs.declared.flags.Flags.{Flags}
 use Rattle.urlpattern_compile.specs.Compiled.{pattern_values}
 use Rattle.urlpattern_compile.specs.FromString.{IsInitOfText}
 use Rattle.urlpattern_components.specs.Eight.{Texts, Values}
+use Rattle.urlpattern_components.specs.declared.eight.Eight.{Eight}
 use Rattle.urlpattern_engine.specs.PatternRegexps.{pattern_result, pattern_engine}
 use Rattle.urlpattern_engine.specs.declared.pattern_regexp.PatternRegexp.{PatternRegexp}
+use Rattle.urlpattern_constructor.specs.Splitting.{Starts}
+use Rattle.urlpattern_init.specs.{ConstructorString.SplitsAt, SpecialProtocol.IsSpecialTo}
 use Rattle.urlpattern_init.specs.Inheritance.{texts_of_url, values_view}
 use Rattle.urlpattern_init.specs.declared.init.UrlPatternInit.{UrlPatternInit}
 use Rattle.urlpattern_init.specs.declared.init.UrlPatternMatchInput.TheVariants as match_inputs
 use Rattle.urlpattern_pattern.specs.Match.{TestsInput}
-use Rattle.urlpattern_pattern.specs.Patterns.{PatternView}
+use Rattle.urlpattern_pattern.specs.Patterns.{PatternView, pattern_view}
+use Rattle.urlpattern_pattern.specs.UrlPatterns.{UrlPattern}
 
 -- ---- arguments
 
@@ -63,9 +70,8 @@ abbrev pub IsShown : (json : Bool) → ExplainedView → (texts : Option Texts) 
     → Type 0
 IsShown true explained texts text = IsExplanationJson explained texts text
 IsShown false explained texts text =
-    (table notes : List ℕ) × IsTable explained.pattern texts table
-    × AreNotes explained notes
-    × (text ≡ table ++ notes)
+    (table : List ℕ) × IsTable explained.pattern texts table
+    × (text ≡ table ++ all_notes explained)
 
 -- `found` is the output for a constructor string, with or without the texts of an input, and the
 -- exit status `status`.
@@ -90,31 +96,38 @@ IsExplained json explained base (Some input) found =
     (IsRejectedText input base × IsShownBy json explained None 1 found)
     ⊎ ((url : Parts) × IsUrlOf input base url × IsShownOf json explained url found)
 
--- `found` is the output for the arguments, given the compiled pattern and the init of the
--- constructor string.
-abbrev pub IsExplanationOf : (json : Bool) → PatternView PatternRegexp → UrlPatternInit → AskedView
-    → Explanation → Type 0
-IsExplanationOf json compiled init asked found =
-    (values : Values) × (pattern_values init ≡ Ok values)
+-- `found` is the output for the arguments, given the compiled pattern, the init of the constructor
+-- string, and the places of its texts in the string.
+abbrev pub IsExplanationOf : (json : Bool) → UrlPattern PatternRegexp → UrlPatternInit → Places
+    → AskedView → Explanation → Type 0
+IsExplanationOf json compiled init places asked found =
+    (values : Values) × (noted : Eight Noted)
+    × (pattern_values init ≡ Ok values) × AreNoted compiled noted
     × IsExplained json (record {
-      string = asked.string;
-      pattern = compiled;
+      pattern = pattern_view compiled;
       given = values_view init;
+      places = places;
       values = values;
+      noted = noted;
     }) asked.base asked.input found
 
--- `found` is the output for the arguments, given the compiled pattern.
-abbrev pub IsExplanationBy : (json : Bool) → PatternView PatternRegexp → AskedView → Explanation
+-- `found` is the output for the arguments, given the compiled pattern. The texts of the init have
+-- their places where the split found them in the constructor string.
+abbrev pub IsExplanationBy : (json : Bool) → UrlPattern PatternRegexp → AskedView → Explanation
     → Type 0
 IsExplanationBy json compiled asked found =
-    (init : UrlPatternInit) × IsInitOfText pattern_engine (chars asked.string) asked.base init
-    × IsExplanationOf json compiled init asked found
+    (init : UrlPatternInit) × (starts : Starts)
+    × IsInitOfText pattern_engine (chars asked.string) asked.base init
+    × SplitsAt (IsSpecialTo pattern_engine) (chars asked.string) (values_view init) starts
+    × IsExplanationOf json compiled init (text_places (values_view init) starts) asked found
 
--- `found` is the output for the arguments.
+-- `found` is the output for the arguments. The compiled pattern keeps its parts, by which a
+-- component has a meaning or has none.
 abbrev pub IsExplanation : Flags → AskedView → Explanation → Type 0
 IsExplanation flags asked found =
-    (compiled : PatternView PatternRegexp)
-    × IsPatternOf flags.ignore_case asked.string asked.base compiled
+    (compiled : UrlPattern PatternRegexp)
+    × IsPatternOf flags.ignore_case asked.string asked.base (pattern_view compiled)
+    × KeepsPartsOfWord flags.ignore_case asked.string asked.base compiled
     × IsExplanationBy flags.json compiled asked found
 
 -- The output for the arguments of `explain` is appended to `old`. `status` is the exit status.

@@ -1,4 +1,5 @@
 pub mod Explained
+pub mod Noted
 pub mod Explanations
 pub mod ExplainedJson
 pub mod OriginNotes

@@ -1,10 +1,12 @@
 -- The notes of `explain` on a pattern. Output is bytes. `given` are the texts that the constructor
 -- string has for components, and `values` are the values of the components.
-use Rattle.std.specs.Prelude.{◌≡◌, ◌==◌, ℕ, List, [], ◌++◌, codes, length, Option, None, Some, if◌then◌else◌}
+use Rattle.std.specs.Prelude.{◌==◌, ℕ, Bool, true, false, not, List, [], ◌++◌, codes, length, Option, None, Some, if◌then◌else◌}
 use Rattle.std.specs.List.{flat_map}
 use Rattle.urlpat_explain.specs.Explained.{ExplainedView}
-use Rattle.urlpat_explain.specs.ComponentPlaces.{ArePlaceCells}
-use Rattle.urlpat_explain.specs.declared.origin_notes.TheConstants.{DEFAULT_PORT, EMPTY_PORT, INHERITED, LEFT_OUT, PLACES}
+use Rattle.urlpat_explain.specs.ComponentPlaces.{place_cells}
+use Rattle.urlpat_explain.specs.declared.origin_notes.TheConstants.{DEFAULT_PORT, EMPTY_PORT, INHERITED, LEFT_OUT, NO_MEANING, OWN_GROUPS, PLACES}
+use Rattle.urlpat_explain.specs.declared.noted.Noted.{Noted}
+use Rattle.urlpattern_components.specs.declared.eight.Eight.{Eight}
 use Rattle.urlpattern_components.specs.Eight.{Values, at, components, name_text}
 use Rattle.urlpattern_components.specs.declared.eight.ComponentName.{ComponentName}
 
@@ -49,14 +51,32 @@ value_notes given values =
     ++ names_line LEFT_OUT.now (left_out_names values components)
     ++ port_note given.port values.port
 
--- `places` are the names of the components whose texts have a place in the constructor string, each
--- with that place.
-abbrev pub ArePlaces : ExplainedView → (places : List ℕ) → Type 0
-ArePlaces explained places = ArePlaceCells explained.string explained.given places
+-- A space and the name of a component, if `named`. Otherwise empty.
+abbrev pub name_if : (named : Bool) → ComponentName → List ℕ
+name_if true name = codes " " ++ name_text name
+name_if false name = []
 
--- `notes` are all notes: the places of component texts, what is inherited, what is left out, and
--- what the port is. A note that would name nothing is left out.
-abbrev pub AreNotes : ExplainedView → (notes : List ℕ) → Type 0
-AreNotes explained notes =
-    (places : List ℕ) × ArePlaces explained places
-    × (notes ≡ names_line PLACES.now places ++ value_notes explained.given explained.values)
+-- The names of those of `names` whose components have no meaning, each after a space.
+abbrev pub meaningless_names : Eight Noted → List ComponentName → List ℕ
+meaningless_names noted names =
+    flat_map (λ name. name_if (not (at noted name).has_meaning) name) names
+
+-- The names of those of `names` whose components have custom expressions with groups of their own,
+-- each after a space.
+abbrev pub grouped_names : Eight Noted → List ComponentName → List ℕ
+grouped_names noted names = flat_map (λ name. name_if (at noted name).has_own_groups name) names
+
+-- The notes on the components that have no meaning, and on those with groups of their own in custom
+-- expressions.
+abbrev pub component_notes : Eight Noted → List ℕ
+component_notes noted =
+    names_line NO_MEANING.now (meaningless_names noted components)
+    ++ names_line OWN_GROUPS.now (grouped_names noted components)
+
+-- All notes: the places of component texts, what is inherited, what is left out, what the port is,
+-- and which components have no meaning or groups of their own in custom expressions. A note that
+-- would name nothing is left out.
+abbrev pub all_notes : ExplainedView → List ℕ
+all_notes explained =
+    names_line PLACES.now (place_cells explained.places components)
+    ++ (value_notes explained.given explained.values ++ component_notes explained.noted)

@@ -1,29 +1,36 @@
 //! A constructor string and its pattern, as `explain` shows them.
 
-ghost use Rattle.std.specs.Prelude.{◌≡◌, IfSome};
+ghost use Rattle.std.specs.Prelude.{◌≡◌};
+ghost use Rattle.std.specs.Str.{chars};
 ghost use Rattle.urlpat_explain.specs.Explained.{explained_view};
 ghost use Rattle.urlpat_explain.specs.ExplainedJson.{origin};
-ghost use Rattle.urlpat_explain.specs.ComponentPlaces.{IsSpanOf, MayBeAt};
+ghost use Rattle.urlpat_explain.specs.ComponentPlaces.{text_place, text_places};
 ghost use Rattle.urlpattern_components.specs.Eight.{at};
+ghost use Rattle.urlpattern_constructor.specs.Splitting.{HasComponentsAt};
+ghost use Rattle.urlpattern_init.specs.Inheritance.{values_view};
 ghost use Rattle.urlpattern_syntax.specs.Text.{option_text};
 
+use crate::noted::Noted;
+use urlpattern_compile::span_of;
 use urlpattern_components::{ComponentName, Eight};
-use urlpattern_diagnosis::{Span, component_start};
+use urlpattern_diagnosis::Span;
 use urlpattern_engine::PatternRegexp;
 use urlpattern_init::UrlPatternInit;
 use urlpattern_pattern::UrlPattern;
 
-/// What `explain` explains: a constructor string with its pattern and the values of its components.
+/// What `explain` explains: the pattern of a constructor string, and the values of its components.
 #[derive(Clone, Copy)]
 pub struct Explained<'a> {
-    /// The constructor string.
-    pub string: &'a str,
     /// The pattern to which the constructor string is compiled.
     pub pattern: &'a UrlPattern<PatternRegexp>,
     /// The texts that the constructor string itself has for components.
     pub init: &'a UrlPatternInit,
+    /// The places of these texts in the constructor string.
+    pub places: &'a Eight<Option<Span>>,
     /// The values of the components, inherited ones included.
     pub values: &'a UrlPatternInit,
+    /// What is noted of each component.
+    pub noted: &'a Eight<Noted>,
 }
 
 impl Explained<'_> {
@@ -37,33 +44,18 @@ impl Explained<'_> {
         origin_of(self.init.get(name), self.values.get(name))
     }
 
-    /// The place of a component's text in the constructor string, in bytes. `None`: the string has
-    /// no text for the component, or only implies one, or the text is empty.
-    pub fn place(&self, name: ComponentName) -> Option<Span>
-        ensures { MayBeAt (explained_view self.now).string (at (explained_view self.now).given name)
-            result }
+    /// What is noted of a component.
+    pub fn noted(&self, name: ComponentName) -> Noted
+        ensures { result ≡ at (explained_view self.now).noted name }
     {
-        let text = self.init.get(name)?;
-        span_at(
-            self.string,
-            text,
-            component_start(self.string, &self.given(), name),
-        )
+        *self.noted.get(name)
     }
 
-    /// The texts that the constructor string itself has for components.
-    fn given(&self) -> Eight<Option<&str>> {
-        let init = self.init;
-        Eight {
-            protocol: init.get(ComponentName::Protocol),
-            username: init.get(ComponentName::Username),
-            password: init.get(ComponentName::Password),
-            hostname: init.get(ComponentName::Hostname),
-            port: init.get(ComponentName::Port),
-            pathname: init.get(ComponentName::Pathname),
-            search: init.get(ComponentName::Search),
-            hash: init.get(ComponentName::Hash),
-        }
+    /// The place of a component's text in the constructor string, if it has one.
+    pub fn place(&self, name: ComponentName) -> Option<Span>
+        ensures { result ≡ at (explained_view self.now).places name }
+    {
+        *self.places.get(name)
     }
 }
 
@@ -79,16 +71,40 @@ fn origin_of(given: Option<&str>, value: Option<&str>) -> &'static str
     }
 }
 
-/// The span of a text in a string that has it at byte `start`. `None`: the string does not have it
-/// there, or the text is empty.
-fn span_at(string: &str, text: &str, start: usize) -> Option<Span>
-    ensures { IfSome result (IsSpanOf string.now text.now) }
+/// The places of component texts in a constructor string, which is split into `init` and has the
+/// text of each component at its byte of `starts`.
+pub fn text_places(
+    string: &str,
+    init: &UrlPatternInit,
+    starts: &Eight<Option<usize>>,
+) -> Eight<Option<Span>>
+    requires { HasComponentsAt (chars string.now) (values_view init.now) starts.now }
+    ensures { result ≡ text_places (values_view init.now) starts.now }
 {
-    let end = start.checked_add(text.len())?;
-    let found = string.as_bytes().get(start..end)?;
-    if start < end && found == text.as_bytes() {
-        Some(Span { start, end })
-    } else {
-        None
+    let place = |name: ComponentName| -> Option<Span>
+        requires { HasComponentsAt (chars string.now) (values_view init.now) starts.now }
+        ensures { result
+            ≡ text_place (at (values_view init.entry.now) name) (at starts.entry.now name) }
+    { text_place(string, init, starts, name) };
+    Eight::from_fn(place)
+}
+
+/// The place of a component's text among those of `text_places`. `None`: the string lacks the text
+/// or implies it, or the text is empty.
+fn text_place(
+    string: &str,
+    init: &UrlPatternInit,
+    starts: &Eight<Option<usize>>,
+    name: ComponentName,
+) -> Option<Span>
+    requires { HasComponentsAt (chars string.now) (values_view init.now) starts.now }
+    ensures { result ≡ text_place (at (values_view init.now) name) (at starts.now name) }
+{
+    let text = init.get(name)?;
+    if text.is_empty() {
+        return None;
     }
+    let first = (*starts.get(name))?;
+    let span = span_of(string, first, text.len());
+    Some(span)
 }

@@ -4,12 +4,13 @@ ghost use Rattle.serde_json.specs.View.{view};
 ghost use Rattle.std.specs.Prelude.{◌≡◌, Some, string_bytes, IfOk, OnOk};
 ghost use Rattle.std.specs.Str.{chars};
 ghost use Rattle.urlpat_explain.specs.Explained.{explained_view, lent_texts, named_captures};
-ghost use Rattle.urlpat_explain.specs.ExplainedJson.{GainsTree, GainsMatch, IsExplainedTree, IsExplanationJson, IsExplanationTree, capture_tree, groups_named, pattern_members, place_members, verdict_members};
+ghost use Rattle.urlpat_explain.specs.ExplainedJson.{GainsTree, GainsMatch, IsExplainedTree, IsExplanationJson, IsExplanationTree, capture_tree, groups_named, noted_members, pattern_members, place_members, verdict_members};
 ghost use Rattle.urlpattern_matcher.specs.Components.{component_view};
 ghost use Rattle.urlpattern_inputs.specs.Trees.{GainAll, object_of};
 ghost use Rattle.urlpattern_syntax.specs.Text.{option_text};
 
 use crate::explained::Explained;
+use crate::noted::Noted;
 use serde_json::{Map, Value};
 use std::alloc::{AllocError, Global};
 use urlpat_matching::json_line;
@@ -79,9 +80,8 @@ fn component_tree(
     ensures { IfOk result (λ tree.
         IsExplainedTree (explained_view explained.now) (lent_texts texts.entry) name (view tree)) }
 {
-    let place = explained.place(name);
     let mut members = Map::new(alloc);
-    put_pattern(&mut members, alloc, explained, name, place)?;
+    put_pattern(&mut members, alloc, explained, name)?;
     let Some(texts) = texts else {
         return Ok(Value::Object(members));
     };
@@ -94,23 +94,44 @@ fn component_tree(
     Ok(Value::Object(members))
 }
 
-/// Inserts the pattern of a component into an object, with the origin of its value, and its place
-/// if it has one.
+/// Inserts the pattern of a component into an object, with the origin of its value, its place if it
+/// has one, and what is noted of it.
 fn put_pattern(
     members: &mut Map<String, Value>,
     alloc: Global,
     explained: &Explained<'_>,
     name: ComponentName,
-    place: Option<Span>,
 ) -> Result<(), AllocError>
     ensures { OnOk result (GainAll members.old.entries members.new.entries
-        (pattern_members (explained_view explained.now) name place)) }
+        (pattern_members (explained_view explained.now) name)) }
 {
     let pattern = &explained.pattern.get(name).pattern_string;
     put_text(members, alloc, "pattern", pattern)?;
     put_text(members, alloc, "origin", explained.origin(name))?;
-    put_place(members, alloc, place)?;
+    put_place(members, alloc, explained.place(name))?;
+    put_noted(members, alloc, explained.noted(name))?;
     Ok(())
+}
+
+/// Inserts what is noted of a component into an object.
+fn put_noted(
+    members: &mut Map<String, Value>,
+    alloc: Global,
+    noted: Noted,
+) -> Result<(), AllocError>
+    ensures { OnOk result (GainAll members.old.entries members.new.entries (noted_members noted)) }
+{
+    let Noted {
+        has_meaning,
+        has_own_groups,
+    } = noted;
+    serde_json::put(members, alloc, "has_meaning", Value::from(has_meaning))?;
+    serde_json::put(
+        members,
+        alloc,
+        "has_own_groups",
+        Value::from(has_own_groups),
+    )
 }
 
 /// Inserts a place into an object, if there is one.

@@ -9,8 +9,9 @@ ghost use Rattle.urlpat_lines.specs.Words.{words_view};
 ghost use Rattle.urlpattern_pattern.specs.Patterns.{pattern_view};
 
 use crate::columns::{match_table, pattern_table};
-use crate::explained::Explained;
+use crate::explained::{Explained, text_places};
 use crate::explained_json::explanation_json;
+use crate::noted::noted_of;
 use crate::origin_notes::push_notes;
 use std::alloc::Global;
 use std::io::Write;
@@ -18,9 +19,10 @@ use urlpat_lines::Flags;
 use urlpat_matching::{
     DONE, FAILED, Failure, NO_MATCH, base_of, compiled, fail, note_of, print, write_refusal,
 };
-use urlpattern_canonical::find_url;
-use urlpattern_compile::{init_of_text, pattern_values};
+use urlpattern_canonical::{find_url, parse_base};
+use urlpattern_compile::pattern_values;
 use urlpattern_components::Eight;
+use urlpattern_diagnosis::Span;
 use urlpattern_engine::PatternRegexp;
 use urlpattern_init::UrlPatternInit;
 use urlpattern_matches::url_texts;
@@ -129,31 +131,40 @@ fn explanation_for(alloc: Global, asked: Asked<'_>, flags: Flags) -> Result<Expl
     ensures status { IfOk result (λ found. (found.status ≡ DONE) ⊎ (found.status ≡ NO_MATCH)) }
 {
     let pattern = compiled(alloc, asked.string, asked.base, flags.ignore_case)?;
-    let init = init_of_text::<PatternRegexp>(alloc, asked.string, asked.base)?;
-    let found = explanation_of(alloc, asked, flags.json, &pattern, &init);
+    let base = parse_base(alloc, asked.base)?;
+    let (init, starts) = UrlPatternInit::parse_constructor_string_with_starts::<PatternRegexp>(
+        alloc,
+        asked.string,
+        base,
+    )?;
+    let places = text_places(asked.string, &init, &starts);
+    let found = explanation_of(alloc, asked, flags.json, &pattern, &init, &places);
     drop(init);
     found
 }
 
-/// The output of `explain` for its arguments, given the compiled pattern and the init of the
-/// constructor string.
+/// The output of `explain` for its arguments, given the compiled pattern, the init of the
+/// constructor string, and the places of its texts in the string.
 fn explanation_of(
     alloc: Global,
     asked: Asked<'_>,
     json: bool,
     pattern: &UrlPattern<PatternRegexp>,
     init: &UrlPatternInit,
+    places: &Eight<Option<Span>>,
 ) -> Result<Explanation, Error>
-    ensures text { IfOk result
-        (IsExplanationOf json (pattern_view pattern.now) init.now (asked_view asked.entry)) }
+    ensures text { IfOk result (IsExplanationOf json pattern.now init.now places.now
+        (asked_view asked.entry)) }
     ensures status { IfOk result (λ found. (found.status ≡ DONE) ⊎ (found.status ≡ NO_MATCH)) }
 {
+    let noted = noted_of(alloc, pattern)?;
     let values = pattern_values(alloc, init)?;
     let explained = Explained {
-        string: asked.string,
         pattern,
         init,
+        places,
         values: &values,
+        noted: &noted,
     };
     let found = answer(alloc, &explained, json, asked.base, asked.input);
     drop(values);

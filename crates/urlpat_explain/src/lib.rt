@@ -8,6 +8,7 @@ mod explaining;
 mod given_words;
 mod link_command;
 mod link_reason;
+mod noted;
 mod origin_notes;
 
 pub use explaining::explain;

@@ -17,11 +17,14 @@ pub(crate) fn write_reason<Err: Write>(reason: &LinkError<'_>, err: &mut Err) ->
     }
 }
 
-/// Writes the reason of the library, and which argument to add if the text for a group is missing.
+/// Writes the reason of the library, or which argument to add if the text for a group is missing.
 fn write_refusal<Err: Write>(refusal: &NoLink, err: &mut Err) -> io::Result<()> {
     match refusal {
         NoLink::Component(GenerateError::Missing(component, name)) => {
-            writeln!(err, "{refusal}: give {component}.{name}=VALUE")
+            writeln!(
+                err,
+                "the group `{component}.{name}` is missing: give {component}.{name}=VALUE"
+            )
         }
         _ => writeln!(err, "{refusal}"),
     }

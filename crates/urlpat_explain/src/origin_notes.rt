@@ -1,17 +1,19 @@
 //! Notes on a pattern: where its components are in the constructor string, what it inherits from
-//! the base URL, what it leaves out, and what its port is.
+//! the base URL, what it leaves out, what its port is, and which components have no meaning or have
+//! groups of their own in custom expressions.
 
 ghost use Rattle.std.specs.Prelude.{◌≡◌, string_bytes, IfOk, OnOk};
-ghost use Rattle.urlpat_matching.specs.GroupLines.{AppendsLines};
 ghost use Rattle.urlpat_explain.specs.Explained.{explained_view, AppendsBytes};
-ghost use Rattle.urlpat_explain.specs.OriginNotes.{AreNotes, ArePlaces, inherited_name, left_out_name, names_line, port_note, value_notes};
-ghost use Rattle.urlpat_explain.specs.ComponentPlaces.{place_cell};
+ghost use Rattle.urlpat_explain.specs.OriginNotes.{all_notes, component_notes, inherited_name, left_out_name, name_if, names_line, port_note, value_notes};
+ghost use Rattle.urlpat_explain.specs.ComponentPlaces.{place_cell, place_cells};
+ghost use Rattle.urlpattern_components.specs.Eight.{components};
 ghost use Rattle.urlpattern_init.specs.Inheritance.{values_view};
 ghost use Rattle.urlpattern_syntax.specs.Text.{option_text};
 
 use crate::explained::Explained;
+use crate::noted::Noted;
 use std::alloc::{AllocError, Global};
-use urlpattern_components::ComponentName;
+use urlpattern_components::{ComponentName, Eight};
 use urlpattern_diagnosis::Span;
 use urlpattern_init::UrlPatternInit;
 
@@ -24,6 +26,15 @@ const INHERITED: &str = "inherited from the base URL:";
 /// The beginning of the note that names the components that are neither given nor inherited.
 const LEFT_OUT: &str = "left out, so that any text matches:";
 
+/// The beginning of the note that names the components that have no meaning.
+const NO_MEANING: &str = "\
+no meaning, since case is ignored or an expression is not as simple as \\d+ or en|fr:";
+
+/// The beginning of the note that names the components whose custom expressions have groups of
+/// their own.
+const OWN_GROUPS: &str = "\
+groups inside an expression shift the names after them, write (?:..) instead:";
+
 /// The note on a port that is empty.
 const EMPTY_PORT: &str = "the port is empty: only the default port of the protocol matches\n";
 
@@ -31,26 +42,30 @@ const EMPTY_PORT: &str = "the port is empty: only the default port of the protoc
 const DEFAULT_PORT: &str = "the port is the default port of the protocol, which a URL leaves out\n";
 
 /// Appends the notes on a constructor string: where its components are, what is inherited, what is
-/// left out, and what the port is. A note that would name nothing is left out.
+/// left out, what the port is, and which components have no meaning or have groups of their own in
+/// custom expressions. A note that would name nothing is left out.
 pub fn push_notes(
     alloc: Global,
     text: &mut String,
     explained: &Explained<'_>,
 ) -> Result<(), AllocError>
     ensures { OnOk result
-        (AppendsLines (AreNotes (explained_view explained.now)) text.old text.new) }
+        (AppendsBytes text.old text.new (all_notes (explained_view explained.now))) }
 {
     let places = places_of(alloc, explained)?;
     let notes = value_notes(alloc, explained.init, explained.values)?;
+    let component_notes = component_notes(alloc, explained.noted)?;
     push_names(text, PLACES, &places)?;
     text.push_str(&notes)?;
+    text.push_str(&component_notes)?;
     Ok(())
 }
 
 /// The name and the place of each component whose text has a place in the constructor string, with
 /// a space before each.
 fn places_of(alloc: Global, explained: &Explained<'_>) -> Result<String, AllocError>
-    ensures { IfOk result (λ cells. ArePlaces (explained_view explained.now) (string_bytes cells)) }
+    ensures { IfOk result (λ cells.
+        string_bytes cells ≡ place_cells (explained_view explained.now).places components) }
 {
     let mut cells = String::new(alloc);
     for name in ComponentName::all() {
@@ -133,6 +148,35 @@ fn push_left_out(
         (AppendsBytes names.old names.new (left_out_name name (option_text value.entry))) }
 {
     if value.is_none() {
+        names.push(' ')?;
+        names.push_str(name.as_str())?;
+    }
+    Ok(())
+}
+
+/// The notes on the components that have no meaning, and on those whose custom expressions have
+/// groups of their own.
+fn component_notes(alloc: Global, noted: &Eight<Noted>) -> Result<String, AllocError>
+    ensures { IfOk result (λ notes. string_bytes notes ≡ component_notes noted.now) }
+{
+    let mut meaningless = String::new(alloc);
+    let mut grouped = String::new(alloc);
+    for name in ComponentName::all() {
+        let component = noted.get(name);
+        push_name_if(&mut meaningless, !component.has_meaning, name)?;
+        push_name_if(&mut grouped, component.has_own_groups, name)?;
+    }
+    let mut notes = String::new(alloc);
+    push_names(&mut notes, NO_MEANING, &meaningless)?;
+    push_names(&mut notes, OWN_GROUPS, &grouped)?;
+    Ok(notes)
+}
+
+/// Appends a space and the name of a component, if `named`.
+fn push_name_if(names: &mut String, named: bool, name: ComponentName) -> Result<(), AllocError>
+    ensures { OnOk result (AppendsBytes names.old names.new (name_if named name)) }
+{
+    if named {
         names.push(' ')?;
         names.push_str(name.as_str())?;
     }

@@ -154,13 +154,14 @@ example: urlpat link /users/:id https://example.com/ id=7
 /// The help text of `covers`.
 const COVERS_HELP: &str = "\
 Prints `covered` if a pattern matches whatever another one, the asked one, matches. If not, prints in which component they part, and
-a text for each component that the asked one matches, and ends with status 1.
+a text for each component that the asked one matches, if one is known. Ends with status 1 then.
 
 usage: urlpat covers PATTERN ASKED
 
 A component with a custom expression is covered by one with the same parts, whatever the names of
-their groups, and by one that takes any text, such as *. Nothing else is known of it. Where it is not
-known whether a pattern covers another, the status is 2. The texts need not be those of a URL.
+their groups, and by one that takes any text, such as *. Nothing else is known of it. Where no other
+component decides, it is not known whether a pattern covers another, and the status is 2. The texts
+need not be those of a URL.
 
 example: urlpat covers 'https://example.com/*' 'https://example.com/users/:id'
 ";

@@ -16,8 +16,8 @@ use Rattle.urlpattern_compare.specs.declared.pattern_parts.PatternParts.{Pattern
 
 -- ---- doubts
 
--- The pattern is known not to cover the asked one: the asked one matches eight texts, and the
--- pattern does not match one of them.
+-- The pattern is known not to cover the asked one: a component does not match a text that the asked
+-- one's matches.
 abbrev pub HasParting : (asked pattern : PatternParts) → Type 0
 HasParting asked pattern = (parting : Parting) × IsParting pattern asked parting
 

@@ -34,16 +34,17 @@ ComparesWith pattern asked covering =
 
 -- ---- output
 
--- A line with the name of a component and its text.
-abbrev pub text_line : Eight (String Global) → ComponentName → List ℕ
-text_line texts name = name_text name ++ codes "=" ++ string_bytes (at texts name) ++ codes "\n"
+-- A line with the name of a component and its text. Nothing if no text is known.
+abbrev pub text_line : (name : ComponentName) → Option (String Global) → List ℕ
+text_line name None = []
+text_line name (Some text) = name_text name ++ codes "=" ++ string_bytes text ++ codes "\n"
 
--- A line for each component, with its name and its text.
-abbrev pub text_lines : Eight (String Global) → List ℕ
-text_lines texts = flat_map (text_line texts) components
+-- A line for each component of which a text is known, with its name and the text.
+abbrev pub text_lines : Eight (Option (String Global)) → List ℕ
+text_lines texts = flat_map (λ name. text_line name (at texts name)) components
 
--- A line with the component in which two patterns differ, and a line with the text of each
--- component, of eight texts that only the asked pattern matches.
+-- A line with the component in which two patterns differ, and a line with each text that is known
+-- of a component, of texts that the asked pattern matches.
 abbrev pub parting_lines : Parting → List ℕ
 parting_lines parting =
     codes "not covered: " ++ name_text parting.component ++ codes "\n" ++ text_lines parting.texts

@@ -3,7 +3,7 @@
 ghost use Rattle.std.specs.Io.KnownBytes.{Appends};
 ghost use Rattle.std.specs.Prelude.{◌≡◌, ◌≢◌, ◌⊎◌, ◌++◌, string_bytes, IfOk, IfSome, OnOk, None};
 ghost use Rattle.urlpat_lines.specs.Words.{words_view};
-ghost use Rattle.urlpat_rules.specs.PrintedCoverings.{ArePartsOf, ComparesWith, PrintsCovering, PrintsWhether, parting_lines, text_lines};
+ghost use Rattle.urlpat_rules.specs.PrintedCoverings.{ArePartsOf, ComparesWith, PrintsCovering, PrintsWhether, parting_lines, text_line, text_lines};
 
 use crate::doubt_reason::reason_text;
 use crate::text_parts::parts_of_text;
@@ -107,9 +107,9 @@ fn print_covering<Out: Write, Err: Write>(
     }
 }
 
-/// Writes the component in which two patterns differ, and eight texts that only the asked one
-/// matches. Returns the exit status: `NO_MATCH`, or `FAILED` if memory runs out or the output
-/// cannot be written.
+/// Writes the component in which two patterns differ, and the texts that are known of those that
+/// the asked one matches. Returns the exit status: `NO_MATCH`, or `FAILED` if memory runs out or
+/// the output cannot be written.
 fn print_difference<Out: Write, Err: Write>(
     alloc: Global,
     parting: &Parting,
@@ -130,8 +130,8 @@ fn print_difference<Out: Write, Err: Write>(
     }
 }
 
-/// A line with the component in which two patterns differ, and a line with the text of each
-/// component, of eight texts that only the asked pattern matches.
+/// A line with the component in which two patterns differ, and a line with each text that is known
+/// of a component, of texts that the asked pattern matches.
 fn difference_text(alloc: Global, parting: &Parting) -> Result<String, AllocError>
     ensures { IfOk result (λ text. string_bytes text ≡ parting_lines parting.now) }
 {
@@ -142,14 +142,30 @@ fn difference_text(alloc: Global, parting: &Parting) -> Result<String, AllocErro
     Ok(text)
 }
 
-/// Appends a line for each component, with its name and its text.
-fn push_texts(text: &mut String, texts: &Eight<String>) -> Result<(), AllocError>
+/// Appends a line for each component of which a text is known, with its name and the text.
+fn push_texts(text: &mut String, texts: &Eight<Option<String>>) -> Result<(), AllocError>
     ensures { OnOk result (string_bytes text.new ≡ string_bytes text.old ++ text_lines texts.now) }
 {
     for name in ComponentName::all() {
+        push_text(text, name, texts.get(name))?;
+    }
+    Ok(())
+}
+
+/// Appends a line with the name of a component and its text. If no text is known, nothing is
+/// appended.
+fn push_text(
+    text: &mut String,
+    name: ComponentName,
+    found: &Option<String>,
+) -> Result<(), AllocError>
+    ensures { OnOk result (string_bytes text.new
+        ≡ string_bytes text.old ++ text_line name found.now) }
+{
+    if let Some(found) = found {
         text.push_str(name.as_str())?;
         text.push('=')?;
-        text.push_str(texts.get(name))?;
+        text.push_str(found)?;
         text.push('\n')?;
     }
     Ok(())

@@ -5,3 +5,4 @@ pub mod ListLemmas
 pub mod NextLemmas
 pub mod PatternMapLemmas
 pub mod UnreachedLemmas
+pub mod NeverFirst

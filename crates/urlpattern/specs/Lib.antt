@@ -6,6 +6,12 @@ pub use Rattle.urlpattern_printing.specs.Generated
 pub use Rattle.urlpattern_matcher.specs.Matchers
 pub use Rattle.urlpattern_printing.specs.NormalForms
 pub use Rattle.urlpattern_matcher.specs.Regexes
+pub use Rattle.urlpattern_expressions.specs.Expressions
+pub use Rattle.urlpattern_expressions.specs.MatchedPartTexts
+pub use Rattle.urlpattern_expressions.specs.PartCaptures
+pub use Rattle.urlpattern_expressions.specs.PartWays
+pub use Rattle.urlpattern_expressions.specs.PartsFirst
+pub use Rattle.urlpattern_expressions.specs.SimpleExpressions
 pub use Rattle.urlpattern_diagnosis.specs.Faults
 pub use Rattle.urlpattern_diagnosis.specs.PatternOffsets
 pub use Rattle.urlpattern_diagnosis.specs.Spans
@@ -46,6 +52,7 @@ pub use Rattle.urlpattern_matches.specs.MatchInput
 pub use Rattle.urlpattern_pattern.specs.MatchMeaning
 pub use Rattle.urlpattern_pattern.specs.Mismatch
 pub use Rattle.urlpattern_pattern.specs.ComponentTexts
+pub use Rattle.urlpattern_pattern.specs.KeptMeanings
 pub use Rattle.urlpattern_pattern.specs.KeptParts
 pub use Rattle.urlpattern_pattern.specs.LinkedUrls
 pub use Rattle.urlpattern_pattern.specs.Patterns

@@ -1,5 +1,5 @@
 -- Patterns with values, and the first match among them.
-use Rattle.std.specs.Prelude.{◌≡◌, ℕ, List, Option, Some, IfSome, option_map, slice_get}
+use Rattle.std.specs.Prelude.{◌≡◌, ◌∷◌, ◌++◌, ℕ, List, Option, Some, IfSome, option_map, slice_get}
 use Rattle.std.specs.Borrow.{Bor}
 use Rattle.std.specs.Map.{keys_of, values_of}
 use Rattle.urlpattern_pattern.specs.UrlPatterns.{UrlPattern}
@@ -26,3 +26,10 @@ first_entry_view found = option_map (λ first. (first.0, pattern_captures_view f
 abbrev pub HasValueAt : {K T M : Type 0} → List (K × T) → Option (ℕ × Bor T × M) → Type 0
 HasValueAt entries found =
     IfSome found (λ first. slice_get (values_of entries) first.0 ≡ Some first.1.now)
+
+-- `after` is `before` with the entries before `refused` appended, and none of the others.
+abbrev pub AppendsUntilRefused : {A : Type 0} → (before entries after : List A) → Type 0
+AppendsUntilRefused {A} before entries after =
+    (appended : List A) × (refused : A) × (others : List A)
+    × (entries ≡ appended ++ refused ∷ others)
+    × (after ≡ before ++ appended)

@@ -4,7 +4,8 @@
 use Rattle.std.specs.Prelude.{⊤, ℕ, false, List, Option}
 use Rattle.urlpattern_matcher.specs.{Components.FlagsAgree, Components.IsEngineOf, Regexes.regex_engine, FirstWays.EachReturnsFirst}
 use Rattle.urlpattern_matcher.specs.declared.regexp.RegExp.{Ghosts as Engine}
-use Rattle.urlpattern_laws.specs.LawsOfTexts.{CapturesAreAsNames, HasNumbers, MatchersCapture, AcceptedAlone}
+use Rattle.urlpattern_laws.specs.LawsOfTexts.{CapturesAreAsNames, MatchersCapture}
+use Rattle.urlpattern_pattern.specs.ByText.{AcceptedAlone}
 use Rattle.urlpattern_laws.specs.LawsOfWays.{FirstWaysAreOfTrees, MatchersReturnFirstOfParts}
 use Rattle.urlpattern_engine.specs.PatternRegexps.{pattern_engine}
 use Rattle.urlpattern_meaning.specs.{Dialect.IsOnlyTreeOf, Dialect.Items, FirstResults.ReturnsByFirstWay, FirstResults.AcceptedText}
@@ -62,11 +63,11 @@ PatternEngineReturnsTheFirstWay =
 -- A matcher made by `regex::Regex` or by `PatternRegexp` returns what parts with custom expressions
 -- capture, one capture for each name, or `None` where the parts do not match, if case is kept and
 -- the expressions stand alone and capture nothing themselves. An engine that is needed has to
--- accept the regular expression, which has at most 2³² characters for `PatternRegexp`.
+-- accept the regular expression.
 abbrev pub CustomPartsAreMatched : Type 0
 CustomPartsAreMatched =
-    MatchersCapture regex_engine (λ regexp. ⊤) (λ options flags. AcceptedText (λ regex. ⊤))
-    × MatchersCapture pattern_engine HasNumbers AcceptedAlone
+    MatchersCapture regex_engine (λ options flags. AcceptedText (λ regex. ⊤))
+    × MatchersCapture pattern_engine AcceptedAlone
     × CapturesAreAsNames
 
 -- When several captures are possible, a matcher made by `regex::Regex` or by `PatternRegexp`
@@ -75,9 +76,8 @@ CustomPartsAreMatched =
 -- first way of their tree.
 abbrev pub CustomPartsAreMatchedByTheFirstWay : Type 0
 CustomPartsAreMatchedByTheFirstWay =
-    MatchersReturnFirstOfParts regex_engine (λ regexp. ⊤) (λ options flags. AcceptedText (λ regex.
-    ⊤))
-    × MatchersReturnFirstOfParts pattern_engine HasNumbers AcceptedAlone × FirstWaysAreOfTrees
+    MatchersReturnFirstOfParts regex_engine (λ options flags. AcceptedText (λ regex. ⊤))
+    × MatchersReturnFirstOfParts pattern_engine AcceptedAlone × FirstWaysAreOfTrees
 
 -- The printed pattern of parts that were read under the standard's options reads as the parts,
 -- neighbouring plain fixed texts joined, under each encoding that keeps their texts, provided that

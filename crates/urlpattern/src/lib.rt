@@ -25,7 +25,7 @@ pub use urlpattern_laws::laws;
 pub use urlpattern_matcher::{component, matcher};
 pub use urlpattern_matches::{
     UrlPatternCaptures, UrlPatternCapturesIter, UrlPatternComponentResult, UrlPatternGroups,
-    UrlPatternResult, pathname_texts, url_texts,
+    UrlPatternResult, are_lines, is_line, pathname_texts, url_texts,
 };
 pub use urlpattern_parser::{parser, tokenizer};
 pub use urlpattern_pattern::{CompareError, UrlPattern};

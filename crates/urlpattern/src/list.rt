@@ -30,6 +30,7 @@ use pattern_fixed::fixed_of;
 use std::alloc::Global;
 use std::marker::Model;
 use std::slice;
+pub use unreached::unreachable_patterns_are_never_first;
 use url::{Url, quirks};
 use urlpattern_index::{Address, AddressHashes, Index};
 use urlpattern_init::UrlPatternMatchInput;

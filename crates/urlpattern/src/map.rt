@@ -5,11 +5,11 @@
 ghost use Rattle.std.specs.List.{remove};
 ghost use Rattle.std.specs.Map.{keys_of};
 ghost use Rattle.std.specs.Map.Iter.{deref_pair, ShowsInOrder};
-ghost use Rattle.std.specs.Prelude.{◌≡◌, ◌==◌, ◌++◌, [], ◌∷◌, ℕ, length, option_map, slice_get, take, IfErr, IfOk, OnErr, OnOk};
+ghost use Rattle.std.specs.Prelude.{◌≡◌, ◌==◌, ◌++◌, [], ◌∷◌, length, option_map, slice_get, IfErr, IfOk, OnErr, OnOk};
 ghost use Rattle.urlpattern_init.specs.Inheritance.{texts_of_url};
 ghost use Rattle.urlpattern_init.specs.declared.init.UrlPatternMatchInput.TheVariants as inputs;
 ghost use Rattle.urlpattern.specs.FirstMatch.{CallsEngineBeforeMatch, HasGroupsInOrder, IsFirstMatch};
-ghost use Rattle.urlpattern.specs.PatternMaps.{entry_patterns, first_entry_view, HasValueAt, without_value};
+ghost use Rattle.urlpattern.specs.PatternMaps.{entry_patterns, first_entry_view, AppendsUntilRefused, HasValueAt, without_value};
 ghost use Rattle.urlpattern.specs.Unreached.{AreUnreached, LacksParts};
 ghost use Rattle.urlpattern_pattern.specs.UrlPatterns.{UrlPattern};
 ghost use Rattle.urlpattern_syntax.specs.Errors.{OnlyOutOfMemory};
@@ -189,9 +189,10 @@ impl<T, R: RegExp> UrlPatternMap<T, R> {
     /// Lists each pattern that an earlier one is known to cover, with the first such pattern, as
     /// `UrlPatternList::unreachable` does.
     ///
-    /// The error is `NoParts` if a pattern has no parts, or `OutOfMemory`.
+    /// The error is `NoParts` if a pattern has no parts, else `OutOfMemory`.
     pub fn unreachable(&self, alloc: Global) -> Result<Vec<Shadowed>, CompareError>
-        ensures found { IfOk result (λ found. AreUnreached (keys_of self.now) found.items) }
+        ensures found { IfOk result (λ found.
+            AreUnreached R.RegExp (keys_of self.now) found.items) }
         ensures missing { IfErr result (LacksParts (keys_of self.now)) }
     {
         self.patterns.unreachable(alloc)
@@ -215,12 +216,12 @@ impl<T: Drop, R: RegExp> UrlPatternMap<T, R> {
 
     /// Appends patterns with their values, in order.
     ///
-    /// If memory runs out, the entries before the first one that found no room are appended, and
-    /// the others are dropped.
+    /// If memory runs out, the entries before the first one that finds no room are appended, and
+    /// that entry and all after it are dropped.
     pub fn extend(&mut self, entries: Vec<(UrlPattern<R>, T)>) -> Result<(), Error>
         ensures appended { OnOk result (self.new ≡ self.old ++ entries.items) }
-        ensures some { OnErr result
-            ((taken : ℕ) × (self.new ≡ self.old ++ take taken entries.items)) }
+        ensures until_refused { OnErr result
+            (AppendsUntilRefused self.old entries.items self.new) }
         ensures memory { OnlyOutOfMemory result }
     {
         for (pattern, value) in entries {

@@ -4,6 +4,10 @@
 //! A compiled pattern keeps its parts: `UrlPattern::parts` borrows them, `UrlPattern::into_parts`
 //! moves them out. No URL is needed.
 
+pub use crate::list::unreachable_patterns_are_never_first;
+pub use urlpattern_compare::comparing_laws::{
+    decided_comparisons_are_known, small_components_are_compared,
+};
 pub use urlpattern_compare::order_laws::parts_are_in_order;
 pub use urlpattern_compare::{
     Parting, PatternCovering, PatternOverlap, PatternParts, Reason, Shadowed, compare_parts,

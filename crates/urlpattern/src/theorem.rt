@@ -36,7 +36,7 @@ use crate::regexp::RegExp;
 ///   the expressions stand alone and capture nothing themselves (`stands_alone`,
 ///   `captures_nothing`): a matcher returns what the parts capture, where a custom part matches
 ///   what its expression matches by itself. An engine that is needed has to accept the regular
-///   expression, which has at most 2³² characters for `PatternRegexp`.
+///   expression.
 /// - `custom_first`: when several captures are possible, a matcher with custom parts returns those
 ///   of the first way of the parts (`parts_first_way`), which tries the choices of a custom
 ///   expression in the order in which the grammar of `regex` prefers them. Without a custom part

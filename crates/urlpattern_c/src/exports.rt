@@ -6,6 +6,7 @@ ghost use Rattle.urlpattern_c.specs.Returns.{ReportsCaptures, ReportsFirstMatch,
 ghost use Rattle.urlpattern_ffi.specs.Calls.{IsAdded, IsFirstReported, IsTested, ReturnsStatus};
 ghost use Rattle.urlpattern_ffi.specs.ReportedCoverings.{IsCoveringReported};
 ghost use Rattle.urlpattern_ffi.specs.ReportedDiagnoses.{IsDiagnosed, IsInitDiagnosed};
+ghost use Rattle.urlpattern_ffi.specs.ReportedMeanings.{IsMeaningReported};
 ghost use Rattle.urlpattern_ffi.specs.Inits.{IsInitAdded};
 ghost use Rattle.urlpattern_ffi.specs.Mismatches.{IsCustomReported, IsMismatchReported};
 ghost use Rattle.urlpattern_ffi.specs.TextBuffers.{IsComponentWritten, IsExecReported};
@@ -14,7 +15,7 @@ use crate::patterns::Patterns;
 use std::alloc::Global;
 use urlpattern_ffi::{
     GivenBytes, GroupSpan, Place, Sizes, add, add_init, captures, covers, diagnose, diagnose_init,
-    execute, first, first_captures, has_regexp_groups, link, mismatch, test, version,
+    execute, first, first_captures, has_meaning, has_regexp_groups, link, mismatch, test, version,
     write_component, write_group_name,
 };
 
@@ -275,6 +276,24 @@ pub extern "C" fn urlpattern_has_regexp_groups(
 {
     let kept = patterns.take(alloc);
     let status = has_regexp_groups(&kept, index);
+    patterns.put(kept);
+    status.number()
+}
+
+/// Whether each component of the pattern at an index has a meaning: its case is kept, and its
+/// custom regular expressions are simple. 0 if each has one, 1 if not, 5 if there is no such
+/// pattern.
+#[unsafe(no_mangle)]
+pub extern "C" fn urlpattern_has_meaning(
+    alloc: Global,
+    patterns: &mut Patterns,
+    index: usize,
+) -> u32
+    ensures answer { ReturnsStatus (IsMeaningReported (patterns_in patterns.old) index) result }
+    ensures unchanged { patterns_in patterns.new ≡ patterns_in patterns.old }
+{
+    let kept = patterns.take(alloc);
+    let status = has_meaning(alloc, &kept, index);
     patterns.put(kept);
     status.number()
 }

@@ -14,8 +14,8 @@ pub use exports::{
     urlpattern_add, urlpattern_add_init, urlpattern_captures, urlpattern_component,
     urlpattern_covers_between, urlpattern_covers_within, urlpattern_diagnose,
     urlpattern_diagnose_init, urlpattern_exec, urlpattern_first, urlpattern_first_captures,
-    urlpattern_free, urlpattern_group_name, urlpattern_has_regexp_groups, urlpattern_link,
-    urlpattern_mismatch, urlpattern_test, urlpattern_version,
+    urlpattern_free, urlpattern_group_name, urlpattern_has_meaning, urlpattern_has_regexp_groups,
+    urlpattern_link, urlpattern_mismatch, urlpattern_test, urlpattern_version,
 };
 pub use patterns::Patterns;
 pub use slot::Slot;

@@ -1,5 +1,5 @@
 -- The result of a comparison, by what a search found.
-use Rattle.std.proofs.Common.{◌≡◌, ◌≢◌, ℕ, Bool, true, false, List, [], ◌∷◌, refl, sym, subst, ap, ◌↔◌, inl, inr, Option, Some, None, Result, Ok, Err, IfOk, IfSome}
+use Rattle.std.proofs.Common.{◌≡◌, ◌≢◌, ℕ, Bool, true, false, List, [], ◌∷◌, refl, sym, subst, ap, ◌↔◌, inr, Option, Some, None, Result, Ok, Err, IfOk, IfSome}
 use Rattle.std.specs.declared.alloc.{AllocError.AllocError}
 use Rattle.std.proofs.lemmas.List.Elements.{All-cons, All-head, All-nil, All-tail}
 use Rattle.std.specs.List.{list_any}
@@ -60,7 +60,7 @@ found_answer options parts other_options others is_meant one other Nothing gen o
     let here = parts_accepted options parts one gen same text in
     let there = parts_accepted other_options others other other_gen other_same text in
     whether_by (not is_meant) (AcceptsText other text) (MeansText other_options others text) there (is text fine plain (here.1 meant))
-found_answer options parts other_options others is_meant one other TooMany gen other_gen same other_same is = inr (inl (one, other, same, other_same, is))
+found_answer options parts other_options others is_meant one other TooMany gen other_gen same other_same is = inr (one, other, same, other_same, is)
 
 -- ---- automata
 

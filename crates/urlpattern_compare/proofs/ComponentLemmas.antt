@@ -1,14 +1,13 @@
 -- Comparisons of one component.
 use Rattle.std.proofs.Common.{◌≡◌, ℕ, List, [], ◌∷◌, ◌++◌, inl, inr, refl, sym, subst, append-nil, Some}
 use Rattle.std.specs.Prelude.{IsTrue}
-use Rattle.urlpattern_compare.specs.Answers.{IsCovering, IsOverlap, IsReason, IsTooMuch}
+use Rattle.urlpattern_compare.specs.Answers.{IsCovering, IsOverlap, IsReason}
 use Rattle.urlpattern_compare.specs.MeantTexts.{MeansText}
-use Rattle.urlpattern_compare.specs.declared.coverage.Covering.{Covering}
 use Rattle.urlpattern_compare.specs.declared.coverage.Covering.TheVariants as coverings
 use Rattle.urlpattern_compare.specs.declared.coverage.Overlap.{Overlap}
 use Rattle.urlpattern_compare.specs.declared.coverage.Overlap.TheVariants as overlaps
-use Rattle.urlpattern_compare.specs.declared.coverage.Reason.TheVariants as reasons
-use Rattle.urlpattern_compare.specs.Comparing.{AreSame, IsComponentCovering, IsComponentOverlap, IsExample, IsKnown, MatchesEveryLine, anything_part}
+use Rattle.urlpattern_compare.specs.declared.coverage.Reason.{Reason}
+use Rattle.urlpattern_compare.specs.Comparing.{IsComponentOverlap, IsExample, IsKnown, IsReasonAlone, MatchesEveryLine, MayMissLine, anything_part}
 use Rattle.urlpattern_syntax.specs.declared.parts.ComponentParts.{ComponentParts}
 use Rattle.urlpattern_syntax.specs.{Options.OptionsView, Options.default_options, Options.options_view, Parts.PartView, Parts.parts_view, Text.lacks, Text.line_feed}
 
@@ -37,31 +36,13 @@ wildcard_means options text line =
 
 -- ---- results of lists of parts
 
-pub covering_known : (component asked : ComponentParts) (covering : Covering) → IsKnown component → IsKnown asked → ¬ AreSame component asked →
-    IsCovering (options_view component.options) (parts_view component.parts.items) (options_view asked.options) (parts_view asked.parts.items) covering →
-    IsComponentCovering component asked covering
-covering_known component asked coverings.Covered known asked_known apart is = inr (inl (record { known = known; asked_known = asked_known; within = is }))
-covering_known component asked (coverings.NotCovered text) known asked_known apart is =
-    record { known = known; meant = record { known = asked_known; means = is.0; line = is.2 }; not_meant = is.1 }
-covering_known component asked (coverings.Unknown reason) known asked_known apart is = (is, apart)
-
-too_much_flips : (options : OptionsView) (parts : List PartView) (other_options : OptionsView) (others : List PartView) →
-    IsTooMuch options parts other_options others → IsTooMuch other_options others options parts
-too_much_flips options parts other_options others (inl (inl states)) = inl (inr states)
-too_much_flips options parts other_options others (inl (inr states)) = inl (inl states)
-too_much_flips options parts other_options others (inr (inl long)) = inr (inr long)
-too_much_flips options parts other_options others (inr (inr long)) = inr (inl long)
-
 pub overlap_known : (component other : ComponentParts) (overlap : Overlap) → IsKnown component → IsKnown other →
     IsOverlap (options_view component.options) (parts_view component.parts.items) (options_view other.options) (parts_view other.parts.items) overlap →
     IsComponentOverlap component other overlap
 overlap_known component other overlaps.Apart known other_known is = record { known = known; other_known = other_known; apart = is }
 overlap_known component other (overlaps.Common text) known other_known is =
     (record { known = known; means = is.0; line = is.2 }, record { known = other_known; means = is.1; line = is.2 })
-overlap_known component other (overlaps.Unknown reasons.CustomExpression) known other_known is = λ both. is (both.1, both.0)
-overlap_known component other (overlaps.Unknown reasons.IgnoredCase) known other_known (inl e) = inr e
-overlap_known component other (overlaps.Unknown reasons.IgnoredCase) known other_known (inr e) = inl e
-overlap_known component other (overlaps.Unknown reasons.TooMany) known other_known is = too_much_flips (options_view component.options) (parts_view component.parts.items) (options_view other.options) (parts_view other.parts.items) is
+overlap_known component other (overlaps.Unknown reason) known other_known is = is
 
 -- A component that covers a full wildcard means each line.
 pub each_line : (component anything : ComponentParts) → IsKnown component → parts_view anything.parts.items ≡ anything_part ∷ [] →
@@ -70,6 +51,32 @@ each_line component anything known are is = record {
   known = known;
   takes = λ text fine line. is text fine line (subst (λ parts. MeansText (options_view anything.options) parts text) (sym are) (wildcard_means (options_view anything.options) text line));
 }
+
+-- A component that does not cover a full wildcard misses a line.
+pub line_missed : (component anything : ComponentParts) (text : List ℕ) →
+    MeansText (options_view anything.options) (parts_view anything.parts.items) text × (¬ MeansText (options_view component.options) (parts_view component.parts.items) text) × IsTrue (lacks line_feed text)
+    → MayMissLine component
+line_missed component anything text is = inl (text, is.2, is.1)
+
+reason_with_anything : (component anything : ComponentParts) (reason : Reason) → options_view anything.options ≡ default_options → parts_view anything.parts.items ≡ anything_part ∷ [] →
+    IsReason (options_view component.options) (parts_view component.parts.items) (options_view anything.options) (parts_view anything.parts.items) reason → IsReasonAlone component reason
+reason_with_anything component anything reason options are is =
+    let own = options_view component.options in
+    let parts = parts_view component.parts.items in
+    subst (λ (o : OptionsView). IsReason own parts o (anything_part ∷ []) reason) options
+    (subst (λ (ps : List PartView). IsReason own parts (options_view anything.options) ps reason) are is)
+
+-- A component of which it is not known whether it covers a full wildcard may miss a line.
+pub line_doubted : (component anything : ComponentParts) (reason : Reason) → options_view anything.options ≡ default_options → parts_view anything.parts.items ≡ anything_part ∷ [] →
+    IsCovering (options_view component.options) (parts_view component.parts.items) (options_view anything.options) (parts_view anything.parts.items) (coverings.Unknown reason) → MayMissLine component
+line_doubted component anything reason options are is =
+    let own = options_view component.options in
+    let parts = parts_view component.parts.items in
+    inr (
+      reason,
+      subst (λ (o : OptionsView). IsReason o (anything_part ∷ []) own parts reason) options
+          (subst (λ (ps : List PartView). IsReason (options_view anything.options) ps own parts reason) are is),
+    )
 
 -- The overlap with a full wildcard is an example.
 pub example_known : (component anything : ComponentParts) (overlap : Overlap) → IsKnown component →
@@ -80,8 +87,4 @@ example_known component anything overlaps.Apart known options are is = record {
   takes_none = λ text fine line means. is text fine line means (subst (λ parts. MeansText (options_view anything.options) parts text) (sym are) (wildcard_means (options_view anything.options) text line));
 }
 example_known component anything (overlaps.Common text) known options are is = record { known = known; means = is.0; line = is.2 }
-example_known component anything (overlaps.Unknown reason) known options are is =
-    let own = options_view component.options in
-    let parts = parts_view component.parts.items in
-    subst (λ (o : OptionsView). IsReason own parts o (anything_part ∷ []) reason) options
-    (subst (λ (ps : List PartView). IsReason own parts (options_view anything.options) ps reason) are is)
+example_known component anything (overlaps.Unknown reason) known options are is = reason_with_anything component anything reason options are is

@@ -14,3 +14,6 @@ pub mod OrderLemmas
 pub mod PatternPartLemmas
 pub mod NamelessParts
 pub mod SameParts
+pub mod DecidedLemmas
+pub mod WorkLemmas
+pub mod WorkExamples

@@ -158,7 +158,7 @@ parts_within options parts automaton same =
 
 -- ---- the number of states
 
-part_count : (options : OptionsView) (part : PartView) (parts : List PartView) → (made options (part ∷ parts)).count ≡ (made options parts).count + length (reverse (cells_of options part.kind part))
+pub part_count : (options : OptionsView) (part : PartView) (parts : List PartView) → (made options (part ∷ parts)).count ≡ (made options parts).count + length (reverse (cells_of options part.kind part))
 part_count options part parts =
     let cells = reverse (cells_of options part.kind part) in
     cells_count (with_repeat_starts (made options parts) (repeats part.modifier) cells) cells

@@ -73,6 +73,20 @@ settled_by component true ignored e = (
 )
 settled_by component false ignored e = (λ is. inr (generated component.parts.items (sym e)), λ kept_or_generated. refl)
 
+-- Two components are equal in either order.
+pub same_flips : (component other : ComponentParts) → AreSame component other → AreSame other component
+same_flips component other same =
+    let parts = parts_view component.parts.items in
+    let others = parts_view other.parts.items in
+    record {
+      options = sym same.options;
+      parts = sym same.parts;
+      kept_or_generated = elim same.kept_or_generated [
+        | inl kept ↦ inl (sym (ap (λ (o : OptionsView). o.ignore_case) same.options) ∙ kept)
+        | inr generated ↦ inr (generated_renamed others parts (sym (same_nameless component other same)) generated)
+      ];
+    }
+
 -- Equal parts mean the same texts, where these are known.
 pub same_within : (component asked : ComponentParts) → AreSame component asked → IsKnown component → MeansAllOf component asked
 same_within component asked same known =

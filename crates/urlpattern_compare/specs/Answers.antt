@@ -24,23 +24,25 @@ use Rattle.urlpattern_syntax.specs.declared.parser.Part.{Part}
 use Rattle.urlpattern_syntax.specs.declared.parser.PartType.{PartType}
 use Rattle.urlpattern_syntax.specs.Text.{lacks, line_feed}
 
--- A search of the automata of two lists of parts reaches more pairs than `MOST_PAIRS`.
+-- The search for a text that the first list of parts matches, and that the second matches or does
+-- not, reaches more pairs than `MOST_PAIRS`: pairs of a state of the first automaton and a set of
+-- states of the second.
 abbrev pub IsSearchLong : OptionsView → List PartView → OptionsView → List PartView → Type 0
 IsSearchLong options parts other_options others =
     (one other : PartsAutomaton) × (made_view one ≡ made options parts)
     × (made_view other ≡ made other_options others)
     × HasManyPairs one other
 
--- The work of comparing two lists of parts is too much: one of them needs too many states, or a
--- search reaches too many pairs.
+-- The work of the search for a text that the first list of parts matches, and that the second
+-- matches or does not, is too much: one of the two needs too many states, or the search reaches too
+-- many pairs.
 abbrev pub IsTooMuch : OptionsView → List PartView → OptionsView → List PartView → Type 0
 IsTooMuch options parts other_options others =
     (HasManyStates options parts ⊎ HasManyStates other_options others)
-    ⊎ (IsSearchLong options parts other_options others
-    ⊎ IsSearchLong other_options others options parts)
+    ⊎ IsSearchLong options parts other_options others
 
--- `reason` is true of two lists of parts whose comparison has no result: a part is custom, case is
--- ignored, or the work is too much.
+-- `reason` is true of two lists of parts if no text is known that the first matches, and that the
+-- second matches or does not: a part is custom, case is ignored, or the work is too much.
 abbrev pub IsReason : OptionsView → List PartView → OptionsView → List PartView → Reason → Type 0
 IsReason options parts other_options others reasons.CustomExpression =
     ¬ (AreGenerated parts × AreGenerated others)

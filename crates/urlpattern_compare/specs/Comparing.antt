@@ -1,7 +1,7 @@
 -- How patterns are compared, by the texts that their parts match. Parts *mean* a text if they can
 -- match it, one after the other; the *asked* pattern is the one of which it is asked whether
 -- another pattern covers it. Only texts without line feed are compared.
-use Rattle.std.specs.Prelude.{◌≡◌, ◌<◌, ◌⊎◌, ◌++◌, ℕ, All, Bool, true, Option, None, Contains, List, [], ◌∷◌, IsTrue, MatchOption, false, map, take, Result, Ok, Err, Some, String}
+use Rattle.std.specs.Prelude.{◌≡◌, ◌<◌, ◌⊎◌, ◌++◌, ℕ, All, Bool, true, Option, None, Contains, List, [], ◌∷◌, IsSomeAnd, IsTrue, MatchOption, false, map, take, Some, String}
 use Rattle.std.specs.declared.alloc.Global.{Global}
 use Rattle.std.specs.List.{slice_get}
 use Rattle.std.specs.Str.{all_scalars}
@@ -16,10 +16,6 @@ use Rattle.urlpattern_compare.specs.declared.coverage.Reason.TheVariants as reas
 use Rattle.urlpattern_meaning.specs.PartMeaning.{AreGenerated}
 use Rattle.urlpattern_syntax.specs.declared.parts.ComponentParts.{ComponentParts}
 use Rattle.urlpattern_compare.specs.declared.shadowed.Shadowed.{Shadowed}
-use Rattle.urlpattern_compare.specs.declared.pattern_parts.FirstUncovered.{FirstUncovered}
-use Rattle.urlpattern_compare.specs.declared.pattern_parts.FirstUncovered.TheVariants as firsts
-use Rattle.urlpattern_compare.specs.declared.pattern_parts.NoText.{NoText}
-use Rattle.urlpattern_compare.specs.declared.pattern_parts.NoText.TheVariants as lacking
 use Rattle.urlpattern_compare.specs.declared.pattern_parts.Parting.{Parting}
 use Rattle.urlpattern_compare.specs.declared.pattern_parts.PatternCovering.{PatternCovering}
 use Rattle.urlpattern_compare.specs.declared.pattern_parts.PatternCovering.TheVariants as answers
@@ -27,7 +23,6 @@ use Rattle.urlpattern_compare.specs.declared.pattern_parts.PatternOverlap.{Patte
 use Rattle.urlpattern_compare.specs.declared.pattern_parts.PatternOverlap.TheVariants as commons
 use Rattle.urlpattern_compare.specs.declared.pattern_parts.PatternParts.{PatternParts}
 use Rattle.urlpattern_components.specs.declared.eight.ComponentName.{ComponentName}
-use Rattle.urlpattern_components.specs.declared.eight.Eight.{Eight}
 use Rattle.urlpattern_components.specs.Eight.{at}
 use Rattle.urlpattern_syntax.specs.Options.{default_options, options_view}
 use Rattle.urlpattern_syntax.specs.Parts.{PartView, part_view, parts_view}
@@ -54,12 +49,19 @@ IsUnknownBy component reasons.CustomExpression = ¬ AreGenerated (parts_view com
 IsUnknownBy component reasons.IgnoredCase = component.options.ignore_case ≡ true
 IsUnknownBy component reasons.TooMany = ⊥
 
--- `reason` is a reason why it is not known how the two components compare: a part is custom or case
--- is ignored in one of them, or the work is too much.
-abbrev pub IsReasonFor : (component other : ComponentParts) → Reason → Type 0
-IsReasonFor component other =
-    IsReason (options_view other.options) (parts_view other.parts.items)
-    (options_view component.options) (parts_view component.parts.items)
+-- `reason` is a reason why it is not known whether a text exists that both components match: a part
+-- is custom or case is ignored in one of them, or the search among the texts of the first is too
+-- much work.
+abbrev pub IsReasonToShare : (component other : ComponentParts) → Reason → Type 0
+IsReasonToShare component other =
+    IsReason (options_view component.options) (parts_view component.parts.items)
+    (options_view other.options) (parts_view other.parts.items)
+
+-- `reason` is a reason why it is not known whether a text exists that only the asked component
+-- matches: a part is custom or case is ignored in one of the two, or the search among the texts of
+-- the asked one is too much work.
+abbrev pub IsReasonFor : (component asked : ComponentParts) → Reason → Type 0
+IsReasonFor component asked = IsReasonToShare asked component
 
 -- A full wildcard without modifier, name, prefix and suffix, which matches each text without line
 -- feed.
@@ -146,11 +148,21 @@ abbrev pub IsComponentCovered : (component asked : ComponentParts) → Type 0
 IsComponentCovered component asked =
     MatchesEveryLine component ⊎ (MeansAllOf component asked ⊎ AreSame component asked)
 
--- `reason` is a reason why it is not known whether the component covers the asked one. The two are
--- not equal in the sense of `AreSame`.
+-- The component does not match some text without line feed, or it is not known to match each: the
+-- search for a text that only a full wildcard matches has no result (`IsReason`).
+abbrev pub MayMissLine : ComponentParts → Type 0
+MayMissLine component =
+    ((text : List ℕ) × IsTrue (lacks line_feed text) × ¬ MeansIn component text)
+    ⊎ ((reason : Reason)
+    × IsReason default_options (anything_part ∷ []) (options_view component.options)
+    (parts_view component.parts.items) reason)
+
+-- `reason` is a reason why it is not known whether the component covers the asked one: the reason
+-- is true of the two, they are not equal in the sense of `AreSame`, and the component is not known
+-- to match each text.
 abbrev pub IsReasonToDoubt : (component asked : ComponentParts) → Reason → Type 0
 IsReasonToDoubt component asked reason =
-    IsReasonFor component asked reason × ¬ AreSame component asked
+    IsReasonFor component asked reason × (¬ AreSame component asked) × MayMissLine component
 
 -- What each result of `component_covers` says. Covered: the component covers the asked one.
 -- NotCovered: only the asked one matches the text. Unknown: `IsReasonToDoubt` holds of the reason.
@@ -162,12 +174,13 @@ IsComponentCovering component asked (coverings.Unknown reason) =
     IsReasonToDoubt component asked reason
 
 -- What each result of `component_overlaps` says. Apart: no text without line feed exists that both
--- match. Common: both match the text. Unknown: `IsReasonFor` holds of the reason.
+-- match. Common: both match the text. Unknown: `IsReasonToShare` holds of the reason.
 abbrev pub IsComponentOverlap : (component other : ComponentParts) → Overlap → Type 0
 IsComponentOverlap component other overlaps.Apart = AreApart component other
 IsComponentOverlap component other (overlaps.Common text) =
     IsMeantBy component text.items × IsMeantBy other text.items
-IsComponentOverlap component other (overlaps.Unknown reason) = IsReasonFor component other reason
+IsComponentOverlap component other (overlaps.Unknown reason) =
+    IsReasonToShare component other reason
 
 -- What each result of `component_example` says. Apart: the component matches no text without line
 -- feed. Common: the component matches the text. Unknown: `IsReasonAlone` holds of the reason.
@@ -186,117 +199,91 @@ IsCovered pattern asked =
     ⊎ ((name : ComponentName)
     → IsComponentCovered (at pattern.components name) (at asked.components name))
 
--- Each component of the pattern matches its text of `texts`, which has no line feed.
-abbrev pub MeansEach : PatternParts → Eight (String Global) → Type 0
-MeansEach pattern texts =
-    (name : ComponentName) → IsMeantBy (at pattern.components name) (text_of (at texts name))
+-- A text that the component matches. `None`: no such text is known, for some reason.
+abbrev pub IsExampleText : ComponentParts → Option (String Global) → Type 0
+IsExampleText component found =
+    MatchOption found ((reason : Reason) × IsReasonAlone component reason) (λ text.
+    IsMeantBy component (text_of text))
 
--- The asked pattern matches the eight texts of `parting`, and the pattern's component that
--- `parting` names does not match its text.
+-- Each component of the asked pattern matches its text of `parting`, where one is known, and the
+-- pattern's component that `parting` names does not match its text, which is known.
 pub record IsParting (pattern asked : PatternParts) (parting : Parting) : Type 0 where
-  pub meant : MeansEach asked parting.texts
-  pub known : IsKnown (at pattern.components parting.component)
-  pub not_meant : ¬ MeansIn (at pattern.components parting.component)
-      (text_of (at parting.texts parting.component))
+  pub parted : IsSomeAnd (at parting.texts parting.component) (λ text.
+      IsOnlyIn (at pattern.components parting.component) (at asked.components parting.component)
+      (text_of text))
+  pub examples : (name : ComponentName)
+      → IsExampleText (at asked.components name) (at parting.texts name)
 
--- `reason` is a reason why it is not known whether the pattern covers the asked one: whether the
--- component `name` covers is not known, or no text is known that the asked pattern's component
--- matches.
-abbrev pub IsReasonIn : (pattern asked : PatternParts) → ComponentName → Reason → Type 0
-IsReasonIn pattern asked name reason =
-    IsReasonToDoubt (at pattern.components name) (at asked.components name) reason
-    ⊎ IsReasonAlone (at asked.components name) reason
+-- The component covers the asked one, or whether it does is not known.
+abbrev pub MayCover : (component asked : ComponentParts) → Type 0
+MayCover component asked =
+    IsComponentCovered component asked
+    ⊎ ((reason : Reason) × IsReasonToDoubt component asked reason)
+
+-- `reason` is a reason why it is not known whether the pattern covers the asked one: it is not
+-- known whether the component `name` covers, and no component decides. Each may cover, and none of
+-- the asked pattern is known to match no text.
+pub record IsReasonIn (pattern asked : PatternParts) (name : ComponentName) (reason : Reason) :
+    Type 0 where
+  pub doubt : IsReasonToDoubt (at pattern.components name) (at asked.components name) reason
+  pub may_cover : (other : ComponentName)
+      → MayCover (at pattern.components other) (at asked.components other)
+  pub may_match : (other : ComponentName)
+      → (text : Option (String Global)) × IsExampleText (at asked.components other) text
 
 -- What each result of `PatternParts::covers` says. Covered: the pattern covers the asked one.
--- NotCovered: only the asked one matches the texts. Unknown: `IsReasonIn` holds of the
--- component and the reason.
+-- NotCovered: a component does not match a text that the asked pattern's matches. Unknown: the
+-- reason is true of the component, and no component decides.
 abbrev pub IsPatternCovering : (pattern asked : PatternParts) → PatternCovering → Type 0
 IsPatternCovering pattern asked answers.Covered = IsCovered pattern asked
 IsPatternCovering pattern asked (answers.NotCovered parting) = IsParting pattern asked parting
 IsPatternCovering pattern asked (answers.Unknown name reason) = IsReasonIn pattern asked name reason
 
+-- A text that both components match. `None`: the two are equal, and no text is known that they
+-- match, for some reason.
+abbrev pub IsCommonText : (component other : ComponentParts) → Option (String Global) → Type 0
+IsCommonText component other found =
+    MatchOption found
+    (AreSame component other × ((reason : Reason) × IsReasonToShare component other reason))
+    (λ text. IsMeantBy component (text_of text) × IsMeantBy other (text_of text))
+
+-- `reason` is a reason why it is not known whether a text exists that both components match, which
+-- are not equal in the sense of `AreSame`.
+abbrev pub IsReasonToPart : (component other : ComponentParts) → Reason → Type 0
+IsReasonToPart component other reason =
+    IsReasonToShare component other reason × ¬ AreSame component other
+
+-- A text that both components match is known, or the two are equal, or it is not known whether one
+-- exists.
+abbrev pub MayOverlap : (component other : ComponentParts) → Type 0
+MayOverlap component other =
+    ((text : Option (String Global)) × IsCommonText component other text)
+    ⊎ ((reason : Reason) × IsReasonToPart component other reason)
+
+-- `reason` is a reason why it is not known whether two patterns overlap: it is not known of the
+-- component `name`, and no component is known to be apart.
+pub record IsOverlapReason (pattern other : PatternParts) (name : ComponentName)
+    (reason : Reason) : Type 0 where
+  pub doubt : IsReasonToPart (at pattern.components name) (at other.components name) reason
+  pub may_overlap : (another : ComponentName)
+      → MayOverlap (at pattern.components another) (at other.components another)
+
 -- What each result of `PatternParts::overlaps` says. Apart: of some component, no text without line
--- feed exists that both patterns match. Common: both patterns match the texts. Unknown:
--- `IsReasonFor` holds of the component and the reason.
+-- feed exists that both patterns match. Common: each component has a text that both patterns match,
+-- or is equal in both. Unknown: the reason is true of the component, and no component decides.
 abbrev pub IsPatternOverlap : (pattern other : PatternParts) → PatternOverlap → Type 0
 IsPatternOverlap pattern other commons.Apart =
     (name : ComponentName) × AreApart (at pattern.components name) (at other.components name)
 IsPatternOverlap pattern other (commons.Common texts) =
-    MeansEach pattern texts × MeansEach other texts
-IsPatternOverlap pattern other (commons.Unknown name reason) =
-    IsReasonFor (at pattern.components name) (at other.components name) reason
-
--- ---- steps
-
--- What each result of `first_uncovered` says. Nowhere: each component covers. At: the component
--- does not cover, by this text. Unknown: whether the component covers is not known. Whether the
--- component is the first is left open.
-abbrev pub IsFirstUncovered : (pattern asked : PatternParts) → FirstUncovered → Type 0
-IsFirstUncovered pattern asked firsts.Nowhere =
     (name : ComponentName)
-    → IsComponentCovered (at pattern.components name) (at asked.components name)
-IsFirstUncovered pattern asked (firsts.At name text) =
-    IsOnlyIn (at pattern.components name) (at asked.components name) text.items
-IsFirstUncovered pattern asked (firsts.Unknown name reason) =
-    IsReasonToDoubt (at pattern.components name) (at asked.components name) reason
-
--- What each `NoText`, a reason why no text was found for a component, says. `Empty` holds of a
--- component for which no text exists, and `IsReasonAt` of a component and the reason why no text is
--- known.
-abbrev pub IsNoText : (Empty : ComponentName → Type 0)
-    → (IsReasonAt : ComponentName → Reason → Type 0)
-    → NoText → Type 0
-IsNoText Empty IsReasonAt lacking.OutOfMemory = Unit {0}
-IsNoText Empty IsReasonAt (lacking.Nothing name) = Empty name
-IsNoText Empty IsReasonAt (lacking.Unknown name reason) = IsReasonAt name reason
-
--- What each `NoText` says of the asked pattern: a component matches no text, or no text is known
--- that a component matches. Out of memory says nothing.
-abbrev pub LacksExample : (asked : PatternParts) → NoText → Type 0
-LacksExample asked =
-    IsNoText (λ name. MatchesNoLine (at asked.components name)) (λ name reason.
-    IsReasonAlone (at asked.components name) reason)
-
--- What was found so far, with the next component, `name`, added. The first component that is known
--- not to cover is kept; without one, the last of which it is not known whether it covers.
-abbrev pub first_or : FirstUncovered → (name : ComponentName) → Covering → FirstUncovered
-first_or (firsts.At earlier text) name covering = firsts.At earlier text
-first_or firsts.Nowhere name coverings.Covered = firsts.Nowhere
-first_or firsts.Nowhere name (coverings.NotCovered text) = firsts.At name text
-first_or firsts.Nowhere name (coverings.Unknown reason) = firsts.Unknown name reason
-first_or (firsts.Unknown earlier why) name coverings.Covered = firsts.Unknown earlier why
-first_or (firsts.Unknown earlier why) name (coverings.NotCovered text) = firsts.At name text
-first_or (firsts.Unknown earlier why) name (coverings.Unknown reason) = firsts.Unknown name reason
-
--- What the result of `text_with` says. Ok: the component `name` of the asked pattern matches the
--- text, provided that the component `uncovered` matches `text`; for `uncovered` itself, the text is
--- `text`. An error: why no text is known, or that memory ran out.
-abbrev pub IsTextWith : (asked : PatternParts) → (uncovered : ComponentName)
-    → (text : List ℕ) → ComponentName → Result (String Global) NoText → Type 0
-IsTextWith asked uncovered text name (Ok found) =
-    (IsMeantBy (at asked.components uncovered) text
-    → IsMeantBy (at asked.components name) (text_of found))
-    × (name ≡ uncovered → text_of found ≡ text)
-IsTextWith asked uncovered text name (Err lack) = LacksExample asked lack
-
--- What the result of `common_text` says. Ok: the component `name` of both patterns matches the
--- text. An error: why no text is known, or that memory ran out.
-abbrev pub IsCommonText : (pattern other : PatternParts) → ComponentName
-    → Result (String Global) NoText → Type 0
-IsCommonText pattern other name (Ok text) =
-    IsMeantBy (at pattern.components name) (text_of text)
-    × IsMeantBy (at other.components name) (text_of text)
-IsCommonText pattern other name (Err lack) =
-    IsNoText (λ other_name.
-    AreApart (at pattern.components other_name) (at other.components other_name))
-    (λ other_name reason.
-    IsReasonFor (at pattern.components other_name) (at other.components other_name) reason) lack
+    → IsCommonText (at pattern.components name) (at other.components name) (at texts name)
+IsPatternOverlap pattern other (commons.Unknown name reason) =
+    IsOverlapReason pattern other name reason
 
 -- ---- lists
 
--- The pattern is not known to cover the asked one: only the asked one matches some eight texts, or
--- it is not known whether a component covers, or no text is known that a component of the asked one
--- matches.
+-- The pattern is not known to cover the asked one: a component does not match a text that the asked
+-- pattern's matches, or whether the pattern covers it is not known.
 abbrev pub IsNotKnownToCover : (asked pattern : PatternParts) → Type 0
 IsNotKnownToCover asked pattern =
     ((parting : Parting) × IsParting pattern asked parting)

@@ -5,4 +5,7 @@ pub mod Making
 pub mod MeantTexts
 pub mod Searching
 pub mod Comparing
+pub mod ComparingSteps
 pub mod Order
+pub mod DecidedComparisons
+pub mod WorkBounds

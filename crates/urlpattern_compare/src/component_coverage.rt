@@ -1,7 +1,8 @@
 //! Single components compared by their parts.
 
 ghost use Rattle.std.specs.Prelude.{◌≡◌, ◌↔◌, [], ◌∷◌, IfNone, IfOk, IfSome, IsTrue, false};
-ghost use Rattle.urlpattern_compare.specs.Comparing.{AreSame, IsCaseKeptOrGenerated, IsComponentCovering, IsComponentOverlap, IsExample, IsKnown, IsReasonFor, IsUnknownBy, MatchesEveryLine, anything_part, unnamed, unnamed_view};
+ghost use Rattle.urlpattern_compare.specs.Comparing.{AreSame, IsCaseKeptOrGenerated, IsComponentCovering, IsComponentOverlap, IsExample, IsKnown, IsReasonFor, IsReasonToShare, IsUnknownBy, anything_part, unnamed, unnamed_view};
+ghost use Rattle.urlpattern_compare.specs.ComparingSteps.{DecidesEveryLine, IsCoveringByMeaning};
 ghost use Rattle.urlpattern_syntax.specs.Options.{default_options, options_view};
 ghost use Rattle.urlpattern_syntax.specs.Parts.{parts_view};
 ghost use Rattle.urlpattern_syntax.specs.Text.{text_of};
@@ -52,6 +53,7 @@ fn unknown(component: &ComponentParts) -> Option<Reason>
 fn unknown_with(component: &ComponentParts, other: &ComponentParts) -> Option<Reason>
     ensures known { IfNone result (IsKnown component.now × IsKnown other.now) }
     ensures reason { IfSome result (IsReasonFor component.now other.now) }
+    ensures shared { IfSome result (IsReasonToShare component.now other.now) }
 {
     match unknown(component) {
         Some(reason) => Some(reason),
@@ -62,7 +64,7 @@ fn unknown_with(component: &ComponentParts, other: &ComponentParts) -> Option<Re
 /// Whether `component` is known to match each text without line feed. `false`: a text does not
 /// match, or nothing is known.
 fn matches_every_line(alloc: Global, component: &ComponentParts) -> Result<bool, AllocError>
-    ensures { IfOk result (λ takes. IsTrue takes → MatchesEveryLine component.now) }
+    ensures { IfOk result (DecidesEveryLine component.now) }
 {
     match unknown(component) {
         Some(_) => Ok(false),
@@ -74,7 +76,7 @@ fn matches_every_line(alloc: Global, component: &ComponentParts) -> Result<bool,
 /// without line feed. `false`: a text does not match, or the comparison is given up (`TooMany`).
 fn covers_anything(alloc: Global, component: &ComponentParts) -> Result<bool, AllocError>
     requires { IsKnown component.now }
-    ensures { IfOk result (λ takes. IsTrue takes → MatchesEveryLine component.now) }
+    ensures { IfOk result (DecidesEveryLine component.now) }
 {
     let anything = anything(alloc)?;
     let covering = covers(
@@ -86,13 +88,17 @@ fn covers_anything(alloc: Global, component: &ComponentParts) -> Result<bool, Al
     )?;
     match covering {
         Covering::Covered => Ok(true),
-        _ => Ok(false),
+        Covering::NotCovered(text) => {
+            drop(text);
+            Ok(false)
+        }
+        Covering::Unknown(_) => Ok(false),
     }
 }
 
 /// Whether two components are equal but for the names of groups, and match alike: case is kept, or
 /// no part is a custom regular expression.
-fn is_same(component: &ComponentParts, other: &ComponentParts) -> bool
+pub(crate) fn is_same(component: &ComponentParts, other: &ComponentParts) -> bool
     ensures { IsTrue result ↔ AreSame component.now other.now }
 {
     is_case_kept_or_generated(component)
@@ -109,7 +115,7 @@ fn is_case_kept_or_generated(component: &ComponentParts) -> bool
 
 /// Returns whether `component` matches each text without line feed that `asked` matches. `Covered`
 /// is also the result for two components that `is_same` finds equal, even with custom regular
-/// expressions.
+/// expressions, and where `component` is known to match each text without line feed.
 pub(crate) fn component_covers(
     alloc: Global,
     component: &ComponentParts,
@@ -120,6 +126,28 @@ pub(crate) fn component_covers(
     if is_same(component, asked) {
         return Ok(Covering::Covered);
     }
+    match covers_by_meaning(alloc, component, asked)? {
+        Covering::Covered => Ok(Covering::Covered),
+        Covering::NotCovered(text) => Ok(Covering::NotCovered(text)),
+        Covering::Unknown(reason) => {
+            if matches_every_line(alloc, component)? {
+                Ok(Covering::Covered)
+            } else {
+                Ok(Covering::Unknown(reason))
+            }
+        }
+    }
+}
+
+/// Returns whether `component` matches each text without line feed that `asked` matches, if the
+/// parts of both tell which texts they match.
+fn covers_by_meaning(
+    alloc: Global,
+    component: &ComponentParts,
+    asked: &ComponentParts,
+) -> Result<Covering, AllocError>
+    ensures { IfOk result (IsCoveringByMeaning component.now asked.now) }
+{
     match unknown_with(component, asked) {
         None => covers(
             alloc,
@@ -128,12 +156,7 @@ pub(crate) fn component_covers(
             &asked.options,
             &asked.parts,
         ),
-        Some(reason) => {
-            if matches_every_line(alloc, component)? {
-                return Ok(Covering::Covered);
-            }
-            Ok(Covering::Unknown(reason))
-        }
+        Some(reason) => Ok(Covering::Unknown(reason)),
     }
 }
 

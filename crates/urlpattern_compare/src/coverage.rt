@@ -38,8 +38,10 @@ pub enum Reason {
     CustomExpression,
     /// Case is ignored.
     IgnoredCase,
-    /// A list of parts needs more than [`MOST_STATES`](crate::MOST_STATES) states, or a search
-    /// reaches more than [`MOST_PAIRS`](crate::MOST_PAIRS) pairs.
+    /// The parts need more than [`MOST_STATES`](crate::MOST_STATES) states, or the search for a
+    /// text that decides reaches more than [`MOST_PAIRS`](crate::MOST_PAIRS) pairs. Of two small
+    /// components it is never the reason, as
+    /// [`small_components_are_compared`](crate::comparing_laws) says.
     TooMany,
 }
 

@@ -12,6 +12,7 @@
 
 mod cells;
 mod classes;
+pub mod comparing_laws;
 mod component_coverage;
 mod coverage;
 mod order;

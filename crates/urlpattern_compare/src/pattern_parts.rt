@@ -2,10 +2,12 @@
 
 ghost use Rattle.std.specs.Prelude.{◌≡◌, IfErr, IfOk};
 ghost use Rattle.std.specs.Str.{chars};
+ghost use Rattle.urlpattern_compare.specs.Comparing.{IsPatternOverlap};
+ghost use Rattle.urlpattern_compare.specs.ComparingSteps.{AreCommonOrDoubtful};
 ghost use Rattle.urlpattern_components.specs.Eight.{at};
 ghost use Rattle.urlpattern_syntax.specs.Text.{text_of};
 
-use crate::component_coverage::{component_covers, component_example, component_overlaps};
+use crate::component_coverage::{component_covers, component_example, component_overlaps, is_same};
 use crate::coverage::{Covering, Overlap, Reason};
 use crate::order::compare_parts;
 use std::alloc::{AllocError, Global};
@@ -40,8 +42,8 @@ impl Drop for PatternParts {
     }
 }
 
-/// Eight texts, one for each component, that show that a pattern does not cover another, the asked
-/// one: the asked pattern matches them, and the pattern does not.
+/// Texts that show that a pattern does not cover another, the asked one: in one component, the
+/// asked pattern matches the text, and the pattern does not.
 ///
 /// The text that the asked pattern matches and the other does not:
 ///
@@ -51,10 +53,14 @@ impl Drop for PatternParts {
 /// ```
 #[derive(Debug, Drop)]
 pub struct Parting {
-    /// A component whose text the pattern does not match.
+    /// A component whose text, which is known, the pattern does not match.
     pub component: ComponentName,
-    /// The texts, which the asked pattern matches.
-    pub texts: Eight<String>,
+    /// The texts that the asked pattern matches. `None`: no text of this component is known, since
+    /// a part is custom, or case is ignored, or the work exceeds its bound.
+    ///
+    /// With any text that the asked pattern matches in the components without a known text, it
+    /// matches all eight.
+    pub texts: Eight<Option<String>>,
 }
 
 /// Whether a pattern covers another, the asked one.
@@ -65,7 +71,10 @@ pub struct Parting {
 ///     PatternCovering::NotCovered(parting) => {
 ///         let component = parting.component;
 ///         let text = parting.texts.get(component);
-///         Ok(format!(in alloc; "not covered: {component} `{text}`")?)
+///         match text {
+///             Some(text) => Ok(format!(in alloc; "not covered: {component} `{text}`")?),
+///             None => Ok(format!(in alloc; "not covered: {component}")?),
+///         }
 ///     }
 ///     PatternCovering::Unknown(component, _) => Ok(format!(in alloc; "unknown: {component}")?),
 /// }
@@ -75,9 +84,11 @@ pub enum PatternCovering {
     /// The pattern matches each combination of eight texts without line feeds that the asked one
     /// matches.
     Covered,
-    /// The asked pattern matches these texts, and the pattern does not.
+    /// In one component, the asked pattern matches a text that the pattern does not match. So the
+    /// pattern covers the asked one only if that matches nothing at all, in a component of which no
+    /// text is known.
     NotCovered(Parting),
-    /// Not known, because of this component, for this reason.
+    /// Not known, because of this component, for this reason. No component decides.
     Unknown(ComponentName, Reason),
 }
 
@@ -86,7 +97,10 @@ pub enum PatternCovering {
 /// ```rust overlap
 /// match overlap {
 ///     PatternOverlap::Apart => Ok(format!(in alloc; "apart")?),
-///     PatternOverlap::Common(texts) => Ok(format!(in alloc; "common: {}", texts.pathname)?),
+///     PatternOverlap::Common(texts) => match &texts.pathname {
+///         Some(text) => Ok(format!(in alloc; "common: {text}")?),
+///         None => Ok(format!(in alloc; "common, with the same parts")?),
+///     },
 ///     PatternOverlap::Unknown(component, _) => Ok(format!(in alloc; "unknown: {component}")?),
 /// }
 /// ```
@@ -94,9 +108,11 @@ pub enum PatternCovering {
 pub enum PatternOverlap {
     /// No eight texts without line feeds exist that both patterns match.
     Apart,
-    /// Eight texts without line feeds that both patterns match.
-    Common(Eight<String>),
-    /// Not known, because of this component, for this reason.
+    /// A text without line feed of each component that both patterns match. `None`: the component
+    /// is the same in both patterns, and no text is known that it matches, so that both match any
+    /// that one does.
+    Common(Eight<Option<String>>),
+    /// Not known, because of this component, for this reason. No component decides.
     Unknown(ComponentName, Reason),
 }
 
@@ -112,16 +128,18 @@ pub(crate) enum FirstUncovered {
     Unknown(ComponentName, Reason),
 }
 
-/// Why no text is found that a component, of one pattern or of two, matches.
+/// Why no text of a component is returned.
 #[derive(Debug, Drop)]
 pub(crate) enum NoText {
-    /// No text without line feed exists that this component matches.
+    /// No text without line feed exists that this component, of one pattern or of two, matches.
     Nothing(ComponentName),
-    /// Not known, because of this component, for this reason.
-    Unknown(ComponentName, Reason),
     /// Memory ran out.
     OutOfMemory,
 }
+
+/// A text of a component that two patterns match, or the component and the reason why it is not
+/// known whether one exists.
+pub(crate) type CommonOrDoubtful = Result<Option<String>, (ComponentName, Reason)>;
 
 impl From<AllocError> for NoText {
     ghost use Rattle.urlpattern_compare.specs.declared.pattern_parts.NoText.TheVariants as lacking;
@@ -134,7 +152,7 @@ impl From<AllocError> for NoText {
 }
 
 impl FirstUncovered {
-    ghost use Rattle.urlpattern_compare.specs.Comparing.{first_or};
+    ghost use Rattle.urlpattern_compare.specs.ComparingSteps.{first_or};
 
     /// Adds the component `name` to what was found so far; `covering` says whether that component
     /// covers the asked pattern's. The first component that is known not to cover is kept; without
@@ -152,8 +170,10 @@ impl FirstUncovered {
 }
 
 impl PatternParts {
+    ghost use Rattle.std.specs.Prelude.{Some, option_map};
     ghost use Rattle.urlpattern_compare.specs.Order.{parts_cmp};
-    ghost use Rattle.urlpattern_compare.specs.Comparing.{IsCommonText, IsFirstUncovered, IsMeantBy, IsOnlyIn, IsPatternCovering, IsPatternOverlap, IsTextWith, LacksExample, MeansEach};
+    ghost use Rattle.urlpattern_compare.specs.Comparing.{IsExampleText, IsMeantBy, IsOnlyIn, IsPatternCovering, IsPatternOverlap, IsReasonToDoubt, MayCover};
+    ghost use Rattle.urlpattern_compare.specs.ComparingSteps.{IsCommonIn, IsExampleIn, IsFirstUncovered, IsTextWith, LacksExample};
 
     /// Returns whether this pattern covers `asked`: whether this pattern's parts match each
     /// combination of eight texts, one for each component, that the parts of `asked` match. Texts
@@ -163,9 +183,9 @@ impl PatternParts {
     /// without custom regular expressions, covers any other. A component covers equal parts under
     /// equal options, whatever the names, also with custom regular expressions or with case
     /// ignored, but not with both. Nothing is known of other components with custom regular
-    /// expressions or with case ignored, nor where the work is too much (`Reason::TooMany`). Each
-    /// text of `NotCovered` is one of the shortest for its component, though no clause promises
-    /// that.
+    /// expressions or with case ignored, nor where the work is too much (`Reason::TooMany`).
+    /// `Unknown` is returned only if no other component decides. Each text of `NotCovered` is one
+    /// of the shortest for its component, though no clause promises that.
     pub fn covers(&self, alloc: Global, asked: &Self) -> Result<PatternCovering, AllocError>
         ensures { IfOk result (IsPatternCovering self.now asked.now) }
     {
@@ -175,7 +195,7 @@ impl PatternParts {
                 self.extend_to_parting(alloc, asked, component, &text)
             }
             FirstUncovered::Unknown(component, reason) => {
-                Ok(PatternCovering::Unknown(component, reason))
+                self.unknown_or_covered(alloc, asked, component, reason)
             }
         }
     }
@@ -183,20 +203,19 @@ impl PatternParts {
     /// Returns whether eight texts without line feeds, one for each component, exist that the parts
     /// of this pattern and those of `other` match, and which.
     ///
-    /// Nothing is known of components with custom regular expressions or with case ignored, nor
-    /// where the work is too much (`Reason::TooMany`).
+    /// Of a component that is the same in both patterns, in the sense of `covers`, a text need not
+    /// be known. Nothing is known of other components with custom regular expressions or with case
+    /// ignored, nor where the work is too much (`Reason::TooMany`). `Unknown` is returned only if
+    /// no other component decides.
     pub fn overlaps(&self, alloc: Global, other: &Self) -> Result<PatternOverlap, AllocError>
         ensures { IfOk result (IsPatternOverlap self.now other.now) }
     {
-        let text = |name: ComponentName| -> Result<String, NoText>
-            ensures { IsCommonText self.entry.now other.entry.now name result }
+        let text = |name: ComponentName| -> Result<CommonOrDoubtful, NoText>
+            ensures { IsCommonIn self.entry.now other.entry.now name result }
         { self.common_text(alloc, other, name) };
         match Eight::try_from_fn(text) {
-            Ok(texts) => Ok(PatternOverlap::Common(texts)),
+            Ok(found) => Ok(overlap_of(found)),
             Err(NoText::Nothing(_)) => Ok(PatternOverlap::Apart),
-            Err(NoText::Unknown(component, reason)) => {
-                Ok(PatternOverlap::Unknown(component, reason))
-            }
             Err(NoText::OutOfMemory) => Err(AllocError),
         }
     }
@@ -249,70 +268,136 @@ impl PatternParts {
         match asked.texts_with(alloc, component, &text) {
             Ok(texts) => Ok(PatternCovering::NotCovered(Parting { component, texts })),
             Err(NoText::Nothing(_)) => Ok(PatternCovering::Covered),
-            Err(NoText::Unknown(name, reason)) => Ok(PatternCovering::Unknown(name, reason)),
             Err(NoText::OutOfMemory) => Err(AllocError),
         }
     }
 
-    /// Returns eight texts that the pattern matches; that of `component` is `text`, which
-    /// `component` matches. The error says which component matches no text, or of which no text is
-    /// known.
+    /// Returns whether this pattern covers `asked`, where each component may cover, and it is not
+    /// known whether `component` does, for the reason `reason`. If some component of `asked`
+    /// matches no text, `asked` is covered.
+    fn unknown_or_covered(
+        &self,
+        alloc: Global,
+        asked: &Self,
+        component: ComponentName,
+        reason: Reason,
+    ) -> Result<PatternCovering, AllocError>
+        requires doubt { IsReasonToDoubt (at self.now.components component)
+            (at asked.now.components component) reason }
+        requires may_cover { (name : ComponentName)
+            → MayCover (at self.now.components name) (at asked.now.components name) }
+        ensures { IfOk result (IsPatternCovering self.now asked.now) }
+    {
+        match asked.examples(alloc) {
+            Ok(texts) => {
+                drop(texts);
+                Ok(PatternCovering::Unknown(component, reason))
+            }
+            Err(NoText::Nothing(_)) => Ok(PatternCovering::Covered),
+            Err(NoText::OutOfMemory) => Err(AllocError),
+        }
+    }
+
+    /// Returns a text of each component that the pattern matches, if one is known. The error says
+    /// which component matches no text.
+    fn examples(&self, alloc: Global) -> Result<Eight<Option<String>>, NoText>
+        ensures examples { IfOk result (λ texts. (name : ComponentName)
+            → IsExampleText (at self.now.components name) (at texts name)) }
+        ensures lack { IfErr result (LacksExample self.now) }
+    {
+        let text = |name: ComponentName| -> Result<Option<String>, NoText>
+            ensures { IsExampleIn self.entry.now name result }
+        { self.example(alloc, name) };
+        Eight::try_from_fn(text)
+    }
+
+    /// Returns a text of each component that the pattern matches, if one is known; that of
+    /// `component` is `text`, which `component` matches. The error says which component matches no
+    /// text.
     fn texts_with(
         &self,
         alloc: Global,
         component: ComponentName,
         text: &str,
-    ) -> Result<Eight<String>, NoText>
+    ) -> Result<Eight<Option<String>>, NoText>
         requires { IsMeantBy (at self.now.components component) (chars text.now) }
-        ensures meant { IfOk result (MeansEach self.now) }
-        ensures same { IfOk result (λ texts. text_of (at texts component) ≡ chars text.now) }
+        ensures examples { IfOk result (λ texts. (name : ComponentName)
+            → IsExampleText (at self.now.components name) (at texts name)) }
+        ensures same { IfOk result (λ texts.
+            option_map text_of (at texts component) ≡ Some (chars text.now)) }
         ensures lack { IfErr result (LacksExample self.now) }
     {
-        let value = |name: ComponentName| -> Result<String, NoText>
+        let value = |name: ComponentName| -> Result<Option<String>, NoText>
             ensures { IsTextWith self.entry.now component (chars text.entry.now) name result }
         { self.text_with(alloc, name, component, text) };
         Eight::try_from_fn(value)
     }
 
-    /// Returns a text that the component `name` matches: `text` if `name` is `uncovered`, and an
-    /// example for any other component. The error says that no such text exists, or that none is
-    /// known.
+    /// Returns a text that the component `name` matches, if one is known: `text` if `name` is
+    /// `uncovered`, and an example for any other component.
     fn text_with(
         &self,
         alloc: Global,
         name: ComponentName,
         uncovered: ComponentName,
         text: &str,
-    ) -> Result<String, NoText>
+    ) -> Result<Option<String>, NoText>
         ensures { IsTextWith self.now uncovered (chars text.now) name result }
     {
         if name == uncovered {
-            return Ok(String::from_str(alloc, text)?);
+            return Ok(Some(String::from_str(alloc, text)?));
         }
+        self.example(alloc, name)
+    }
+
+    /// Returns a text that the component `name` matches, if one is known.
+    fn example(&self, alloc: Global, name: ComponentName) -> Result<Option<String>, NoText>
+        ensures { IsExampleIn self.now name result }
+    {
         match component_example(alloc, self.components.get(name))? {
-            Overlap::Common(text) => Ok(string_of(alloc, &text)?),
+            Overlap::Common(text) => Ok(Some(string_of(alloc, &text)?)),
             Overlap::Apart => Err(NoText::Nothing(name)),
-            Overlap::Unknown(reason) => Err(NoText::Unknown(name, reason)),
+            Overlap::Unknown(_) => Ok(None),
         }
     }
 
-    /// Returns a text that the component `name` of this pattern and that of `other` match. The
-    /// error says that no such text exists, or that none is known.
+    /// Returns a text that the component `name` of this pattern and that of `other` match, or why
+    /// it is not known whether one exists.
     fn common_text(
         &self,
         alloc: Global,
         other: &Self,
         name: ComponentName,
-    ) -> Result<String, NoText>
-        ensures { IsCommonText self.now other.now name result }
+    ) -> Result<CommonOrDoubtful, NoText>
+        ensures { IsCommonIn self.now other.now name result }
     {
         let component = self.components.get(name);
-        let overlap = component_overlaps(alloc, component, other.components.get(name))?;
-        match overlap {
-            Overlap::Common(text) => Ok(string_of(alloc, &text)?),
+        let another = other.components.get(name);
+        match component_overlaps(alloc, component, another)? {
+            Overlap::Common(text) => Ok(Ok(Some(string_of(alloc, &text)?))),
             Overlap::Apart => Err(NoText::Nothing(name)),
-            Overlap::Unknown(reason) => Err(NoText::Unknown(name, reason)),
+            Overlap::Unknown(reason) => {
+                if is_same(component, another) {
+                    Ok(Ok(None))
+                } else {
+                    Ok(Err((name, reason)))
+                }
+            }
         }
+    }
+}
+
+/// Returns whether two patterns overlap, by what is known of each component.
+fn overlap_of(found: Eight<CommonOrDoubtful>) -> PatternOverlap
+    ensures { (pattern other : PatternParts) → AreCommonOrDoubtful pattern other found
+        → IsPatternOverlap pattern other result }
+{
+    let known = |found: CommonOrDoubtful| -> CommonOrDoubtful
+        ensures { result ≡ found }
+    { found };
+    match found.try_map(known) {
+        Ok(texts) => PatternOverlap::Common(texts),
+        Err((component, reason)) => PatternOverlap::Unknown(component, reason),
     }
 }
 

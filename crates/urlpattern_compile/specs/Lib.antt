@@ -4,3 +4,4 @@ pub mod Diagnoses
 pub mod FromString
 pub mod KeptComponents
 pub mod PatternViews
+pub mod Sources

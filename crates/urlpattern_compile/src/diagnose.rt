@@ -1,27 +1,29 @@
 //! Diagnoses constructor strings and inits: which component is rejected, and where its text is at
 //! fault.
 
-ghost use Rattle.std.specs.Prelude.{◌≡◌, option_copied, string_bytes, IfOk, IfSome};
+ghost use Rattle.std.specs.Prelude.{◌≡◌, ◌≤◌, length, option_copied, string_bytes, false, true, IfNone, IfOk, IfSome, Ok};
 ghost use Rattle.std.specs.Str.{chars};
 ghost use Rattle.urlpattern_diagnosis.specs.declared.diagnosis.Subject.TheVariants as subjects;
 ghost use Rattle.urlpattern_init.specs.Inheritance.{values_view};
-ghost use Rattle.urlpattern_compile.specs.Compiled.{RejectsInit, RejectsValues};
+ghost use Rattle.urlpattern_compile.specs.Compiled.{RejectsInit, RejectsValues, pattern_of};
 ghost use Rattle.urlpattern_compile.specs.CompilerSteps.{compiled_values, settings_by};
-ghost use Rattle.urlpattern_diagnosis.specs.Faults.{IsColonFault, IsFaultIn};
-ghost use Rattle.urlpattern_compile.specs.Diagnoses.{AcceptsInit, AcceptsPatternOfText, AcceptsValues, HasErrorOf, HasGivenText, IfAccepted, IfRejected, IsFaultOfRejectedPart, IsWithinText, ShowsGiven, ShowsInit, ShowsPattern, ShowsProtocol, ShowsValues};
+ghost use Rattle.urlpattern_diagnosis.specs.Faults.{IsExpressionFault, IsFaultIn, IsRunFault};
+ghost use Rattle.urlpattern_compile.specs.Diagnoses.{AcceptsExpressions, AcceptsInit, AcceptsParts, AcceptsPatternOfText, AcceptsValues, HasErrorOf, IfAccepted, IfRejected, IsFaultOfRejectedPart, IsAcceptedByEngine, IsRejectedByEngine, IsRejectedByUrl, IsWithinText, ShowsGiven, ShowsInit, ShowsPattern, ShowsProtocol, ShowsRejectedProtocol, ShowsValues, ShowsWritten, is_misread, span_in};
 ghost use Rattle.urlpattern_compile.specs.FromString.{RejectsPatternOfText};
+ghost use Rattle.urlpattern_compile.specs.Sources.{IsSource, IsSplitFrom, IsTextOf, string_written, written};
 ghost use Rattle.urlpattern_syntax.specs.Errors.{error_view};
 
 use crate::compile::Compiler;
+use crate::pattern_source::{PatternSource, SplitString, span_of};
 use crate::processed_init::{pattern_of, pattern_values};
 use crate::rejection::{Rejection, not_memory};
 use std::alloc::Global;
 use urlpattern_canonical::canonicalize_and_process::Canonicalizer;
 use urlpattern_canonical::parse_base;
-use urlpattern_components::{ComponentName, Eight};
+use urlpattern_components::ComponentName;
 use urlpattern_diagnosis::{
-    Diagnosis, Fault, PatternOffset, Subject, component_start, fault_of, fault_of_expression,
-    fault_of_host, rejected_expression, rejected_run,
+    Diagnosis, Fault, Span, Subject, fault_of, fault_of_expression, fault_of_host, has_path_sign,
+    rejected_expression, rejected_run,
 };
 use urlpattern_init::{UrlPatternInit, protocol_of};
 use urlpattern_inputs::UrlPatternOptions;
@@ -56,23 +58,28 @@ pub fn diagnose_text<R: RegExp>(
             return Ok(Some(Diagnosis::whole(alloc, error, Subject::Base, text)?));
         }
     };
-    let init = match UrlPatternInit::parse_constructor_string::<R>(alloc, pattern, base) {
-        Ok(init) => init,
+    let parsed = UrlPatternInit::parse_constructor_string_with_starts::<R>(alloc, pattern, base);
+    let (init, starts) = match parsed {
+        Ok(found) => found,
         Err(error) => {
             let error = not_memory(error)?;
             return Ok(Some(protocol_diagnosis(alloc, error, pattern)?));
         }
     };
-    let found = init_diagnosis::<R>(alloc, &init, &options, Some(pattern));
+    let string = SplitString {
+        text: pattern,
+        starts: &starts,
+    };
+    let found = init_diagnosis::<R>(alloc, &init, &options, Some(string));
     drop(init);
     found
 }
 
 /// Diagnoses an init. `None`: the init is accepted.
 ///
-/// If the init is rejected, its components are compiled again to find the one at fault. The text of
-/// the diagnosis is the value of that component, or its pattern if the init lacks the component; it
-/// is empty if each component is accepted the second time.
+/// The text of the diagnosis is the value that the init gives for the rejected component, or the
+/// component's pattern if it gives none. If the init is rejected, its components are compiled again
+/// to find the one at fault.
 pub fn diagnose_init<R: RegExp>(
     alloc: Global,
     init: &UrlPatternInit,
@@ -91,84 +98,100 @@ pub fn diagnose_init<R: RegExp>(
 fn protocol_diagnosis(alloc: Global, error: Error, text: &str) -> Result<Diagnosis, OutOfMemory>
     ensures error { IfOk result (λ diagnosis. diagnosis.error ≡ error) }
     ensures text { IfOk result (λ diagnosis. string_bytes diagnosis.text ≡ text.now) }
-    ensures shows { IfOk result (λ diagnosis.
-        ShowsProtocol (chars text.now) diagnosis.subject diagnosis) }
+    ensures shows { IfOk result (ShowsProtocol (chars text.now)) }
     ensures within { IfOk result IsWithinText }
 {
     let Ok(found) = protocol_of(alloc, text) else {
         return Err(OutOfMemory);
     };
     match found {
-        Some(protocol) if !lacks_colon(text, &error) => match colon_fault(text, protocol, &error) {
-            Some(fault) => Ok(Diagnosis::of_colon(alloc, error, text, fault)?),
-            None => {
-                let name = ComponentName::Protocol;
-                let fault = fault_of(alloc, Some(name), protocol, "", &error)?;
-                let place = PatternOffset::of_component(text, protocol, name, 0, protocol.len());
-                let subject = Subject::Component(name);
-                Ok(Diagnosis::of_part(alloc, error, subject, text, protocol, fault, place)?)
-            }
-        },
-        _ => Ok(Diagnosis::whole(alloc, error, Subject::Whole, text)?),
+        Some(protocol) => {
+            let start = protocol.start.unwrap_or(0);
+            let span = span_of(text, start, protocol.text.len());
+            rejected_protocol(alloc, error, text, protocol.text, span)
+        }
+        None => Ok(Diagnosis::whole(alloc, error, Subject::Whole, text)?),
     }
 }
 
-/// Returns the colon after `protocol`, or the backslash that escapes it, as the fault in `text`, if
-/// `protocol` contains a character of a path, a search or a hash, and so cannot be a protocol.
-/// `None`: `protocol` contains none, or the error is at a place where no token begins.
-fn colon_fault(text: &str, protocol: &str, error: &Error) -> Option<Fault>
-    ensures fault { IfSome result (IsColonFault text.now protocol.now) }
-    ensures within { IfSome result (IsFaultIn text.now) }
+/// Diagnoses a constructor string that has the rejected `protocol` at `span`.
+fn rejected_protocol(
+    alloc: Global,
+    error: Error,
+    text: &str,
+    protocol: &str,
+    span: Span,
+) -> Result<Diagnosis, OutOfMemory>
+    requires order { span.start ≤ span.end }
+    requires there { span.end ≤ length text.now }
+    ensures error { IfOk result (λ diagnosis. diagnosis.error ≡ error) }
+    ensures text { IfOk result (λ diagnosis. string_bytes diagnosis.text ≡ text.now) }
+    ensures shows { IfOk result (λ diagnosis.
+        ShowsRejectedProtocol protocol.now span diagnosis.subject diagnosis) }
+    ensures within { IfOk result IsWithinText }
+{
+    if !is_misread(text, protocol, &error) {
+        let name = ComponentName::Protocol;
+        let fault = fault_of(alloc, Some(name), protocol, "", &error)?;
+        return Ok(Diagnosis::of_part(alloc, error, name, text, protocol, fault, Some(span))?);
+    }
+    if Fault::lacks_colon(text) {
+        return Ok(Diagnosis::whole(alloc, error, Subject::Whole, text)?);
+    }
+    Ok(Diagnosis::of_colon(alloc, error, text, span.end)?)
+}
+
+/// Whether `protocol`, what is parsed as the protocol of a text that is rejected with `error`, is
+/// not meant as one: a special scheme lacks its colon, or has `;` in its place; or `protocol`
+/// contains a character of a path, a search or a hash, and no token is at fault.
+fn is_misread(text: &str, protocol: &str, error: &Error) -> bool
+    ensures { result ≡ is_misread text.now protocol.now error.now }
 {
     match error {
-        Error::Tokenizer(_, _) => None,
-        _ => Fault::of_colon(text, protocol),
+        Error::Tokenizer(_, _) => Fault::lacks_colon(text),
+        _ => Fault::lacks_colon(text) || has_path_sign(protocol),
     }
-}
-
-/// Whether a text that is rejected with `error` has no protocol, or lacks the colon after a special
-/// scheme or `http{s}?`, or has `;` in place of the colon after a special scheme.
-fn lacks_colon(text: &str, error: &Error) -> bool {
-    matches!(error, Error::BaseUrlRequired) || Fault::of_url(text) != Fault::whole(text)
 }
 
 /// Diagnoses an init. `None`: the init is accepted. The fault is shown in `string`, the constructor
-/// string that the init was parsed from, or, for `None`, as `diagnose_init` says.
+/// string that was split into the init, or, for `None`, in the value of the rejected component.
 fn init_diagnosis<R: RegExp>(
     alloc: Global,
     init: &UrlPatternInit,
     options: &UrlPatternOptions,
-    string: Option<&str>,
+    string: Option<SplitString<'_>>,
 ) -> Result<Option<Diagnosis>, OutOfMemory>
+    requires { IsSplitFrom (string_written string) (values_view init.now) }
     ensures accepted { IfAccepted result (AcceptsInit R.RegExp init.now options.now) }
     ensures refused { IfRejected result (HasErrorOf (RejectsInit R.RegExp init.now options.now)) }
-    ensures shows { IfRejected result (ShowsInit R.RegExp init.now options.now) }
-    ensures text { IfRejected result (HasGivenText (option_copied string.entry)) }
+    ensures shows { IfRejected result
+        (ShowsWritten R.RegExp (string_written string.entry) init.now options.now) }
     ensures within { IfRejected result IsWithinText }
 {
     let Ok(values) = pattern_values(alloc, init) else {
         return Err(OutOfMemory);
     };
-    let given = PatternSource { string, init };
-    let found = values_diagnosis::<R>(alloc, &values, options, given);
+    let source = PatternSource { string, init };
+    let found = values_diagnosis::<R>(alloc, &values, options, source);
     drop(values);
     found
 }
 
 /// Diagnoses `values`, the processed values of an init. `None`: they are accepted. The fault is
-/// shown in the texts of `given`.
+/// shown in the texts of `source`.
 fn values_diagnosis<R: RegExp>(
     alloc: Global,
     values: &UrlPatternInit,
     options: &UrlPatternOptions,
-    given: PatternSource<'_>,
+    source: PatternSource<'_>,
 ) -> Result<Option<Diagnosis>, OutOfMemory>
+    requires { IsSource source }
     ensures accepted { IfAccepted result
         (AcceptsValues R.RegExp options.now (values_view values.now)) }
     ensures refused { IfRejected result
         (HasErrorOf (RejectsValues R.RegExp options.now (values_view values.now))) }
-    ensures shows { IfRejected result (ShowsValues R.RegExp options.now (values_view values.now)) }
-    ensures text { IfRejected result (HasGivenText (option_copied given.entry.string)) }
+    ensures shows { IfRejected result (ShowsValues R.RegExp options.now (values_view values.now)
+        (written source.entry)) }
     ensures within { IfRejected result IsWithinText }
 {
     let Ok(canonicalizer) = Canonicalizer::shared(alloc) else {
@@ -187,43 +210,8 @@ fn values_diagnosis<R: RegExp>(
         }
         Err(error) => {
             let error = not_memory(error)?;
-            Ok(Some(compiler.diagnosis::<R>(error, given)?))
+            Ok(Some(compiler.diagnosis::<R>(error, source)?))
         }
-    }
-}
-
-/// A pattern as the caller wrote it: an init, and the constructor string that it was parsed from,
-/// if any.
-#[derive(Clone, Copy)]
-struct PatternSource<'a> {
-    string: Option<&'a str>,
-    init: &'a UrlPatternInit,
-}
-
-impl<'a> PatternSource<'a> {
-    /// Returns the text of a component before it is processed. `None`: the init lacks the
-    /// component.
-    fn value(&self, component: ComponentName) -> Option<&'a str> {
-        self.init.get(component)
-    }
-
-    /// Returns the byte index at which the value of a component begins in the constructor string; 0
-    /// if there is no string.
-    fn start(&self, component: ComponentName) -> usize {
-        let Some(string) = self.string else {
-            return 0;
-        };
-        let values = Eight {
-            protocol: self.value(ComponentName::Protocol),
-            username: self.value(ComponentName::Username),
-            password: self.value(ComponentName::Password),
-            hostname: self.value(ComponentName::Hostname),
-            port: self.value(ComponentName::Port),
-            pathname: self.value(ComponentName::Pathname),
-            search: self.value(ComponentName::Search),
-            hash: self.value(ComponentName::Hash),
-        };
-        component_start(string, &values, component)
     }
 }
 
@@ -233,21 +221,21 @@ impl Compiler<'_> {
     fn diagnosis<R: RegExp>(
         &self,
         error: Error,
-        given: PatternSource<'_>,
+        source: PatternSource<'_>,
     ) -> Result<Diagnosis, OutOfMemory>
-        requires { RejectsValues R.RegExp self.now.options.now (compiled_values self.now)
+        requires rejected { RejectsValues R.RegExp self.now.options.now (compiled_values self.now)
             (error_view error) }
+        requires source { IsSource source }
         ensures refused { IfOk result
             (HasErrorOf (RejectsValues R.RegExp self.now.options.now (compiled_values self.now))) }
-        ensures shows { IfOk result
-            (ShowsValues R.RegExp self.now.options.now (compiled_values self.now)) }
-        ensures text { IfOk result (HasGivenText (option_copied given.entry.string)) }
+        ensures shows { IfOk result (ShowsValues R.RegExp self.now.options.now
+            (compiled_values self.now) (written source.entry)) }
         ensures within { IfOk result IsWithinText }
     {
         match self.first_rejected::<R>()? {
-            Some(rejection) => self.component_diagnosis::<R>(rejection, given),
+            Some(rejection) => self.component_diagnosis::<R>(rejection, source),
             None => {
-                let text = given.string.unwrap_or("");
+                let text = source.whole_text();
                 Ok(Diagnosis::whole(self.alloc, error, Subject::Whole, text)?)
             }
         }
@@ -258,14 +246,19 @@ impl Compiler<'_> {
     fn component_diagnosis<R: RegExp>(
         &self,
         rejection: Rejection,
-        given: PatternSource<'_>,
+        source: PatternSource<'_>,
     ) -> Result<Diagnosis, OutOfMemory>
+        requires { IsSource source }
         ensures error { IfOk result (λ diagnosis. diagnosis.error ≡ rejection.error) }
         ensures subject { IfOk result (λ diagnosis.
             diagnosis.subject ≡ subjects.Component rejection.component) }
-        ensures shows { IfOk result (ShowsPattern rejection.component
-            (settings_by self.now rejection.hierarchical rejection.component)) }
-        ensures text { IfOk result (HasGivenText (option_copied given.entry.string)) }
+        ensures shows { IfOk result (λ diagnosis. ShowsPattern R.RegExp rejection.component
+            (settings_by self.now rejection.hierarchical rejection.component)
+            (span_in (written source.entry).string (written source.entry).components
+            (string_bytes diagnosis.text) rejection.component) diagnosis) }
+        ensures text { IfOk result (λ diagnosis. IsTextOf (written source.entry)
+            rejection.component (pattern_of (compiled_values self.now) rejection.component)
+            (string_bytes diagnosis.text)) }
         ensures within { IfOk result IsWithinText }
     {
         let Rejection {
@@ -283,12 +276,9 @@ impl Compiler<'_> {
             Some(fault) => fault,
             None => fault_of(self.alloc, Some(component), pattern, point, &error)?,
         };
-        let value = given.value(component).unwrap_or(pattern);
-        let text = given.string.unwrap_or(value);
-        let start = given.start(component);
-        let place = PatternOffset::of_component(text, pattern, component, start, value.len());
-        let subject = Subject::Component(component);
-        Ok(Diagnosis::of_part(self.alloc, error, subject, text, pattern, fault, place)?)
+        let text = source.text(component, pattern);
+        let value = source.span(component, text);
+        Ok(Diagnosis::of_part(self.alloc, error, component, text, pattern, fault, value)?)
     }
 
     /// Returns the fault of the first part of a pattern that is rejected also by itself: a custom
@@ -302,8 +292,10 @@ impl Compiler<'_> {
         pattern: &str,
         error: &Error,
     ) -> Result<Option<Fault>, OutOfMemory>
-        ensures part { IfOk result (λ found.
-            IfSome found (IsFaultOfRejectedPart pattern.now error.now)) }
+        ensures part { IfOk result (λ found. IfSome found (IsFaultOfRejectedPart R.RegExp
+            (settings_by self.now hierarchical component) pattern.now error.now)) }
+        ensures accepted { IfOk result (λ found.
+            IfNone found (AcceptsParts R.RegExp pattern.now error.now)) }
         ensures within { IfOk result (λ found. IfSome found (IsFaultIn pattern.now)) }
     {
         match error {
@@ -316,12 +308,19 @@ impl Compiler<'_> {
     /// Returns the fault of the first custom expression of a pattern that the engine rejects also
     /// by itself. `None`: the engine accepts each.
     fn rejected_expression<R: RegExp>(&self, pattern: &str) -> Result<Option<Fault>, OutOfMemory>
-        ensures { IfOk result (λ found. IfSome found (IsFaultIn pattern.now)) }
+        ensures part { IfOk result (λ found.
+            IfSome found (IsExpressionFault (IsRejectedByEngine R.RegExp) pattern.now)) }
+        ensures accepted { IfOk result (λ found.
+            IfNone found (AcceptsExpressions R.RegExp pattern.now)) }
+        ensures within { IfOk result (λ found. IfSome found (IsFaultIn pattern.now)) }
     {
         let Ok(tokens) = tokenize(self.alloc, pattern, TokenizePolicy::Strict) else {
             return Err(OutOfMemory);
         };
-        let refuses = |text: &str| -> Result<bool, OutOfMemory> {
+        let refuses = |text: &str| -> Result<bool, OutOfMemory>
+            ensures refused { result ≡ Ok true → IsRejectedByEngine R.RegExp text.now }
+            ensures accepted { result ≡ Ok false → IsAcceptedByEngine R.RegExp text.now }
+        {
             match R::parse(self.alloc, text, "u", true) {
                 Ok(_) => Ok(false),
                 Err(RegExpError::Pattern) => Ok(true),
@@ -343,16 +342,23 @@ impl Compiler<'_> {
         hierarchical: bool,
         pattern: &str,
     ) -> Result<Option<Fault>, OutOfMemory>
-        ensures { IfOk result (λ found. IfSome found (IsFaultIn pattern.now)) }
+        ensures part { IfOk result (λ found. IfSome found (IsRunFault
+            (IsRejectedByUrl (settings_by self.now hierarchical component)) pattern.now)) }
+        ensures within { IfOk result (λ found. IfSome found (IsFaultIn pattern.now)) }
     {
         let Ok(tokens) = tokenize(self.alloc, pattern, TokenizePolicy::Strict) else {
             return Err(OutOfMemory);
         };
-        let refuses = |text: &str| -> Result<bool, OutOfMemory> {
+        let refuses = |text: &str| -> Result<bool, OutOfMemory>
+            ensures { result ≡ Ok true → IsRejectedByUrl
+                (settings_by self.entry.now hierarchical component) text.now }
+        {
             match self.canonical(component, hierarchical, text) {
                 Ok(_) => Ok(false),
-                Err(Error::OutOfMemory) => Err(OutOfMemory),
-                Err(_) => Ok(true),
+                Err(error) => {
+                    drop(not_memory(error)?);
+                    Ok(true)
+                }
             }
         };
         match rejected_run(self.alloc, pattern, &tokens, refuses)? {

@@ -47,7 +47,7 @@ pub fn init_of_text_keeping<'a, R: RegExp>(
         (MemoryOr (RejectsText (chars text.now) (option_copied base_url.entry))) }
 {
     let base_url = parse_base(alloc, base_url)?;
-    let (init, _, known) = UrlPatternInit::parse_constructor_string_keeping::<R>(
+    let (init, _, known, _) = UrlPatternInit::parse_constructor_string_keeping::<R>(
         alloc, text, base_url, keeps,
     )?;
     Ok((init, known))

@@ -2,7 +2,7 @@
 
 ghost use Rattle.std.specs.Prelude.{◌≡◌, ◌≢◌, false, IfNone, IfOk, IfSome};
 ghost use Rattle.urlpattern_compile.specs.CompilerSteps.{compiled_values, settings_by};
-ghost use Rattle.urlpattern_compile.specs.Diagnoses.{AcceptsComponent, IsFirstRejection, IsRejectionOf, RejectsComponent};
+ghost use Rattle.urlpattern_compile.specs.Diagnoses.{AcceptsComponent, AcceptsEach, AcceptsValues, IsFirstRejection, IsRejectionOf, RejectsComponent};
 ghost use Rattle.urlpattern_compile.specs.KeptComponents.{IsCompiledWithParts};
 ghost use Rattle.urlpattern_components.specs.declared.eight.ComponentName.TheVariants as names;
 ghost use Rattle.urlpattern_syntax.specs.Errors.{ErrorView as views, error_view};
@@ -40,8 +40,10 @@ impl Compiler<'_> {
     /// Returns the first component that is rejected, in the order of compilation. `None`: each is
     /// accepted.
     pub(super) fn first_rejected<R: RegExp>(&self) -> Result<Option<Rejection>, OutOfMemory>
-        ensures { IfOk result (λ found.
+        ensures rejected { IfOk result (λ found.
             IfSome found (IsRejectionOf R.RegExp self.now.options.now (compiled_values self.now))) }
+        ensures accepted { IfOk result (λ found.
+            IfNone found (AcceptsValues R.RegExp self.now.options.now (compiled_values self.now))) }
     {
         match self.component::<R>(ComponentName::Protocol, false) {
             Ok(protocol) => self.first_rejected_after::<R>(protocol),
@@ -64,8 +66,10 @@ impl Compiler<'_> {
     ) -> Result<Option<Rejection>, OutOfMemory>
         requires { IsCompiledWithParts R.RegExp (settings_by self.now false names.Protocol)
             protocol }
-        ensures { IfOk result (λ found.
+        ensures rejected { IfOk result (λ found.
             IfSome found (IsRejectionOf R.RegExp self.now.options.now (compiled_values self.now))) }
+        ensures accepted { IfOk result (λ found.
+            IfNone found (AcceptsValues R.RegExp self.now.options.now (compiled_values self.now))) }
     {
         match self.is_hierarchical(&protocol.component) {
             Ok(hierarchical) => self.first_rejected_of::<R>(hierarchical, &AFTER_PROTOCOL),
@@ -86,6 +90,9 @@ impl Compiler<'_> {
         ensures refused { IfOk result (λ found.
             IfSome found
             (RejectsComponent R.RegExp (settings_by self.now hierarchical) hierarchical)) }
+        ensures accepted { IfOk result (λ found.
+            IfNone found
+            (AcceptsEach R.RegExp (settings_by self.now hierarchical) names.now)) }
     {
         for name in names {
             match self.rejection_of::<R>(hierarchical, *name)? {

@@ -4,3 +4,4 @@ pub mod SeenLemmas
 pub mod TextBetween
 pub mod SplitLemmas
 pub mod UserinfoLemmas
+pub mod SplitStarts

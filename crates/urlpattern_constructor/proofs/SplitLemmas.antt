@@ -8,7 +8,7 @@ use Rattle.std.proofs.lemmas.Slice.Eq.{bytes_eq-Decides}
 use Rattle.std.specs.List.{fold}
 use Rattle.std.specs.Prelude.{codes, IsSomeAnd, IsTrue, is_some, option_map, slice_get, slice_range}
 use Rattle.std.specs.Str.{bytes_eq}
-use Rattle.urlpattern_constructor.specs.Split.{EndsAt, IsSplit, LacksProtocol, passes_at, depth_before, depth_after, ends_at, is_at_sign, is_balanced, is_character, is_colon_sign, is_end, is_ending, is_hash_sign, is_open, is_search_prefix, is_seen, is_non_special_pattern_char, is_slash_sign, may_end}
+use Rattle.urlpattern_constructor.specs.Split.{EndsAt, IsSplit, LacksProtocol, SplitTextView, SplitTexts, passes_at, depth_before, depth_after, ends_at, is_at_sign, is_balanced, is_character, is_colon_sign, is_end, is_ending, is_hash_sign, is_open, is_search_prefix, is_seen, is_non_special_pattern_char, is_slash_sign, may_end}
 use Rattle.urlpattern_constructor.proofs.ClosedTokens.{IsClosed}
 use Rattle.urlpattern_constructor.specs.Splitting.{may_end_before}
 use Rattle.urlpattern_constructor.specs.declared.sections.Section.{Section}
@@ -18,7 +18,6 @@ use Rattle.urlpattern_constructor.proofs.SeenLemmas.{depth_here, depth_more}
 use Rattle.urlpattern_syntax.specs.Tokens.{AreLenientTokens, TokenView}
 use Rattle.urlpattern_syntax.specs.declared.tokenizer.TokenType.{TokenType}
 use Rattle.urlpattern_syntax.specs.declared.tokenizer.TokenType.TheVariants.{Char, Close, End, EscapedChar, InvalidChar, Open}
-use Rattle.urlpattern_components.specs.Eight.{Values}
 
 -- ---- signs
 
@@ -312,8 +311,8 @@ none_of None none = refl
 none_of (Some x) none = absurd (false≢true (sym none))
 
 -- A text whose split has no protocol lacks one.
-pub lacks_protocol : (IsSpecial : List ℕ → Bool → Type 0) (text : List ℕ) (tokens : List TokenView) (components : Values) → AreLenientTokens text tokens → IsSplit IsSpecial text tokens components → ((P : List ℕ → Type 0) → IsSomeAnd components.protocol P → ⊥) → LacksProtocol text
+pub lacks_protocol : (IsSpecial : List ℕ → Bool → Type 0) (text : List ℕ) (tokens : List TokenView) (components : SplitTexts) → AreLenientTokens text tokens → IsSplit IsSpecial text tokens components → ((P : SplitTextView → Type 0) → IsSomeAnd components.protocol P → ⊥) → LacksProtocol text
 lacks_protocol IsSpecial text tokens components are_tokens split none = elim split [
   | inl relative ↦ (tokens, relative.until, are_tokens, relative.no_colon, relative.is_end)
-  | inr absolute ↦ absurd (none (λ protocol. IsSpecial protocol absolute.1) absolute.3)
+  | inr absolute ↦ absurd (none (λ protocol. IsSpecial protocol.text absolute.1) absolute.3)
 ]

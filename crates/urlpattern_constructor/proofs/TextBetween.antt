@@ -244,3 +244,8 @@ tokens_len source = length-map source.tokens.now token_view
 -- The tokens of a source end with End.
 pub source_closed : (source : Source) → IsSource source → IsClosed (tokens_of source)
 source_closed source h = are_closed (text_of_source source) (tokens_of source) h
+
+-- The token at which a part of the text begins, as the code reads it.
+pub begins_at : (source : Source) (from until : ℕ) (between : List ℕ) → from < length source.tokens.now → (is : IsTextBetween (text_of_source source) (tokens_of source) from until between) → (get_or source.tokens.now from no_token).index ≡ byte_len is.front
+begins_at source from until between within is =
+    index_of (tokens_of source) from (byte_len is.front) (token_view (get_or source.tokens.now from no_token)) (view_read source.tokens.now from no_token within) is.begins

@@ -5,7 +5,7 @@ use Rattle.std.specs.List.{count_by, fold, range_with_len}
 use Rattle.std.specs.{Option.option_map_or, Str.bytes_eq}
 use Rattle.urlpattern_constructor.specs.declared.sections.Section.{Section}
 use Rattle.urlpattern_constructor.specs.declared.sections.Section.TheVariants.{Protocol, Authority, Username, Password, Hostname, Port, Pathname, Search, Hash}
-use Rattle.urlpattern_components.specs.Eight.{Values}
+use Rattle.urlpattern_components.specs.declared.eight.Eight.{Eight}
 use Rattle.urlpattern_syntax.specs.Text.{byte_len}
 use Rattle.urlpattern_syntax.specs.declared.tokenizer.TokenType.{TokenType}
 use Rattle.urlpattern_syntax.specs.Tokens.{AreLenientTokens, TokenView}
@@ -173,29 +173,51 @@ pub record IsTextBetween (text : List ℕ) (tokens : List TokenView) (from until
   pub ends : IsSomeAnd (slice_get tokens until) (λ token.
       token.index ≡ byte_len front + byte_len between)
 
+-- The text of a component, and the byte at which the constructor string has it. `None`: the string
+-- implies the text, and does not have it.
+pub record SplitTextView : Type 0 where
+  pub text : List ℕ
+  pub start : Option ℕ
+
+-- A text for each component, or None for a component that is not present.
+abbrev pub SplitTexts : Type 0
+SplitTexts = Eight (Option SplitTextView)
+
+-- The component is present, and the constructor string implies its text.
+abbrev pub implied : (text : List ℕ) → Option SplitTextView
+implied text = Some (record { text = text; start = None })
+
+-- `found` is the part of `text` from the token at `from` up to the token at `until`, exclusive, and
+-- begins where `text` has that part.
+abbrev pub IsSplitTextBetween : (text : List ℕ) → List TokenView → (from until : ℕ) → SplitTextView
+    → Type 0
+IsSplitTextBetween text tokens from until found =
+    (is : IsTextBetween text tokens from until found.text)
+    × (found.start ≡ Some (byte_len is.front))
+
 -- The component is present: the part of `text` from the token at `from` up to the token at `until`,
 -- exclusive.
 abbrev pub IsComponentBetween : (text : List ℕ) → List TokenView
-    → (from until : ℕ) → Option (List ℕ) → Type 0
+    → (from until : ℕ) → Option SplitTextView → Type 0
 IsComponentBetween text tokens from until component =
-    IsSomeAnd component (IsTextBetween text tokens from until)
+    IsSomeAnd component (IsSplitTextBetween text tokens from until)
 
 -- The hash begins at the token `from` and extends to End.
-abbrev pub HashFrom : (text : List ℕ) → List TokenView → (from : ℕ) → Values → Type 0
+abbrev pub HashFrom : (text : List ℕ) → List TokenView → (from : ℕ) → SplitTexts → Type 0
 HashFrom text tokens from components =
     (until : ℕ) × IsTrue (ends_at tokens until)
     × IsComponentBetween text tokens from until components.hash
 
 -- The hash, after a search that ends before the token `position`: a number sign begins it, and at
 -- End it is None.
-abbrev pub HashAt : (text : List ℕ) → List TokenView → (position : ℕ) → Values → Type 0
+abbrev pub HashAt : (text : List ℕ) → List TokenView → (position : ℕ) → SplitTexts → Type 0
 HashAt text tokens position components =
     (IsTrue (is_hash_sign tokens position) × HashFrom text tokens (position + 1) components)
     ⊎ (IsTrue (ends_at tokens position) × (components.hash ≡ None))
 
 -- The search begins at the token `from`, where `depth` groups are open, and ends at the number sign
 -- of the hash or at End. The hash follows by `HashAt`.
-abbrev pub SearchFrom : (text : List ℕ) → List TokenView → (from depth : ℕ) → Values → Type 0
+abbrev pub SearchFrom : (text : List ℕ) → List TokenView → (from depth : ℕ) → SplitTexts → Type 0
 SearchFrom text tokens from depth components =
     (until : ℕ) × EndsAt Search tokens from depth until
     × IsComponentBetween text tokens from until components.search
@@ -203,17 +225,17 @@ SearchFrom text tokens from depth components =
 
 -- The search and the hash, after a pathname that ends before the token `position`: a question mark
 -- begins the search, at a number sign it is empty, and at End both are None.
-abbrev pub SearchAt : (text : List ℕ) → List TokenView → (position : ℕ) → Values → Type 0
+abbrev pub SearchAt : (text : List ℕ) → List TokenView → (position : ℕ) → SplitTexts → Type 0
 SearchAt text tokens position components =
     (IsTrue (is_search_prefix tokens position) × SearchFrom text tokens (position + 1) 0 components)
     ⊎ (IsTrue (is_hash_sign tokens position)
-    × (components.search ≡ Some [])
+    × (components.search ≡ implied [])
     × HashFrom text tokens (position + 1) components)
     ⊎ (IsTrue (ends_at tokens position) × (components.search ≡ None) × (components.hash ≡ None))
 
 -- The pathname begins at the token `from`, where `depth` groups are open, and ends at the sign of
 -- the search or of the hash or at End. The search and the hash follow by `SearchAt`.
-abbrev pub PathnameFrom : (text : List ℕ) → List TokenView → (from depth : ℕ) → Values → Type 0
+abbrev pub PathnameFrom : (text : List ℕ) → List TokenView → (from depth : ℕ) → SplitTexts → Type 0
 PathnameFrom text tokens from depth components =
     (until : ℕ) × EndsAt Pathname tokens from depth until
     × IsComponentBetween text tokens from until components.pathname
@@ -229,11 +251,11 @@ implied_pathname false = []
 -- `position`: a slash begins the pathname, before a search or a hash it is `implied_pathname`, and
 -- at End all three are None. `special` says whether the protocol matches a special scheme.
 abbrev pub PathnameAt : (text : List ℕ) → List TokenView → (special : Bool) → (position : ℕ)
-    → Values → Type 0
+    → SplitTexts → Type 0
 PathnameAt text tokens special position components =
     (IsTrue (is_slash_sign tokens position) × PathnameFrom text tokens position 0 components)
     ⊎ (IsTrue (is_search_prefix tokens position || is_hash_sign tokens position)
-    × (components.pathname ≡ Some (implied_pathname special))
+    × (components.pathname ≡ implied (implied_pathname special))
     × SearchAt text tokens position components)
     ⊎ (IsTrue (ends_at tokens position)
     × (components.pathname ≡ None)
@@ -243,8 +265,8 @@ PathnameAt text tokens special position components =
 -- The port and the components after it, where the hostname ends before the token `position`: a
 -- colon begins the port, and without a colon it is empty. `special` says whether the protocol
 -- matches a special scheme.
-abbrev pub PortAt : (text : List ℕ) → List TokenView → (special : Bool) → (position : ℕ) → Values
-    → Type 0
+abbrev pub PortAt : (text : List ℕ) → List TokenView → (special : Bool) → (position : ℕ)
+    → SplitTexts → Type 0
 PortAt text tokens special position components =
     (IsTrue (is_colon_sign tokens position)
     × ((until : ℕ)
@@ -252,14 +274,14 @@ PortAt text tokens special position components =
     × IsComponentBetween text tokens (position + 1) until components.port
     × PathnameAt text tokens special until components))
     ⊎ (¬ IsTrue (is_colon_sign tokens position)
-    × (components.port ≡ Some [])
+    × (components.port ≡ implied [])
     × PathnameAt text tokens special position components)
 
 -- The hostname begins at the token `from`, where `depth` groups are open. The port and the
 -- components after it follow by `PortAt`. `special` says whether the protocol matches a special
 -- scheme.
 abbrev pub HostnameFrom : (text : List ℕ) → List TokenView → (special : Bool) → (from depth : ℕ)
-    → Values → Type 0
+    → SplitTexts → Type 0
 HostnameFrom text tokens special from depth components =
     (until : ℕ) × EndsAt Hostname tokens from depth until
     × IsComponentBetween text tokens from until components.hostname
@@ -267,7 +289,7 @@ HostnameFrom text tokens special from depth components =
 
 -- The username begins at the token `from`, and ends at a colon or at the token `until`, an at sign.
 -- The password is the text between the colon and `until`, or None without a colon.
-abbrev pub UserinfoFrom : (text : List ℕ) → List TokenView → (from until : ℕ) → Values → Type 0
+abbrev pub UserinfoFrom : (text : List ℕ) → List TokenView → (from until : ℕ) → SplitTexts → Type 0
 UserinfoFrom text tokens from until components =
     (position : ℕ) × EndsAt Username tokens from 0 position
     × IsComponentBetween text tokens from position components.username
@@ -281,8 +303,8 @@ UserinfoFrom text tokens from until components =
 -- as many groups count as open as are open at the end of the authority: the standard's parser goes
 -- back to `from` without closing them. `special` says whether the protocol matches a special
 -- scheme.
-abbrev pub AuthorityFrom : (text : List ℕ) → List TokenView → (special : Bool) → (from : ℕ) → Values
-    → Type 0
+abbrev pub AuthorityFrom : (text : List ℕ) → List TokenView → (special : Bool) → (from : ℕ)
+    → SplitTexts → Type 0
 AuthorityFrom text tokens special from components =
     (until : ℕ) × EndsAt Authority tokens from 0 until
     × ((IsTrue (is_at_sign tokens until) × UserinfoFrom text tokens from until components
@@ -295,7 +317,7 @@ AuthorityFrom text tokens special from components =
 -- ---- the whole string
 
 -- All components before the pathname are None.
-abbrev pub NoAuthority : Values → Type 0
+abbrev pub NoAuthority : SplitTexts → Type 0
 NoAuthority components =
     (components.protocol ≡ None) × (components.username ≡ None) × (components.password ≡ None)
     × (components.hostname ≡ None) × (components.port ≡ None)
@@ -303,21 +325,21 @@ NoAuthority components =
 -- `components` is the split of a text without a protocol, as no colon ends one. By its first token
 -- the text begins with the hash, with the search or else with the pathname. In a search or a
 -- pathname as many groups count as open at first as are open at End.
-pub record IsRelativeSplit (text : List ℕ) (tokens : List TokenView) (components : Values) : Type 0
-  where
-    pub until : ℕ
-    pub no_colon : EndsAt Protocol tokens 0 0 until
-    pub is_end : IsTrue (ends_at tokens until)
-    pub begins :
-        (IsTrue (is_hash_sign tokens 0)
-        × (components.pathname ≡ None)
-        × (components.search ≡ None)
-        × HashFrom text tokens 1 components)
-        ⊎ (IsTrue (is_search_prefix tokens 0) × (components.pathname ≡ None)
-        × SearchFrom text tokens 1 (depth_before tokens 0 0 until) components)
-        ⊎ (¬ IsTrue (is_hash_sign tokens 0 || is_search_prefix tokens 0)
-        × PathnameFrom text tokens 0 (depth_before tokens 0 0 until) components)
-    pub nothing_before : NoAuthority components
+pub record IsRelativeSplit (text : List ℕ) (tokens : List TokenView) (components : SplitTexts) :
+    Type 0 where
+  pub until : ℕ
+  pub no_colon : EndsAt Protocol tokens 0 0 until
+  pub is_end : IsTrue (ends_at tokens until)
+  pub begins :
+      (IsTrue (is_hash_sign tokens 0)
+      × (components.pathname ≡ None)
+      × (components.search ≡ None)
+      × HashFrom text tokens 1 components)
+      ⊎ (IsTrue (is_search_prefix tokens 0) × (components.pathname ≡ None)
+      × SearchFrom text tokens 1 (depth_before tokens 0 0 until) components)
+      ⊎ (¬ IsTrue (is_hash_sign tokens 0 || is_search_prefix tokens 0)
+      × PathnameFrom text tokens 0 (depth_before tokens 0 0 until) components)
+  pub nothing_before : NoAuthority components
 
 -- Whether the two tokens after the token at `position` are slashes.
 abbrev pub has_slashes : List TokenView → ℕ → Bool
@@ -328,7 +350,7 @@ has_slashes tokens position =
 -- authority begins, if two slashes follow or the protocol matches a special scheme, otherwise a
 -- pathname, and then hostname and port are empty.
 pub record IsAbsoluteSplit (text : List ℕ) (tokens : List TokenView) (special : Bool) (colon : ℕ)
-    (components : Values) : Type 0 where
+    (components : SplitTexts) : Type 0 where
   pub is_colon_there : IsTrue (is_colon_sign tokens colon)
   pub protocol_ends : EndsAt Protocol tokens 0 0 colon
   pub protocol : IsComponentBetween text tokens 0 colon components.protocol
@@ -339,18 +361,18 @@ pub record IsAbsoluteSplit (text : List ℕ) (tokens : List TokenView) (special 
       ⊎ (IsTrue (not (has_slashes tokens colon) && not special)
       × (components.username ≡ None)
       × (components.password ≡ None)
-      × (components.hostname ≡ Some [])
-      × (components.port ≡ Some [])
+      × (components.hostname ≡ implied [])
+      × (components.port ≡ implied [])
       × PathnameFrom text tokens (colon + 1) 0 components)
 
 -- The components are the split of a text with these tokens, with a protocol or without one.
 -- `IsSpecial` relates the text of a protocol to whether it matches a special scheme.
 abbrev pub IsSplit : (IsSpecial : List ℕ → Bool → Type 0) → (text : List ℕ) → List TokenView
-    → Values → Type 0
+    → SplitTexts → Type 0
 IsSplit IsSpecial text tokens components =
     IsRelativeSplit text tokens components
     ⊎ ((colon : ℕ) × (special : Bool) × IsAbsoluteSplit text tokens special colon components
-    × IsSomeAnd components.protocol (λ protocol. IsSpecial protocol special))
+    × IsSomeAnd components.protocol (λ protocol. IsSpecial protocol.text special))
 
 -- The text has no protocol: among its lenient tokens no colon ends one.
 abbrev pub LacksProtocol : (text : List ℕ) → Type 0
@@ -362,10 +384,11 @@ LacksProtocol text =
 
 -- The text has a protocol, which a colon ends among its lenient tokens, and `Is` holds of the
 -- protocol.
-abbrev pub HasProtocol : (text : List ℕ) → (Is : List ℕ → Type 0) → Type 0
+abbrev pub HasProtocol : (text : List ℕ) → (Is : SplitTextView → Type 0) → Type 0
 HasProtocol text Is =
-    (tokens : List TokenView) × (colon : ℕ) × (protocol : List ℕ) × AreLenientTokens text tokens
+    (tokens : List TokenView) × (colon : ℕ) × (protocol : SplitTextView)
+    × AreLenientTokens text tokens
     × EndsAt Protocol tokens 0 0 colon
     × IsTrue (is_colon_sign tokens colon)
-    × IsTextBetween text tokens 0 colon protocol
+    × IsSplitTextBetween text tokens 0 colon protocol
     × Is protocol

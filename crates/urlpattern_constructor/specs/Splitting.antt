@@ -1,16 +1,18 @@
 -- Splitting a constructor string: its tokens, the tokens that may follow each section, and the
 -- turns, that is, how often a token is examined.
-use Rattle.std.specs.Prelude.{◌≡◌, ℕ, ◌+◌, ◌-◌, ◌*◌, ◌<◌, ◌≤◌, ◌||◌, Bool, true, false, List, length, None, Option, Result, String, option_map, IfOk, IsTrue}
+use Rattle.std.specs.Prelude.{◌≡◌, ◌++◌, ℕ, ◌+◌, ◌-◌, ◌*◌, ◌<◌, ◌≤◌, ◌||◌, Bool, true, false, List, length, None, Option, Result, String, option_and_then, option_map, IfOk, IfSome, IsSomeAnd, IsTrue}
 use Rattle.std.specs.declared.alloc.Global.{Global}
-use Rattle.urlpattern_constructor.specs.Split.{NoAuthority, ends_at, is_ending, is_seen, is_slash_sign}
+use Rattle.urlpattern_constructor.specs.Split.{NoAuthority, SplitTextView, SplitTexts, ends_at, is_ending, is_seen, is_slash_sign}
 use Rattle.urlpattern_constructor.specs.declared.sections.{Position.Position, Section.Section}
 use Rattle.urlpattern_constructor.specs.declared.tokens.Source.{Source}
 use Rattle.urlpattern_constructor.specs.declared.components.Split.{Split}
+use Rattle.urlpattern_constructor.specs.declared.tokens.SplitText.{SplitText}
 use Rattle.urlpattern_syntax.specs.{Errors.OnlyOutOfMemory, Parsing.views}
 use Rattle.urlpattern_syntax.specs.Tokens.{AreLenientTokens, TokenView}
 use Rattle.urlpattern_syntax.specs.declared.error.Error.{Error}
+use Rattle.urlpattern_components.specs.declared.eight.{ComponentName.ComponentName, Eight.Eight}
 use Rattle.urlpattern_components.specs.Eight.{Values, at, each}
-use Rattle.urlpattern_syntax.specs.Text.{chars, option_text, text_of}
+use Rattle.urlpattern_syntax.specs.Text.{byte_len, chars, text_of}
 
 -- The constructor string of a source, as characters.
 abbrev pub text_of_source : Source → List ℕ
@@ -20,9 +22,38 @@ text_of_source source = chars source.input.now
 abbrev pub tokens_of : Source → List TokenView
 tokens_of source = views source.tokens.now
 
+-- The view of a `SplitText`.
+abbrev pub split_text_view : SplitText → SplitTextView
+split_text_view found = record { text = chars found.text.now; start = found.start }
+
 -- The components of a split, as clauses see them.
-abbrev pub split_values : Split → Values
-split_values split = each (λ name. option_text (at split.values name))
+abbrev pub split_texts : Split → SplitTexts
+split_texts split = each (λ name. option_map split_text_view (at split.values name))
+
+-- The texts of components, without where they begin.
+abbrev pub values_of_split : SplitTexts → Values
+values_of_split texts = each (λ name. option_map (λ found. found.text) (at texts name))
+
+-- The byte at which a constructor string has the text of each component. None for a component that
+-- is not present, or whose text is implied.
+abbrev pub Starts : Type 0
+Starts = Eight (Option ℕ)
+
+-- Where the texts of components begin.
+abbrev pub starts_of_split : SplitTexts → Starts
+starts_of_split texts = each (λ name. option_and_then (λ found. found.start) (at texts name))
+
+-- `text` has `part` at the byte `start`.
+abbrev pub HasPartAt : (text part : List ℕ) → (start : ℕ) → Type 0
+HasPartAt text part start =
+    (before after : List ℕ) × (text ≡ before ++ part ++ after) × (start ≡ byte_len before)
+
+-- `text` has each of the components at its byte of `starts`, if there is one.
+abbrev pub HasComponentsAt : (text : List ℕ) → Values → Starts → Type 0
+HasComponentsAt text components starts =
+    (name : ComponentName)
+    → IfSome (at starts name) (λ start.
+    IsSomeAnd (at components name) (λ part. HasPartAt text part start))
 
 -- The result is an owned copy of the component, None for None, or memory ran out.
 pub record IsOwned (component : Option (List ℕ)) (result : Result (Option (String Global)) Error) :
@@ -78,9 +109,9 @@ is_hostname Section.Hostname = true
 is_hostname section = false
 
 -- The pathname and all components before it are None.
-abbrev pub NoPathname : Values → Type 0
+abbrev pub NoPathname : SplitTexts → Type 0
 NoPathname components = NoAuthority components × (components.pathname ≡ None)
 
 -- The search and all components before it are None.
-abbrev pub NoSearch : Values → Type 0
+abbrev pub NoSearch : SplitTexts → Type 0
 NoSearch components = NoPathname components × (components.search ≡ None)

@@ -6,18 +6,20 @@
 ghost use Rattle.std.specs.Prelude.{◌≡◌, Some, ◌+◌, ◌*◌, ◌<◌, ◌≤◌, length, IsTrue, None};
 ghost use Rattle.std.specs.Str.{chars};
 ghost use Rattle.urlpattern_constructor.specs.declared.sections.Section.TheVariants.{Hostname, Pathname, Port, Search};
-ghost use Rattle.urlpattern_constructor.specs.Split.{AuthorityFrom, EndsAt, HashAt, HashFrom, HostnameFrom, IsAbsoluteSplit, IsRelativeSplit, IsTextBetween, NoAuthority, PathnameAt, PathnameFrom, PortAt, SearchAt, SearchFrom, UserinfoFrom, depth_before, ends_at, implied_pathname, is_at_sign, is_colon_sign, is_slash_sign};
-ghost use Rattle.urlpattern_constructor.specs.Splitting.{CanRead, HasRead, HasTurnForSlash, HasTurns, IsSource, NoPathname, NoSearch, may_end_before, split_values, text_of_source, tokens_of};
+ghost use Rattle.urlpattern_constructor.specs.Split.{AuthorityFrom, EndsAt, HashAt, HashFrom, HostnameFrom, IsAbsoluteSplit, IsRelativeSplit, IsSplitTextBetween, NoAuthority, PathnameAt, PathnameFrom, PortAt, SearchAt, SearchFrom, UserinfoFrom, depth_before, ends_at, implied_pathname, is_at_sign, is_colon_sign, is_slash_sign};
+ghost use Rattle.urlpattern_constructor.specs.Splitting.{CanRead, HasRead, HasTurnForSlash, HasTurns, IsSource, NoPathname, NoSearch, may_end_before, split_text_view, split_texts, starts_of_split, text_of_source, tokens_of, values_of_split};
+ghost use Rattle.urlpattern_components.specs.Eight.{at};
+ghost use Rattle.urlpattern_syntax.specs.Text.{option_text};
 
 use crate::sections::{Position, Section};
-use crate::tokens::Source;
+use crate::tokens::{Source, SplitText};
 use urlpattern_components::{ComponentName, Eight};
 
 /// The components of a constructor string, and the number of times that a token was examined.
 #[derive(Drop)]
 pub struct Split<'a> {
     /// The text of each component, or `None` for a component that is not present.
-    pub values: Eight<Option<&'a str>>,
+    pub values: Eight<Option<SplitText<'a>>>,
     /// The number of times that a token was examined.
     pub turns: usize,
 }
@@ -25,11 +27,11 @@ pub struct Split<'a> {
 impl<'a> Split<'a> {
     /// Returns a split in which every component is `None`.
     fn nothing(turns: usize) -> Split<'a>
-        ensures nothing { NoSearch (split_values result) }
-        ensures hash { (split_values result).hash ≡ None }
+        ensures nothing { NoSearch (split_texts result) }
+        ensures hash { (split_texts result).hash ≡ None }
         ensures turns { result.turns ≡ turns }
     {
-        let none = |_name: ComponentName| -> Option<&str>
+        let none = |_name: ComponentName| -> Option<SplitText<'_>>
             ensures { result ≡ None }
         { None };
         Split {
@@ -39,19 +41,53 @@ impl<'a> Split<'a> {
     }
 }
 
+impl<'a> Split<'a> {
+    /// Returns the text of a component. `None`: the component is not present.
+    pub fn text(&self, name: ComponentName) -> Option<&'a str>
+        ensures { option_text result ≡ at (values_of_split (split_texts self.now)) name }
+    {
+        match *self.values.get(name) {
+            Some(found) => Some(found.text),
+            None => None,
+        }
+    }
+
+    /// Returns the byte at which the constructor string has each component. `None`: the component
+    /// is not present, or its text is implied.
+    pub fn starts(&self) -> Eight<Option<usize>>
+        ensures { result ≡ starts_of_split (split_texts self.now) }
+    {
+        let start = |name: ComponentName| -> Option<usize>
+            ensures { result ≡ at (starts_of_split (split_texts self.entry.now)) name }
+        { self.start(name) };
+        Eight::from_fn(start)
+    }
+
+    /// Returns the byte at which the constructor string has a component. `None`: the component is
+    /// not present, or its text is implied.
+    fn start(&self, name: ComponentName) -> Option<usize>
+        ensures { result ≡ at (starts_of_split (split_texts self.now)) name }
+    {
+        match *self.values.get(name) {
+            Some(found) => found.start,
+            None => None,
+        }
+    }
+}
+
 impl<'t, 'a> Source<'t, 'a> {
     /// Splits a string that begins with `protocol` and then the token `colon`. `special` says
     /// whether the protocol matches a special scheme.
-    pub fn absolute(&self, colon: Position, protocol: &'a str, special: bool) -> Split<'a>
+    pub fn absolute(&self, colon: Position, protocol: SplitText<'a>, special: bool) -> Split<'a>
         requires source { IsSource self.now }
-        requires protocol { IsTextBetween (text_of_source self.now) (tokens_of self.now) 0
-            colon.index (chars protocol.now) }
+        requires protocol { IsSplitTextBetween (text_of_source self.now) (tokens_of self.now) 0
+            colon.index (split_text_view protocol) }
         requires ends { EndsAt Section.Protocol (tokens_of self.now) 0 0 colon.index }
         requires sign { IsTrue (is_colon_sign (tokens_of self.now) colon.index) }
         requires turns { colon.turns ≤ 2 * (colon.index + 1) }
         ensures split { IsAbsoluteSplit (text_of_source self.now) (tokens_of self.now) special
-            colon.index (split_values result) }
-        ensures protocol { (split_values result).protocol ≡ Some (chars protocol.now) }
+            colon.index (split_texts result) }
+        ensures protocol { (split_texts result).protocol ≡ Some (split_text_view protocol.entry) }
         ensures turns { result.turns ≤ 2 * length self.now.tokens.now }
     {
         if self.has_slashes(colon.index) {
@@ -66,8 +102,8 @@ impl<'t, 'a> Source<'t, 'a> {
         }
         let Split { mut values, turns } = self.pathname_from(colon.after(1));
         values.protocol = Some(protocol);
-        values.hostname = Some("");
-        values.port = Some("");
+        values.hostname = Some(SplitText::implied(""));
+        values.port = Some(SplitText::implied(""));
         Split { values, turns }
     }
 
@@ -81,7 +117,7 @@ impl<'t, 'a> Source<'t, 'a> {
         requires shallow { end.depth ≤ end.index }
         requires turns { end.turns ≤ length self.now.tokens.now }
         ensures split { IsRelativeSplit (text_of_source self.now) (tokens_of self.now)
-            (split_values result) }
+            (split_texts result) }
         ensures turns { result.turns ≤ 2 * length self.now.tokens.now }
     {
         if self.is_non_special_pattern_char(0, b'#') {
@@ -103,7 +139,7 @@ impl<'t, 'a> Source<'t, 'a> {
         requires level { from.depth ≡ 0 }
         requires turns { from.turns ≤ 2 * from.index }
         ensures split { AuthorityFrom (text_of_source self.now) (tokens_of self.now) special
-            from.index (split_values result) }
+            from.index (split_texts result) }
         ensures turns { result.turns ≤ 2 * length self.now.tokens.now }
     {
         let end = self.end_of(Section::Authority, from);
@@ -134,13 +170,13 @@ impl<'t, 'a> Source<'t, 'a> {
         requires level { from.depth ≡ 0 }
         requires turns { from.turns ≤ from.index + until + 1 }
         ensures userinfo { UserinfoFrom (text_of_source self.now) (tokens_of self.now) from.index
-            until (split_values result) }
+            until (split_texts result) }
         ensures hostname { HostnameFrom (text_of_source self.now) (tokens_of self.now) special
-            (until + 1) 0 (split_values result) }
+            (until + 1) 0 (split_texts result) }
         ensures turns { result.turns ≤ 2 * length self.now.tokens.now }
     {
         let end = self.end_of(Section::Username, from);
-        let username = Some(self.text_between(from.index, end.index));
+        let username = Some(self.split_text(from.index, end.index));
         if !self.is_non_special_pattern_char(end.index, b':') {
             let Split { mut values, turns } = self.hostname_from(end.after(1), special);
             values.username = username;
@@ -149,7 +185,7 @@ impl<'t, 'a> Source<'t, 'a> {
         }
         let password_from = end.after(1);
         let password_end = self.end_of(Section::Password, password_from);
-        let password = Some(self.text_between(password_from.index, password_end.index));
+        let password = Some(self.split_text(password_from.index, password_end.index));
         let Split { mut values, turns } = self.hostname_from(password_end.after(1), special);
         values.username = username;
         values.password = password;
@@ -163,12 +199,12 @@ impl<'t, 'a> Source<'t, 'a> {
         requires reads { CanRead self.now from }
         requires slash { HasTurnForSlash self.now from.index from.depth (from.turns + 1) }
         ensures split { HostnameFrom (text_of_source self.now) (tokens_of self.now) special
-            from.index from.depth (split_values result) }
+            from.index from.depth (split_texts result) }
         ensures turns { result.turns ≤ 2 * length self.now.tokens.now }
     {
         let end = self.end_of(Section::Hostname, from);
         let Split { mut values, turns } = self.port_at(end, special);
-        values.hostname = Some(self.text_between(from.index, end.index));
+        values.hostname = Some(self.split_text(from.index, end.index));
         Split { values, turns }
     }
 
@@ -181,18 +217,18 @@ impl<'t, 'a> Source<'t, 'a> {
         requires sign { IsTrue (may_end_before Hostname (tokens_of self.now) end.index) }
         requires slash { HasTurnForSlash self.now end.index 0 end.turns }
         ensures split { PortAt (text_of_source self.now) (tokens_of self.now) special end.index
-            (split_values result) }
+            (split_texts result) }
         ensures turns { result.turns ≤ 2 * length self.now.tokens.now }
     {
         if self.is_non_special_pattern_char(end.index, b':') {
             let from = end.after(1);
             let end = self.end_of(Section::Port, from);
             let Split { mut values, turns } = self.pathname_at(end, special);
-            values.port = Some(self.text_between(from.index, end.index));
+            values.port = Some(self.split_text(from.index, end.index));
             return Split { values, turns };
         }
         let Split { mut values, turns } = self.pathname_at(end, special);
-        values.port = Some("");
+        values.port = Some(SplitText::implied(""));
         Split { values, turns }
     }
 
@@ -207,8 +243,8 @@ impl<'t, 'a> Source<'t, 'a> {
         requires slash { IsTrue (is_slash_sign (tokens_of self.now) end.index)
             → HasTurns self.now end.index end.turns }
         ensures split { PathnameAt (text_of_source self.now) (tokens_of self.now) special end.index
-            (split_values result) }
-        ensures nothing { NoAuthority (split_values result) }
+            (split_texts result) }
+        ensures nothing { NoAuthority (split_texts result) }
         ensures turns { result.turns ≤ 2 * length self.now.tokens.now }
     {
         if self.is_non_special_pattern_char(end.index, b'/') {
@@ -216,7 +252,7 @@ impl<'t, 'a> Source<'t, 'a> {
         }
         if self.is_search_prefix(end.index) || self.is_non_special_pattern_char(end.index, b'#') {
             let Split { mut values, turns } = self.search_at(end);
-            values.pathname = Some(implied_pathname(special));
+            values.pathname = Some(SplitText::implied(implied_pathname(special)));
             return Split { values, turns };
         }
         Split::nothing(end.turns)
@@ -227,13 +263,13 @@ impl<'t, 'a> Source<'t, 'a> {
         requires source { IsSource self.now }
         requires reads { CanRead self.now from }
         ensures split { PathnameFrom (text_of_source self.now) (tokens_of self.now) from.index
-            from.depth (split_values result) }
-        ensures nothing { NoAuthority (split_values result) }
+            from.depth (split_texts result) }
+        ensures nothing { NoAuthority (split_texts result) }
         ensures turns { result.turns ≤ 2 * length self.now.tokens.now }
     {
         let end = self.end_of(Section::Pathname, from);
         let Split { mut values, turns } = self.search_at(end);
-        values.pathname = Some(self.text_between(from.index, end.index));
+        values.pathname = Some(self.split_text(from.index, end.index));
         Split { values, turns }
     }
 
@@ -244,8 +280,8 @@ impl<'t, 'a> Source<'t, 'a> {
         requires reads { HasRead self.now end }
         requires sign { IsTrue (may_end_before Pathname (tokens_of self.now) end.index) }
         ensures split { SearchAt (text_of_source self.now) (tokens_of self.now) end.index
-            (split_values result) }
-        ensures nothing { NoPathname (split_values result) }
+            (split_texts result) }
+        ensures nothing { NoPathname (split_texts result) }
         ensures turns { result.turns ≤ 2 * length self.now.tokens.now }
     {
         if self.is_search_prefix(end.index) {
@@ -253,7 +289,7 @@ impl<'t, 'a> Source<'t, 'a> {
         }
         if self.is_non_special_pattern_char(end.index, b'#') {
             let Split { mut values, turns } = self.hash_from(end.after(1));
-            values.search = Some("");
+            values.search = Some(SplitText::implied(""));
             return Split { values, turns };
         }
         Split::nothing(end.turns)
@@ -264,13 +300,13 @@ impl<'t, 'a> Source<'t, 'a> {
         requires source { IsSource self.now }
         requires reads { CanRead self.now from }
         ensures split { SearchFrom (text_of_source self.now) (tokens_of self.now) from.index
-            from.depth (split_values result) }
-        ensures nothing { NoPathname (split_values result) }
+            from.depth (split_texts result) }
+        ensures nothing { NoPathname (split_texts result) }
         ensures turns { result.turns ≤ 2 * length self.now.tokens.now }
     {
         let end = self.end_of(Section::Search, from);
         let Split { mut values, turns } = self.hash_at(end);
-        values.search = Some(self.text_between(from.index, end.index));
+        values.search = Some(self.split_text(from.index, end.index));
         Split { values, turns }
     }
 
@@ -281,8 +317,8 @@ impl<'t, 'a> Source<'t, 'a> {
         requires reads { HasRead self.now end }
         requires sign { IsTrue (may_end_before Search (tokens_of self.now) end.index) }
         ensures split { HashAt (text_of_source self.now) (tokens_of self.now) end.index
-            (split_values result) }
-        ensures nothing { NoSearch (split_values result) }
+            (split_texts result) }
+        ensures nothing { NoSearch (split_texts result) }
         ensures turns { result.turns ≤ 2 * length self.now.tokens.now }
     {
         if self.is_non_special_pattern_char(end.index, b'#') {
@@ -296,13 +332,13 @@ impl<'t, 'a> Source<'t, 'a> {
         requires source { IsSource self.now }
         requires reads { CanRead self.now from }
         ensures split { HashFrom (text_of_source self.now) (tokens_of self.now) from.index
-            (split_values result) }
-        ensures nothing { NoSearch (split_values result) }
+            (split_texts result) }
+        ensures nothing { NoSearch (split_texts result) }
         ensures turns { result.turns ≤ 2 * length self.now.tokens.now }
     {
         let end = self.end_of(Section::Hash, from);
         let Split { mut values, turns } = Split::nothing(end.turns);
-        values.hash = Some(self.text_between(from.index, end.index));
+        values.hash = Some(self.split_text(from.index, end.index));
         Split { values, turns }
     }
 }

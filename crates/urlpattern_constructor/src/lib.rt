@@ -9,4 +9,4 @@ mod tokens;
 
 pub use components::Split;
 pub use sections::{Position, Section};
-pub use tokens::Source;
+pub use tokens::{Source, SplitText};

@@ -1,8 +1,8 @@
 //! A constructor string with its tokens, and the signs among them.
-ghost use Rattle.std.specs.Prelude.{◌≡◌, ◌+◌, ◌^◌, ◌<◌, ◌≤◌, ◌∷◌, [], length};
+ghost use Rattle.std.specs.Prelude.{◌≡◌, ◌+◌, ◌^◌, ◌<◌, ◌≤◌, ◌∷◌, [], length, Some};
 ghost use Rattle.std.specs.Str.{bytes_eq, chars};
-ghost use Rattle.urlpattern_constructor.specs.Split.{IsTextBetween, passes_at, follows_modified, has_slashes, is_character, is_search_prefix, is_non_special_pattern_char, takes_modifier};
-ghost use Rattle.urlpattern_constructor.specs.Splitting.{IsSource, text_of_source, tokens_of};
+ghost use Rattle.urlpattern_constructor.specs.Split.{IsSplitTextBetween, IsTextBetween, implied, passes_at, follows_modified, has_slashes, is_character, is_search_prefix, is_non_special_pattern_char, takes_modifier};
+ghost use Rattle.urlpattern_constructor.specs.Splitting.{IsSource, split_text_view, text_of_source, tokens_of};
 
 use urlpattern_syntax::tokenizer::{Token, TokenType};
 
@@ -11,6 +11,24 @@ use urlpattern_syntax::tokenizer::{Token, TokenType};
 pub struct Source<'t, 'a> {
     pub input: &'a str,
     pub tokens: &'t [Token<'a>],
+}
+
+/// The text of a component in a constructor string.
+#[derive(Clone, Copy)]
+pub struct SplitText<'a> {
+    /// The text.
+    pub text: &'a str,
+    /// The byte at which the string has the text. `None`: the string only implies the text.
+    pub start: Option<usize>,
+}
+
+impl<'a> SplitText<'a> {
+    /// Returns a text that the string implies and does not have.
+    pub fn implied(text: &'a str) -> Self
+        ensures { Some (split_text_view result) ≡ implied (chars text.now) }
+    {
+        SplitText { text, start: None }
+    }
 }
 
 impl<'t, 'a> Source<'t, 'a> {
@@ -67,10 +85,25 @@ impl<'t, 'a> Source<'t, 'a> {
             && self.is_non_special_pattern_char(index + 2, b'/')
     }
 
-    /// Returns the text from the token at index `from` up to the token at index `until`, exclusive.
+    /// Returns the text from the token at index `from` up to the token at index `until`, exclusive,
+    /// with where it begins.
     ///
     /// <https://urlpattern.spec.whatwg.org/#make-a-component-string>
-    pub fn text_between(&self, from: usize, until: usize) -> &'a str
+    pub fn split_text(&self, from: usize, until: usize) -> SplitText<'a>
+        requires source { IsSource self.now }
+        requires order { from ≤ until }
+        requires within { until < length self.now.tokens.now }
+        ensures { IsSplitTextBetween (text_of_source self.now) (tokens_of self.now) from until
+            (split_text_view result) }
+    {
+        SplitText {
+            text: self.text_between(from, until),
+            start: Some(self.tokens[from].index),
+        }
+    }
+
+    /// Returns the text from the token at index `from` up to the token at index `until`, exclusive.
+    fn text_between(&self, from: usize, until: usize) -> &'a str
         requires source { IsSource self.now }
         requires order { from ≤ until }
         requires within { until < length self.now.tokens.now }

@@ -1,12 +1,11 @@
--- Where a text is at fault: the pattern of a component, or a text that is rejected as a whole.
--- Texts are their bytes, but a prefix code point, and what is left of a text where no token begins,
--- are characters. The pieces of a text are the characters, placeholders and groups as which a
--- parser reads its tokens, up to the first token that begins no piece. A component is None for a
--- text that is not the pattern of a certain component.
-use Rattle.std.specs.Prelude.{◌≡◌, ℕ, ◌+◌, ◌⊎◌, ◌&&◌, ◌==◌, Bool, true, false, List, [], ◌∷◌, length, map, filter, take, drop, min, bytes_eq, IsTrue, Option, Some, None, IsSomeAnd, IfSome, MatchBool, string_bytes, ◌++◌, ◌||◌, MatchOption, codes, if◌then◌else◌, nat_eq}
-use Rattle.std.specs.List.{list_any, starts_with}
+-- Where the pattern text of a component is at fault. Texts are their bytes. The pieces of a text
+-- are the characters, placeholders and groups as which a parser reads its tokens, up to the first
+-- token that begins no piece.
+use Rattle.std.specs.Prelude.{◌≡◌, ℕ, ◌+◌, ◌-◌, ◌⊎◌, ◌&&◌, ◌==◌, Bool, true, false, List, [], ◌∷◌, length, map, filter, take, drop, min, bytes_eq, Option, is_some, Some, None, IsSomeAnd, IfSome, MatchBool, string_bytes, ◌++◌, ◌||◌, MatchOption, codes, nat_eq, option_map, All, Contains, flat_map}
+use Rattle.std.specs.Borrow.{Bor}
+use Rattle.std.specs.List.{find, list_all, list_any, starts_with}
 use Rattle.std.specs.Str.{chars}
-use Rattle.urlpattern_diagnosis.specs.Spans.{IsSpanAt, IsSpanIn, whole_span}
+use Rattle.urlpattern_diagnosis.specs.Spans.{IsPartOf, IsSpanAt, IsSpanIn, whole_span}
 use Rattle.urlpattern_components.specs.declared.eight.ComponentName.{ComponentName}
 use Rattle.urlpattern_components.specs.declared.eight.ComponentName.TheVariants.{Hostname}
 use Rattle.urlpattern_diagnosis.specs.declared.fault.Fault.{Fault}
@@ -17,7 +16,7 @@ use Rattle.urlpattern_syntax.specs.declared.error.ParserError.{ParserError}
 use Rattle.urlpattern_syntax.specs.declared.error.ParserError.TheVariants as parser_errors
 pub use Rattle.urlpattern_parser.specs.Bodies.{IsAfterRegexpStart, IsRejectedStart}
 use Rattle.urlpattern_parser.specs.declared.parser.stop.Stop.{Stop}
-use Rattle.urlpattern_syntax.specs.declared.tokenizer.TokenType.TheVariants.{End, EscapedChar, Name, Regexp}
+use Rattle.urlpattern_syntax.specs.declared.tokenizer.TokenType.TheVariants.{Char, End, EscapedChar, Name, Regexp}
 use Rattle.urlpattern_syntax.specs.Stops.{IsStopOf}
 use Rattle.urlpattern_syntax.specs.declared.tokenizer.{Token.Token, TokenType.TokenType}
 use Rattle.urlpattern_syntax.specs.Text.{BeginsAt, BeginsWith, is_among}
@@ -62,26 +61,25 @@ IsWholeFault bytes fault = IsSingleSpan (λ span. span ≡ whole_span bytes) fau
 abbrev pub begins : (bytes front : List ℕ) → Bool
 begins bytes front = starts_with nat_eq bytes front
 
--- The length of the special scheme at the beginning of a text, or of the pattern `http{s}?`, if two
--- slashes follow: the place of the missing colon. None if the text does not begin so.
-abbrev pub missing_colon : (bytes : List ℕ) → Option ℕ
-missing_colon bytes =
-    if begins bytes (codes "http{s}?//") then Some 8
-    else if begins bytes (codes "https//") then Some 5
-    else if begins bytes (codes "http//") || begins bytes (codes "file//") then Some 4
-    else if begins bytes (codes "wss//") || begins bytes (codes "ftp//") then Some 3
-    else if begins bytes (codes "ws//") then Some 2
-    else None
+-- The special schemes, and a pattern of two of them.
+abbrev pub schemes : List (List ℕ)
+schemes =
+    codes "http{s}?" ∷ codes "https" ∷ codes "http" ∷ codes "file" ∷ codes "wss" ∷ codes "ftp"
+    ∷ codes "ws" ∷ []
 
--- The length of the special scheme at the beginning of a text, if `;` and two slashes follow: the
--- place of the `;`. None if the text does not begin so.
+-- The length of the scheme with which a text begins, if `sign` is there in place of the colon
+-- between the scheme and two slashes. None if the text does not begin so.
+abbrev pub length_before : (sign bytes : List ℕ) → Option ℕ
+length_before sign bytes =
+    option_map length (find (λ scheme. begins bytes (scheme ++ sign ++ codes "//")) schemes)
+
+-- The place of the colon that is missing after a special scheme.
+abbrev pub missing_colon : (bytes : List ℕ) → Option ℕ
+missing_colon bytes = length_before [] bytes
+
+-- The place of the `;` that is in place of the colon after a special scheme.
 abbrev pub mistyped_colon : (bytes : List ℕ) → Option ℕ
-mistyped_colon bytes =
-    if begins bytes (codes "https;//") then Some 5
-    else if begins bytes (codes "http;//") || begins bytes (codes "file;//") then Some 4
-    else if begins bytes (codes "wss;//") || begins bytes (codes "ftp;//") then Some 3
-    else if begins bytes (codes "ws;//") then Some 2
-    else None
+mistyped_colon bytes = length_before (codes ";") bytes
 
 -- The fault is the `;` in place of the colon after a special scheme, or else the whole text.
 abbrev pub IsSignFault : (bytes : List ℕ) → Fault → Type 0
@@ -96,15 +94,13 @@ IsUrlFault bytes fault =
     MatchOption (missing_colon bytes) (IsSignFault bytes fault) (λ place.
     IsSingleSpan (IsSpanAt bytes place 0) fault)
 
+-- Whether the colon after a special scheme is missing or mistyped.
+abbrev pub lacks_colon : (bytes : List ℕ) → Bool
+lacks_colon bytes = is_some (missing_colon bytes) || is_some (mistyped_colon bytes)
+
 -- Whether a character is one of a path, a search or a hash that no protocol has: `/`, `=` or `#`.
 abbrev pub is_path_sign : ℕ → Bool
 is_path_sign c = is_among (codes "/#=") c
-
--- `before`, the text before a colon, has a character of a path, a search or a hash, and so is not a
--- protocol; the fault is that colon, or the backslash that escapes it.
-abbrev pub IsColonFault : (bytes before : List ℕ) → Fault → Type 0
-IsColonFault bytes before fault =
-    IsTrue (list_any is_path_sign before) × IsSingleSpan (IsSpanAt bytes (length before) 1) fault
 
 -- ---- where no token begins
 
@@ -260,3 +256,74 @@ IsFaultOf component bytes point error fault =
     ((reported : FaultView) × (place : ℕ) × IsFirstFault component bytes point reported place fault)
     ⊎ (((tokens : List TokenView) × AreTokens (chars bytes) tokens)
     × IsFaultOfError bytes point error fault)
+
+-- ---- where an engine or `url` rejects a part
+
+-- `value` is a custom expression among the tokens of the text, and `body` is where the text has it,
+-- without its parentheses.
+pub record IsExpressionAt (bytes : List ℕ) (tokens : List Token) (value : List ℕ) (body : Span)
+    : Type 0 where
+  pub token : Token
+  pub is_token : Contains tokens token
+  pub is_expression : token.kind ≡ Regexp
+  pub is_value : value ≡ token.value.now
+  pub there : IsSpanOfBody bytes token body
+
+-- `Is` holds of the value of each custom expression among the tokens.
+abbrev pub EachExpression : (Is : Bor (List ℕ) → Type 0) → List Token → Type 0
+EachExpression Is tokens = All (λ token. (token.kind ≡ Regexp) → Is token.value) tokens
+
+-- Whether a token of this kind is a character, escaped or not.
+abbrev pub is_character : TokenType → Bool
+is_character Char = true
+is_character EscapedChar = true
+is_character kind = false
+
+-- Whether each token is a character, escaped or not.
+abbrev pub are_characters : List Token → Bool
+are_characters tokens = list_all (λ token. is_character token.kind) tokens
+
+-- The values of the tokens, one after the other.
+abbrev pub values_of : List Token → List ℕ
+values_of tokens = flat_map (λ token. token.value.now) tokens
+
+-- `value` is a run of characters among the tokens of the text, without the backslashes of escapes,
+-- and `run` is where the text has it: from the first of these tokens to the next other token.
+pub record IsRunAt (bytes : List ℕ) (tokens : List Token) (value : List ℕ) (run : Span)
+    : Type 0 where
+  pub before : List Token
+  pub first : Token
+  pub row : List Token
+  pub after : Token
+  pub behind : List Token
+  pub cut : tokens ≡ (before ++ first ∷ row) ++ after ∷ behind
+  pub is_row : are_characters (first ∷ row) ≡ true
+  pub ends : is_character after.kind ≡ false
+  pub is_value : value ≡ values_of (first ∷ row)
+  pub there : IsSpanAt bytes first.index (after.index - first.index) run
+
+-- The fault is the custom expression `body`, or a part of it with the expression as the earlier
+-- part.
+abbrev pub IsFaultOfBody : (body : Span) → Fault → Type 0
+IsFaultOfBody body fault =
+    IsSingleSpan (λ span. span ≡ body) fault
+    ⊎ (IsPartOf body fault.span × (fault.earlier ≡ Some body))
+
+-- `Rejects` holds of a custom expression of the text, and the fault is the expression or a part of
+-- it.
+abbrev pub IsExpressionFault : (Rejects : List ℕ → Type 0) → (bytes : List ℕ) → Fault → Type 0
+IsExpressionFault Rejects bytes fault =
+    (tokens : List Token) × (value : List ℕ) × (body : Span)
+    × AreTokens (chars bytes) (map token_view tokens)
+    × IsExpressionAt bytes tokens value body
+    × Rejects value
+    × IsFaultOfBody body fault
+
+-- `Rejects` holds of a run of characters of the text, and the fault is a part of the run.
+abbrev pub IsRunFault : (Rejects : List ℕ → Type 0) → (bytes : List ℕ) → Fault → Type 0
+IsRunFault Rejects bytes fault =
+    (tokens : List Token) × (value : List ℕ) × (run : Span)
+    × AreTokens (chars bytes) (map token_view tokens)
+    × IsRunAt bytes tokens value run
+    × Rejects value
+    × IsSingleSpan (IsPartOf run) fault

@@ -1,3 +1,4 @@
 pub mod Faults
 pub mod PatternOffsets
 pub mod Spans
+pub mod Subjects

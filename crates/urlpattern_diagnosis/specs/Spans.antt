@@ -15,6 +15,10 @@ IsSpanIn bytes span =
 abbrev pub whole_span : (bytes : List ℕ) → Span
 whole_span bytes = span_between 0 (length bytes)
 
+-- The span is within the other one.
+abbrev pub IsPartOf : (outer : Span) → Span → Type 0
+IsPartOf outer span = (outer.start ≤ span.start) × (span.end ≤ outer.end)
+
 -- `span` covers the `len` bytes from `start` on, or the whole text if these are not whole
 -- characters of it.
 abbrev pub IsSpanAt : (bytes : List ℕ) → (start len : ℕ) → Span → Type 0

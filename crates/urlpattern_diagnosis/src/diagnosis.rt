@@ -1,15 +1,18 @@
 //! The diagnosis of a rejected pattern: its error, the text and the place at fault, and a reason.
 
-ghost use Rattle.std.specs.Prelude.{◌≡◌, string_bytes, IfOk, IfSome};
+ghost use Rattle.std.specs.Prelude.{◌≡◌, ◌≤◌, length, string_bytes, IfOk, IfSome};
 ghost use Rattle.urlpattern_diagnosis.specs.declared.diagnosis.Subject.TheVariants as subjects;
-ghost use Rattle.urlpattern_diagnosis.specs.Faults.{IsFaultIn, IsUrlFault};
-ghost use Rattle.urlpattern_diagnosis.specs.PatternOffsets.{IsFaultMoved, IsPlaceOf};
+ghost use Rattle.urlpattern_diagnosis.specs.Faults.{IsFaultIn, IsSingleSpan, IsUrlFault};
+ghost use Rattle.urlpattern_diagnosis.specs.PatternOffsets.{IsFaultMoved};
+ghost use Rattle.urlpattern_diagnosis.specs.Spans.{IsSpanAt};
+ghost use Rattle.urlpattern_diagnosis.specs.Subjects.{subject_text};
 
 use crate::colon::path_colon_sentence;
 use crate::fault::Fault;
 use crate::hint::Hint;
 use crate::pattern_offset::PatternOffset;
 use crate::reason::{Faulty, reason_of};
+use crate::span::Span;
 use std::alloc::{AllocError, Global};
 use urlpattern_components::ComponentName;
 use urlpattern_syntax::Error;
@@ -55,8 +58,10 @@ pub struct Diagnosis {
 }
 
 impl Subject {
-    /// Returns the subject in words.
-    pub fn name(self) -> &'static str {
+    /// Returns the subject in words: for a component, its name in lower case.
+    pub fn name(self) -> &'static str
+        ensures { result.now ≡ subject_text self }
+    {
         match self {
             Subject::Whole => "pattern",
             Subject::Base => "base URL",
@@ -85,49 +90,78 @@ impl Diagnosis {
         Self::of_fault(alloc, error, subject, text, fault, hint)
     }
 
-    /// Creates a diagnosis of `fault`, a fault of `pattern`, which is at `place` in `text`. If
-    /// `place` is `None`, the text lacks the pattern, and the fault of the diagnosis is the whole
-    /// text.
+    /// Creates a diagnosis of `fault`, a fault of `pattern`, the pattern of a component. `value` is
+    /// where `text` has the value of the component. `None`: the text lacks the component, and the
+    /// fault of the diagnosis is the whole text.
     pub fn of_part(
         alloc: Global,
         error: Error,
-        subject: Subject,
+        component: ComponentName,
         text: &str,
         pattern: &str,
         fault: Fault,
-        place: Option<PatternOffset>,
+        value: Option<Span>,
     ) -> Result<Self, AllocError>
-        requires place { IfSome place (IsPlaceOf text.now pattern.now) }
+        requires value { IfSome value (λ span.
+            (span.start ≤ span.end) × (span.end ≤ length text.now)) }
         requires within { IsFaultIn pattern.now fault }
         ensures error { IfOk result (λ diagnosis. diagnosis.error ≡ error) }
-        ensures subject { IfOk result (λ diagnosis. diagnosis.subject ≡ subject) }
+        ensures subject { IfOk result (λ diagnosis.
+            diagnosis.subject ≡ subjects.Component component) }
         ensures text { IfOk result (λ diagnosis. string_bytes diagnosis.text ≡ text.now) }
         ensures fault { IfOk result (λ diagnosis.
-            IsFaultMoved text.now pattern.now fault diagnosis.fault) }
+            IsFaultMoved component text.now pattern.now value fault diagnosis.fault) }
         ensures within { IfOk result (λ diagnosis. IsFaultIn text.now diagnosis.fault) }
     {
-        let moved = match place {
-            Some(place) => place.moved(text, pattern, fault),
-            None => Fault::whole(text),
+        let subject = Subject::Component(component);
+        let Some(value) = value else {
+            let hint = Hint::of_part(&error, subject, text, pattern, fault, None);
+            return Self::of_fault(alloc, error, subject, text, Fault::whole(text), hint);
         };
-        let hint = Hint::of_part(&error, subject, text, pattern, fault, place);
+        let place = PatternOffset::in_value(component, value, pattern);
+        let moved = place.moved(text, pattern, fault);
+        let hint = Hint::of_part(&error, subject, text, pattern, fault, Some(place));
         Self::of_fault(alloc, error, subject, text, moved, hint)
     }
 
-    /// Creates a diagnosis of `fault`, the colon of the constructor string `text` that would end a
-    /// protocol, or the backslash that escapes this colon; but the text before it is a path, a
-    /// search or a hash.
+    /// Creates a diagnosis of `fault`, a fault of a pattern by itself, which is the text.
+    pub fn of_pattern(
+        alloc: Global,
+        error: Error,
+        pattern: &str,
+        fault: Fault,
+    ) -> Result<Self, AllocError>
+        requires within { IsFaultIn pattern.now fault }
+        ensures error { IfOk result (λ diagnosis. diagnosis.error ≡ error) }
+        ensures subject { IfOk result (λ diagnosis. diagnosis.subject ≡ subjects.Whole) }
+        ensures text { IfOk result (λ diagnosis. string_bytes diagnosis.text ≡ pattern.now) }
+        ensures fault { IfOk result (λ diagnosis. diagnosis.fault ≡ fault) }
+    {
+        let place = PatternOffset {
+            start: 0,
+            missing: 0,
+        };
+        let subject = Subject::Whole;
+        let hint = Hint::of_part(&error, subject, pattern, pattern, fault, Some(place));
+        Self::of_fault(alloc, error, subject, pattern, fault, hint)
+    }
+
+    /// Creates a diagnosis of the colon at the byte index `place` of `text`, which no name follows
+    /// and which does not end a protocol.
     pub fn of_colon(
         alloc: Global,
         error: Error,
         text: &str,
-        fault: Fault,
+        place: usize,
     ) -> Result<Self, AllocError>
         ensures error { IfOk result (λ diagnosis. diagnosis.error ≡ error) }
         ensures subject { IfOk result (λ diagnosis. diagnosis.subject ≡ subjects.Whole) }
         ensures text { IfOk result (λ diagnosis. string_bytes diagnosis.text ≡ text.now) }
-        ensures fault { IfOk result (λ diagnosis. diagnosis.fault ≡ fault) }
+        ensures fault { IfOk result (λ diagnosis.
+            IsSingleSpan (IsSpanAt text.now place 1) diagnosis.fault) }
+        ensures within { IfOk result (λ diagnosis. IsFaultIn text.now diagnosis.fault) }
     {
+        let fault = Fault::of_span(Span::at(text, place, 1));
         let mut reason = String::new(alloc);
         path_colon_sentence(text, fault.span.start).append_to(&mut reason)?;
         Ok(Diagnosis {

@@ -1,6 +1,6 @@
 //! Where an engine rejects a custom expression, according to the crate `regex`.
 ghost use Rattle.std.specs.Prelude.{IfOk};
-ghost use Rattle.urlpattern_diagnosis.specs.Faults.{IsFaultIn};
+ghost use Rattle.urlpattern_diagnosis.specs.Faults.{IsFaultIn, IsFaultOfBody};
 ghost use Rattle.urlpattern_diagnosis.specs.Spans.{IsSpanIn};
 
 use crate::fault::Fault;
@@ -14,14 +14,14 @@ use std::alloc::{AllocError, Global};
 /// whole expression alone.
 pub fn fault_of_expression(alloc: Global, text: &str, body: Span) -> Result<Fault, AllocError>
     requires { IsSpanIn text.now body }
+    ensures part { IfOk result (IsFaultOfBody body) }
     ensures within { IfOk result (IsFaultIn text.now) }
 {
     let Some(error) = expression_error(alloc, &text[body.start..body.end])? else {
         return Ok(Fault::of_span(body));
     };
     let len = error.span.end.saturating_sub(error.span.start);
-    let start = body.start.saturating_add(error.span.start);
-    let span = Span::at(text, start, len);
+    let span = Span::inside(text, body, error.span.start, len);
     if span == body {
         return Ok(Fault::of_span(body));
     }

@@ -1,8 +1,8 @@
-//! Where a text is at fault: the pattern of a component, or a text that is rejected as a whole.
-ghost use Rattle.std.specs.Prelude.{◌≡◌, false, IfNone, IfOk, IfSome, None, filter};
+//! Where the pattern text of a component is at fault.
+ghost use Rattle.std.specs.Prelude.{◌≡◌, IfOk, None, filter};
 ghost use Rattle.std.specs.List.{list_any};
 ghost use Rattle.std.specs.Str.{chars};
-ghost use Rattle.urlpattern_diagnosis.specs.Faults.{IsColonFault, IsFaultIn, IsFaultOf, IsParserFault, IsSecondFault, IsSignFault, IsSpanOfToken, IsStopFault, IsUrlFault, IsWholeFault, gives_name, is_path_sign, marks_len, missing_colon, mistyped_colon};
+ghost use Rattle.urlpattern_diagnosis.specs.Faults.{IsFaultIn, IsFaultOf, IsParserFault, IsSecondFault, IsSignFault, IsSpanOfToken, IsStopFault, IsUrlFault, IsWholeFault, gives_name, is_path_sign, lacks_colon, marks_len, missing_colon, mistyped_colon};
 ghost use Rattle.urlpattern_diagnosis.specs.Spans.{IsSpanIn};
 
 use crate::span::Span;
@@ -70,24 +70,16 @@ impl Fault {
 }
 
 impl Fault {
-    /// Returns the colon after `before`, or the backslash that escapes it, as the fault in `text`,
-    /// if `before` has a character of a path, a search or a hash, and so cannot be a protocol.
-    /// `None`: `before` has no such character.
-    pub fn of_colon(text: &str, before: &str) -> Option<Self>
-        ensures fault { IfSome result (IsColonFault text.now before.now) }
-        ensures other { IfNone result (list_any is_path_sign before.now ≡ false) }
-        ensures within { IfSome result (IsFaultIn text.now) }
+    /// Whether the colon after a special scheme is missing from a text, or mistyped.
+    pub fn lacks_colon(text: &str) -> bool
+        ensures { result ≡ lacks_colon text.now }
     {
-        if has_path_sign(before) {
-            Some(Fault::of_span(Span::at(text, before.len(), 1)))
-        } else {
-            None
-        }
+        missing_colon(text).is_some() || mistyped_colon(text).is_some()
     }
 }
 
 /// Whether a text has a character of a path, a search or a hash that no protocol has.
-fn has_path_sign(text: &str) -> bool
+pub fn has_path_sign(text: &str) -> bool
     ensures { result ≡ list_any is_path_sign text.now }
 {
     text.as_bytes().iter().any(|byte| is_path_sign(*byte))
@@ -112,9 +104,13 @@ fn missing_colon(text: &str) -> Option<usize>
         Some(8)
     } else if bytes.starts_with(b"https//") {
         Some(5)
-    } else if bytes.starts_with(b"http//") || bytes.starts_with(b"file//") {
+    } else if bytes.starts_with(b"http//") {
         Some(4)
-    } else if bytes.starts_with(b"wss//") || bytes.starts_with(b"ftp//") {
+    } else if bytes.starts_with(b"file//") {
+        Some(4)
+    } else if bytes.starts_with(b"wss//") {
+        Some(3)
+    } else if bytes.starts_with(b"ftp//") {
         Some(3)
     } else if bytes.starts_with(b"ws//") {
         Some(2)
@@ -123,17 +119,24 @@ fn missing_colon(text: &str) -> Option<usize>
     }
 }
 
-/// Returns the length of the special scheme at the beginning of a text, if `;` and two slashes
-/// follow, so that the colon is mistyped. `None`: the text does not begin so.
+/// Returns the length of the special scheme at the beginning of a text, or of the pattern
+/// `http{s}?`, if `;` and two slashes follow, so that the colon is mistyped. `None`: the text does
+/// not begin so.
 fn mistyped_colon(text: &str) -> Option<usize>
     ensures { result ≡ mistyped_colon text.now }
 {
     let bytes = text.as_bytes();
-    if bytes.starts_with(b"https;//") {
+    if bytes.starts_with(b"http{s}?;//") {
+        Some(8)
+    } else if bytes.starts_with(b"https;//") {
         Some(5)
-    } else if bytes.starts_with(b"http;//") || bytes.starts_with(b"file;//") {
+    } else if bytes.starts_with(b"http;//") {
         Some(4)
-    } else if bytes.starts_with(b"wss;//") || bytes.starts_with(b"ftp;//") {
+    } else if bytes.starts_with(b"file;//") {
+        Some(4)
+    } else if bytes.starts_with(b"wss;//") {
+        Some(3)
+    } else if bytes.starts_with(b"ftp;//") {
         Some(3)
     } else if bytes.starts_with(b"ws;//") {
         Some(2)

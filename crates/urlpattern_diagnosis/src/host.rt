@@ -1,6 +1,6 @@
 //! Where and why `url` rejects a hostname, and why it rejects a port.
-ghost use Rattle.urlpattern_diagnosis.specs.Faults.{IsFaultIn};
-ghost use Rattle.urlpattern_diagnosis.specs.Spans.{IsSpanIn};
+ghost use Rattle.urlpattern_diagnosis.specs.Faults.{IsFaultIn, IsSingleSpan};
+ghost use Rattle.urlpattern_diagnosis.specs.Spans.{IsPartOf, IsSpanIn};
 
 use crate::fault::Fault;
 use crate::span::Span;
@@ -22,6 +22,7 @@ const SKIPPED: &str = "\t\n\r";
 /// <https://url.spec.whatwg.org/#forbidden-host-code-point>
 pub fn fault_of_host(text: &str, host: Span) -> Fault
     requires { IsSpanIn text.now host }
+    ensures part { IsSingleSpan (IsPartOf host) result }
     ensures within { IsFaultIn text.now result }
 {
     let name = &text[host.start..host.end];
@@ -29,10 +30,10 @@ pub fn fault_of_host(text: &str, host: Span) -> Fault
         return Fault::of_span(host);
     }
     if let Some((start, len)) = forbidden(name) {
-        return Fault::of_span(Span::at(text, host.start.saturating_add(start), len));
+        return Fault::of_span(Span::inside(text, host, start, len));
     }
     match large_number(name) {
-        Some((start, len)) => Fault::of_span(Span::at(text, host.start.saturating_add(start), len)),
+        Some((start, len)) => Fault::of_span(Span::inside(text, host, start, len)),
         None => Fault::of_span(host),
     }
 }

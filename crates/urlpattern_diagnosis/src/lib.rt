@@ -3,7 +3,6 @@
 
 mod around;
 mod colon;
-mod component_starts;
 mod diagnosis;
 mod expression;
 mod fault;
@@ -19,11 +18,9 @@ mod span;
 mod token;
 mod wide;
 
-pub use component_starts::component_start;
 pub use diagnosis::{Diagnosis, Subject};
 pub use expression::fault_of_expression;
-pub use fault::{Fault, fault_of};
+pub use fault::{Fault, fault_of, has_path_sign};
 pub use host::fault_of_host;
-pub use pattern_offset::PatternOffset;
 pub use rejected_parts::{rejected_expression, rejected_run};
 pub use span::Span;

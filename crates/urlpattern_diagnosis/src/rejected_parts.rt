@@ -1,10 +1,9 @@
 //! The parts of a pattern text that a callback may reject: custom expressions, and runs of
 //! characters.
-ghost use Rattle.std.specs.Prelude.{◌≡◌, IfOk, IfSome, Ok, true};
-ghost use Rattle.urlpattern_diagnosis.specs.Faults.{IsSpanOfBody};
+ghost use Rattle.std.specs.Prelude.{◌≡◌, ℕ, false, IfNone, IfOk, IfSome, List, Ok, true};
+ghost use Rattle.std.specs.Borrow.{Bor};
+ghost use Rattle.urlpattern_diagnosis.specs.Faults.{EachExpression, IsExpressionAt, IsRunAt, IsSpanOfBody, is_character};
 ghost use Rattle.urlpattern_diagnosis.specs.Spans.{IsSpanIn};
-ghost use Rattle.urlpattern_syntax.specs.declared.tokenizer.Token.{Token};
-ghost use Rattle.urlpattern_syntax.specs.declared.tokenizer.TokenType.TheVariants.{Regexp};
 
 use crate::span::Span;
 use std::alloc::Global;
@@ -22,9 +21,10 @@ pub fn rejected_expression<F: Fn(&str) -> Result<bool, OutOfMemory>>(
 ) -> Result<Option<Span>, OutOfMemory>
     requires { F.IsAlwaysCallable refuses }
     ensures refused { IfOk result (λ found. IfSome found (λ span.
-        (token : Token) × (token.kind ≡ Regexp)
-        × F.post refuses token.value (Ok true)
-        × IsSpanOfBody text.now token span)) }
+        (value : Bor (List ℕ)) × F.post refuses value (Ok true)
+        × IsExpressionAt text.now tokens.now value.now span)) }
+    ensures accepted { IfOk result (λ found. IfNone found
+        (EachExpression (λ value. F.post refuses value (Ok false)) tokens.now)) }
     ensures within { IfOk result (λ found. IfSome found (IsSpanIn text.now)) }
 {
     for token in tokens {
@@ -58,6 +58,9 @@ pub fn rejected_run<F: Fn(&str) -> Result<bool, OutOfMemory>>(
     refuses: F,
 ) -> Result<Option<Span>, OutOfMemory>
     requires { F.IsAlwaysCallable refuses }
+    ensures refused { IfOk result (λ found. IfSome found (λ span.
+        (value : Bor (List ℕ)) × F.post refuses value (Ok true)
+        × IsRunAt text.now tokens.now value.now span)) }
     ensures within { IfOk result (λ found. IfSome found (IsSpanIn text.now)) }
 {
     let mut row = String::new(alloc);
@@ -80,6 +83,8 @@ pub fn rejected_run<F: Fn(&str) -> Result<bool, OutOfMemory>>(
 }
 
 /// Whether a token of this kind is a character, escaped or not.
-fn is_character(kind: TokenType) -> bool {
+fn is_character(kind: TokenType) -> bool
+    ensures { result ≡ is_character kind }
+{
     matches!(kind, TokenType::Char | TokenType::EscapedChar)
 }

@@ -1,6 +1,6 @@
 //! Spans of a text.
 ghost use Rattle.std.specs.Prelude.{◌≡◌};
-ghost use Rattle.urlpattern_diagnosis.specs.Spans.{IsSpanAt, IsSpanIn, whole_span};
+ghost use Rattle.urlpattern_diagnosis.specs.Spans.{IsPartOf, IsSpanAt, IsSpanIn, whole_span};
 
 /// A part of a text, by the byte indices of its first character and after its last.
 ///
@@ -44,5 +44,18 @@ impl Span {
             return Span { start, end };
         }
         Span::whole(text)
+    }
+    /// Returns the span of the `len` bytes from `start` on in the part `outer` of a text, or of all
+    /// of that part if these are not whole characters of it.
+    pub(crate) fn inside(text: &str, outer: Span, start: usize, len: usize) -> Self
+        requires { IsSpanIn text.now outer }
+        ensures part { IsPartOf outer result }
+        ensures within { IsSpanIn text.now result }
+    {
+        let span = Span::at(text, outer.start.saturating_add(start), len);
+        if span.start < outer.start || span.end > outer.end {
+            return outer;
+        }
+        span
     }
 }

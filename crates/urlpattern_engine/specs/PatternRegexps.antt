@@ -1,5 +1,5 @@
 -- What a value of the engine `PatternRegexp` is made of, and what it returns.
-use Rattle.std.specs.Prelude.{◌≡◌, ℕ, Bool, List, Option, IsSome, string_bytes}
+use Rattle.std.specs.Prelude.{◌≡◌, ℕ, ◌^◌, ◌≤◌, Bool, List, length, Option, IsSome, string_bytes}
 use Rattle.regex_syntax.specs.Grammar.{read}
 use Rattle.urlpattern_matcher.specs.declared.regexp.RegExp.{Ghosts as Engine}
 use Rattle.urlpattern_matcher.specs.Components.{ignores_case}
@@ -59,10 +59,16 @@ pattern_regexp_text value = expression_text value.strategy
 unfoldable pub pattern_result : PatternRegexp → List ℕ → Option Captures
 pattern_result value text = expression_result value.ignore_case value.strategy text
 
--- The value was made of the expression `regexp` and the flags.
+-- The expression is so short that the grammar of `regex` has a number for each of its groups.
+abbrev pub HasNumbers : (regexp : List ℕ) → Type 0
+HasNumbers regexp = length regexp ≤ 2 ^ 32
+
+-- The value was made of the expression `regexp` and the flags. None is made of an expression of
+-- more than 2 ^ 32 characters.
 pub record IsPatternRegexpOf (regexp flags : List ℕ) (value : PatternRegexp) : Type 0 where
   pub by_flags : value.ignore_case ≡ ignores_case flags
   pub of_text : IsExpressionOf value.ignore_case regexp value.strategy
+  pub has_numbers : HasNumbers regexp
 
 -- The ghosts of the trait `RegExp` for `PatternRegexp`: the engine ignores case if the flags have
 -- an `i`, and rejects no generated expression, and others only for a fault.

@@ -3,7 +3,7 @@
 ghost use Rattle.std.specs.Prelude.{◌≡◌, ◌<◌, ◌≤◌, ◌↔◌, ℕ, Some, None, length, slice_range, IfSome, IsTrue};
 ghost use Rattle.regex_hir.specs.Looks as looks;
 ghost use Rattle.regex_nfa.specs.States.{IsSparseRange, target_in};
-ghost use Rattle.urlpattern_engine.specs.BoundedSearches.{GoesRound, HasByte, IsInSpan, IsReadableIn, IsState, NeedsByte, next_in, run_in};
+ghost use Rattle.urlpattern_engine.specs.BoundedSearches.{GoesRound, HasByte, HasFirst, IsInSpan, IsReadableIn, IsState, NeedsByte, NeedsFirst, next_in, run_in};
 
 use crate::bounded_search::BoundedSearch;
 use regex_hir::Look;
@@ -18,6 +18,15 @@ const SAVE_COUNT: usize = 4;
 pub(crate) struct ByteBounds {
     low: u8,
     high: u8,
+}
+
+/// Bytes with which a match can begin: those of a span, without those greater than `low_end` and
+/// less than `high_start`, its gap.
+#[derive(Clone, Copy)]
+pub(crate) struct FirstBytes {
+    bounds: ByteBounds,
+    low_end: u8,
+    high_start: u8,
 }
 
 impl BoundedSearch<'_> {
@@ -115,22 +124,56 @@ impl BoundedSearch<'_> {
         None
     }
 
-    /// Returns a span that contains each byte with which a match from a state can begin, looking
-    /// into one choice. `None`: unknown.
+    /// Returns each byte of `among` with which a match from a state can begin, and maybe others,
+    /// looking into one choice. `None`: unknown.
     #[inline(always)]
-    pub(crate) fn first_bytes(&self, id: StateId) -> Option<ByteBounds>
+    pub(crate) fn first_bytes(&self, id: StateId, among: ByteBounds) -> Option<FirstBytes>
         requires { IsState self.now id }
-        ensures { IfSome result (NeedsByte self.now id) }
+        ensures { IfSome result (NeedsFirst self.now id among) }
     {
         let seen = self.after_writes(id);
         match self.nfa.state(seen) {
             State::Split { first, second } => {
                 let one = self.own_bytes(first)?;
                 let other = self.own_bytes(second)?;
-                Some(span_of_both(one, other))
+                Some(union(one, other))
             }
-            _ => self.own_bytes(seen),
+            State::Sparse { from, to } => self.two_spans(from as usize, to as usize, among),
+            _ => {
+                let own = self.own_bytes(seen)?;
+                Some(FirstBytes::new(own, own))
+            }
         }
+    }
+
+    /// Returns the bytes of the first two transitions with an index from `from` up to but excluding
+    /// `to`, as those of a letter in both cases. `None`: there are fewer, or the third may be for a
+    /// byte of `among`.
+    #[inline(always)]
+    fn two_spans(&self, from: usize, to: usize, among: ByteBounds) -> Option<FirstBytes>
+        requires { IsSparseRange self.now.nfa.now.transitions.items from to }
+        ensures { IfSome result (λ first.
+            (b : ℕ) → HasByte among b
+            → ¬ HasFirst first b
+            → target_in (slice_range self.now.nfa.now.transitions.items from to) b ≡ None) }
+    {
+        if to - from < 2 {
+            return None;
+        }
+        if to - from > 2 && self.nfa.transitions[from + 2].start <= among.high {
+            return None;
+        }
+        let one = self.nfa.transitions[from];
+        let other = self.nfa.transitions[from + 1];
+        let lower = ByteBounds {
+            low: one.start,
+            high: one.end,
+        };
+        let upper = ByteBounds {
+            low: other.start,
+            high: other.end,
+        };
+        Some(FirstBytes::new(lower, upper))
     }
 
     /// Returns a span that contains each byte with which a match from a state can begin, without
@@ -238,21 +281,22 @@ impl BoundedSearch<'_> {
     }
 }
 
-/// The least span that contains both spans.
+/// The bytes of both spans.
 #[inline(always)]
-fn span_of_both(one: ByteBounds, other: ByteBounds) -> ByteBounds
-    ensures one { (b : ℕ) → HasByte one b → HasByte result b }
-    ensures other { (b : ℕ) → HasByte other b → HasByte result b }
+fn union(one: ByteBounds, other: ByteBounds) -> FirstBytes
+    ensures one { (b : ℕ) → HasByte one b → HasFirst result b }
+    ensures other { (b : ℕ) → HasByte other b → HasFirst result b }
 {
     if one.high < one.low {
-        return other;
+        return FirstBytes::new(other, other);
     }
     if other.high < other.low {
-        return one;
+        return FirstBytes::new(one, one);
     }
-    ByteBounds {
-        low: one.low.min(other.low),
-        high: one.high.max(other.high),
+    if one.low <= other.low {
+        FirstBytes::new(one, other)
+    } else {
+        FirstBytes::new(other, one)
     }
 }
 
@@ -263,5 +307,40 @@ impl ByteBounds {
         ensures { IsTrue result ↔ HasByte self byte }
     {
         self.low <= byte && byte <= self.high
+    }
+}
+
+impl FirstBytes {
+    /// The bytes of two spans, and those between them unless `lower` begins first.
+    #[inline(always)]
+    fn new(lower: ByteBounds, upper: ByteBounds) -> FirstBytes
+        ensures lower { (b : ℕ) → HasByte lower b → HasFirst result b }
+        ensures upper { (b : ℕ) → HasByte upper b → HasFirst result b }
+    {
+        FirstBytes {
+            bounds: ByteBounds {
+                low: lower.low.min(upper.low),
+                high: lower.high.max(upper.high),
+            },
+            low_end: lower.high,
+            high_start: upper.low,
+        }
+    }
+
+    /// Whether a byte is one of these.
+    #[inline(always)]
+    pub(crate) fn contains(self, byte: u8) -> bool
+        ensures { IsTrue result ↔ HasFirst self byte }
+    {
+        self.bounds.contains(byte) && (self.low_end >= self.bounds.high || self.is_beside_gap(byte))
+    }
+
+    /// Whether the gap does not contain a byte. Inlined, the comparisons would be made at each byte
+    /// of a loop, before those with the span.
+    #[inline(never)]
+    fn is_beside_gap(self, byte: u8) -> bool
+        ensures { IsTrue result ↔ (self.low_end < byte → self.high_start ≤ byte) }
+    {
+        byte <= self.low_end || self.high_start <= byte
     }
 }

@@ -1,9 +1,9 @@
 //! The engine `PatternRegexp`.
 
-ghost use Rattle.std.specs.Prelude.{◌≡◌};
+ghost use Rattle.std.specs.Prelude.{◌≡◌, true};
 ghost use Rattle.std.specs.Str.{chars};
 ghost use Rattle.urlpattern_matcher.specs.Components.{ignores_case};
-ghost use Rattle.urlpattern_engine.specs.PatternRegexps.{pattern_engine};
+ghost use Rattle.urlpattern_engine.specs.PatternRegexps.{HasNumbers, pattern_engine};
 
 use crate::strategy::Strategy;
 use std::alloc::Global;
@@ -50,7 +50,7 @@ impl Drop for PatternRegexp {
 /// Case is ignored if the flags have an `i`; other flags, and `force_eval`, have no effect. An
 /// expression that is generated from parts without custom ones is never rejected; others are
 /// rejected only if the grammar of `regex` does not read them, or if they are nested too deep or
-/// too large.
+/// too large. For an expression of more than 2³² bytes, `OutOfMemory` is returned.
 ///
 /// With case ignored, steps compare ASCII letters by their lower case and other characters exactly;
 /// the crate `regex` ignores case by Unicode.
@@ -75,6 +75,9 @@ impl RegExp for PatternRegexp {
         flags: &str,
         _force_eval: bool,
     ) -> Result<PatternRegexp, RegExpError> {
+        if !is_short(pattern) {
+            return Err(RegExpError::OutOfMemory);
+        }
         let ignore_case = ignores_case(flags);
         let strategy = Strategy::to_match(alloc, pattern, ignore_case)?;
         Ok(PatternRegexp {
@@ -90,6 +93,9 @@ impl RegExp for PatternRegexp {
         _force_eval: bool,
         is_generated: bool,
     ) -> Result<PatternRegexp, RegExpError> {
+        if !is_short(&pattern) {
+            return Err(RegExpError::OutOfMemory);
+        }
         let ignore_case = ignores_case(flags);
         let strategy = Strategy::to_keep(alloc, pattern, ignore_case, is_generated)?;
         Ok(PatternRegexp {
@@ -113,6 +119,17 @@ impl RegExp for PatternRegexp {
     fn agrees_with_parts() -> bool {
         true
     }
+}
+
+/// The greatest length in bytes of an expression: the number of groups that the grammar of `regex`
+/// can count.
+const LENGTH_LIMIT: usize = 1 << 32;
+
+/// Whether an expression has at most `LENGTH_LIMIT` bytes.
+fn is_short(pattern: &str) -> bool
+    ensures { result ≡ true → HasNumbers (chars pattern.now) }
+{
+    pattern.len() <= LENGTH_LIMIT
 }
 
 /// Whether the flags have an `i`.

@@ -2,9 +2,9 @@
 
 ghost use Rattle.std.specs.Prelude.{◌≡◌, ◌⊎◌, ℕ, None, List, IsTrue, false};
 ghost use Rattle.regex_nfa.specs.declared.state.State.TheVariants as states;
-ghost use Rattle.urlpattern_engine.specs.BoundedSearches.{FollowsMove, GoesRound, IsTextPlace, IsState, NeedsByte, found_from, run_in, state_in};
+ghost use Rattle.urlpattern_engine.specs.BoundedSearches.{FollowsMove, GoesRound, IsTextPlace, IsState, NeedsFirst, found_from, run_in, state_in};
 
-use crate::ahead::ByteBounds;
+use crate::ahead::{ByteBounds, FirstBytes};
 use crate::bounded_search::{BoundedSearch, StateMove};
 use regex_nfa::StateId;
 
@@ -97,7 +97,7 @@ impl BoundedSearch<'_> {
         let Some(inside) = self.loop_bytes(body, at, id) else {
             return closed(at);
         };
-        let Some(leaving) = self.first_bytes(exit) else {
+        let Some(leaving) = self.first_bytes(exit, inside) else {
             return closed(at);
         };
         let place = self.loop_end(id, body, exit, inside, leaving, at);
@@ -106,7 +106,7 @@ impl BoundedSearch<'_> {
         }
         let last = self.loop_end(id, body, exit, inside, leaving, place + 1);
         if last < self.bytes.len() {
-            return self.open_unless_exit_fails(exit, place);
+            return open(place);
         }
         LoopRun {
             place,
@@ -129,29 +129,14 @@ impl BoundedSearch<'_> {
         let Some(inside) = self.loop_bytes(body, at, id) else {
             return closed(at);
         };
-        let Some(leaving) = self.first_bytes(exit) else {
+        let Some(leaving) = self.first_bytes(exit, inside) else {
             return closed(at);
         };
         let place = self.loop_end(id, body, exit, inside, leaving, at);
         if self.is_byte_of(inside, place) {
-            self.open_unless_exit_fails(exit, place)
-        } else {
-            closed(place)
-        }
-    }
-
-    /// Returns `place`, before a byte with which the exit of a loop may begin: open, unless
-    /// lookahead rules out a match from the exit.
-    #[inline(always)]
-    fn open_unless_exit_fails(&self, exit: StateId, place: usize) -> LoopRun
-        requires { IsState self.now exit }
-        ensures place { result.place ≡ place }
-        ensures open { result.first_fails ≡ false }
-    {
-        if self.fails(exit, place) {
-            closed(place)
-        } else {
             open(place)
+        } else {
+            closed(place)
         }
     }
 
@@ -167,13 +152,13 @@ impl BoundedSearch<'_> {
         body: StateId,
         exit: StateId,
         inside: ByteBounds,
-        leaving: ByteBounds,
+        leaving: FirstBytes,
         at: usize,
     ) -> usize
         requires choice { (state_in self.now id ≡ states.Split body exit)
             ⊎ (state_in self.now id ≡ states.Split exit body) }
         requires goes { GoesRound self.now body id inside }
-        requires leaves { NeedsByte self.now exit leaving }
+        requires leaves { NeedsFirst self.now exit inside leaving }
         requires place { IsTextPlace self.now at }
         ensures same { run_in self.now id at ≡ run_in self.now id result }
         ensures within { IsTextPlace self.now result }

@@ -3,3 +3,5 @@ pub mod CoveringLemmas
 pub mod ReportedInitLemmas
 pub mod WrittenLinkLemmas
 pub mod SpanLemmas
+pub mod ResultDepth
+pub mod ResultFloats

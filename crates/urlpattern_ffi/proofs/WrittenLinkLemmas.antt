@@ -23,7 +23,7 @@ module _ (pattern : UrlPattern PatternRegexp) (text : List ℕ) (given : List Gi
   pub reason_written : (reason : NoLink) (status : Status) → RejectsLinkOfBytes pattern text given reason → IsReasonWritten reason old new needed status → IsUrlLinked pattern text given old new needed status
   reason_written reason statuses.TooSmall refused (bytes, says, counted, written) = (bytes, inr (reason, refused, says), counted, written)
   reason_written reason statuses.Refused refused (bytes, says, counted, written) = (bytes, (reason, refused, says), counted, written)
-  reason_written reason statuses.OutOfMemory refused written = written
+  reason_written reason statuses.OutOfMemory (is_other, (groups, give, refuses)) written = ((groups, give), written)
   reason_written reason status refused written = absurd written
 
 pub linked : (patterns : PatternList) (index : ℕ) (pattern : UrlPattern PatternRegexp) (text : List ℕ) (given : List GivenBytes) (old new : List ℕ) (needed : ℕ) (status : Status)

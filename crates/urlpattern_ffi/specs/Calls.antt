@@ -1,6 +1,6 @@
 -- Outcomes of compiling patterns and of matching URLs. Texts are bytes, and an empty base URL
 -- counts as no base URL.
-use Rattle.std.specs.Prelude.{◌≡◌, ◌⊎◌, ◌++◌, ℕ, Bool, List, [], ◌∷◌, slice_get, Option, None, Some}
+use Rattle.std.specs.Prelude.{◌≡◌, ◌≢◌, ◌⊎◌, ◌++◌, ℕ, Bool, List, [], ◌∷◌, slice_get, Option, None, Some}
 use Rattle.std.specs.Str.{chars, IsUtf8}
 use Rattle.url.specs.Parts.{Parts}
 use Rattle.urlpattern.specs.Errors.{ErrorView}
@@ -124,8 +124,9 @@ IsTested patterns index text base status =
     × IsUrlTested (pattern_view pattern) text base status
 
 -- The outcome of finding the first pattern that matches the URL `text` with the base URL `base`.
--- `Done`: `new` is its index. `NoMatch`: no pattern matches, or there is no URL. `NoPattern`: the
--- list is empty. Any other status is as in `IsNoUrl`. Unless `Done`, the index `old` is unchanged.
+-- `Done`: `new` is its index. `NoMatch`: no pattern matches, or there is no URL. `NoPattern`, and
+-- only this: the list is empty. Any other status is as in `IsNoUrl`. Unless `Done`, the index `old`
+-- is unchanged.
 abbrev pub IsFirstReported : List (UrlPattern PatternRegexp) → (text base : List ℕ) → (old new : ℕ)
     → Status → Type 0
 IsFirstReported patterns text base old new statuses.Done =
@@ -135,9 +136,11 @@ IsFirstReported patterns text base old new statuses.Done =
     (Some (new, result)))
 IsFirstReported patterns text base old new statuses.NoMatch =
     (new ≡ old)
+    × (patterns ≢ [])
     × (IsNoUrl text base statuses.NoMatch
     ⊎
     ((url : Parts) × IsUrlUnderBase text base url
     × IsFirstMatch pattern_result (patterns_view patterns) (match_inputs.Url url) None))
 IsFirstReported patterns text base old new statuses.NoPattern = (new ≡ old) × (patterns ≡ [])
-IsFirstReported patterns text base old new status = (new ≡ old) × IsNoUrl text base status
+IsFirstReported patterns text base old new status =
+    (new ≡ old) × (patterns ≢ []) × IsNoUrl text base status

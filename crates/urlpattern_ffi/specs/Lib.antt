@@ -1,6 +1,7 @@
 pub mod Calls
 pub mod ReportedCoverings
 pub mod ReportedDiagnoses
+pub mod ReportedMeanings
 pub mod Inits
 pub mod KeptPatterns
 pub mod WrittenLinks

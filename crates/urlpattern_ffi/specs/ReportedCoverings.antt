@@ -13,15 +13,15 @@ use Rattle.urlpattern_pattern.specs.declared.pattern.compare.CompareError.TheVar
 use Rattle.urlpattern_compare.specs.Comparing.{IsCovered, IsParting, IsReasonIn}
 use Rattle.urlpattern_compare.specs.declared.pattern_parts.{Parting.Parting, PatternParts.PatternParts}
 
--- By their parts, the asked pattern matches eight texts, and the other one does not match the text
--- of the component with this number.
+-- By their parts, the asked pattern matches a text of the component with this number, and the other
+-- one does not.
 abbrev pub HasPartingIn : (number : ℕ) → (parts asked : PatternParts) → Type 0
 HasPartingIn number parts asked =
     (parting : Parting) × IsParting parts asked parting
     × (number ≡ component_number parting.component)
 
 -- Whether the pattern with `parts` covers the asked one is not known, because of the component with
--- this number.
+-- this number, and no other component decides.
 abbrev pub IsUnknownIn : (number : ℕ) → (parts asked : PatternParts) → Type 0
 IsUnknownIn number parts asked =
     (name : ComponentName) × (reason : Reason)

@@ -41,7 +41,8 @@ place_of_diagnosis subject diagnosis = record {
 }
 
 -- `reason` and `place` are those of a diagnosis for which `Shows` is true, whose spans are within
--- its text, and for whose error `Refuses` is true. `number` gives the number of its subject.
+-- its text, and for whose error `Refuses` is true. `Shows` says which text that is. `number` gives
+-- the number of its subject.
 pub record IsDiagnosis (Refuses : ErrorView → Type 0) (Shows : Diagnosis → Type 0)
     (number : Subject → ℕ) (place : Place) (reason : List ℕ) : Type 0 where
   pub diagnosis : Diagnosis

@@ -1,8 +1,9 @@
 -- Texts that calls write to memory that C owns.
 use Rattle.std.specs.Prelude.{◌≡◌, ◌⊎◌, ◌++◌, ◌<◌, ◌≤◌, ℕ, List, length, drop, slice_get, Option, None, Some, option_and_then}
 use Rattle.std.specs.Str.{chars}
-use Rattle.serde_json.specs.Data.{Data, depth}
-use Rattle.serde_json.specs.Read.{read, max_depth}
+use Rattle.serde_json.specs.Data.{Data}
+use Rattle.serde_json.specs.Read.{read}
+use Rattle.serde_json.specs.Written.{compact_text}
 use Rattle.url.specs.Parts.{Parts}
 use Rattle.urlpattern.specs.Eight.{components}
 use Rattle.urlpattern.specs.Match.{IsMatch}
@@ -79,14 +80,12 @@ IsGroupNameWritten patterns index component group old new needed status =
 
 -- ---- matches
 
--- The text is JSON that reads as the tree, unless the tree is too deep.
-abbrev pub IsTextOf : Data → (text : List ℕ) → Type 0
-IsTextOf tree text = depth tree ≤ max_depth → read text ≡ Some tree
-
--- `text` is JSON that reads as the tree of the result, unless the tree is too deep.
+-- `text` is the tree of the result as JSON, with no white space between tokens, and reads as the
+-- tree.
 abbrev pub IsResultText : UrlPatternResult → (text : List ℕ) → Type 0
 IsResultText result text =
-    (tree : Data) × IsResultTree (plain_results_view result) tree × IsTextOf tree text
+    (tree : Data) × IsResultTree (plain_results_view result) tree × (text ≡ compact_text tree)
+    × (read text ≡ Some tree)
 
 -- `text` is the JSON of the pattern's match of the URL `url` with the base URL `base`.
 pub record IsJsonOfMatch (pattern : PatternView PatternRegexp) (url base text : List ℕ) : Type 0

@@ -7,7 +7,7 @@ use Rattle.urlpattern_ffi.specs.TextBuffers.{WritesToBuffer}
 use Rattle.urlpattern_ffi.specs.declared.status.Status.{Status}
 use Rattle.urlpattern_ffi.specs.declared.status.Status.TheVariants as statuses
 use Rattle.urlpattern_engine.specs.declared.pattern_regexp.PatternRegexp.{PatternRegexp}
-use Rattle.urlpattern_ffi_links.specs.GivenBytes.{GivesNothing}
+use Rattle.urlpattern_ffi_links.specs.GivenBytes.{GiveGroups, GivesNothing}
 use Rattle.urlpattern_ffi_links.specs.GivenLinks.{IsLinkOfBytes, RejectsLinkOfBytes}
 pub use Rattle.urlpattern_ffi_links.specs.declared.given.GivenBytes.{GivenBytes}
 use Rattle.urlpattern_pattern.specs.UrlPatterns.{UrlPattern}
@@ -44,7 +44,7 @@ IsTextOfNoLink pattern text given written =
 -- The outcome of writing the URL of the pattern with the groups that `given` cuts out of `text`.
 -- `Done`: the URL is written. `Refused`: the reason why there is no URL is written. `TooSmall`: the
 -- buffer has no room for the URL or for the reason. `NoPattern`: some element of `given` gives no
--- group. `OutOfMemory`: the buffer is unchanged.
+-- group. `OutOfMemory`: each element gives a group, and the buffer is unchanged.
 abbrev pub IsUrlLinked : UrlPattern PatternRegexp → (text : List ℕ) → List GivenBytes
     → (old new : List ℕ) → (needed : ℕ) → Status → Type 0
 IsUrlLinked pattern text given old new needed statuses.Done =
@@ -57,7 +57,8 @@ IsUrlLinked pattern text given old new needed statuses.TooSmall =
     needed statuses.TooSmall
 IsUrlLinked pattern text given old new needed statuses.NoPattern =
     Any (GivesNothing text) given × (new ≡ old)
-IsUrlLinked pattern text given old new needed statuses.OutOfMemory = new ≡ old
+IsUrlLinked pattern text given old new needed statuses.OutOfMemory =
+    GiveGroups text given × (new ≡ old)
 IsUrlLinked pattern text given old new needed status = ⊥
 
 -- The outcome of writing the URL of the pattern at `index` (`IsUrlLinked`). `NoPattern`: the index

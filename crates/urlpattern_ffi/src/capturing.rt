@@ -97,6 +97,9 @@ fn list_captures(
     ensures { AreFirstCaptures list.now url.now base.now index.old index.new buffer.old buffer.new
         spans.old spans.new needed.new result }
 {
+    if list.is_empty() {
+        return Status::NoPattern;
+    }
     let url = match url_of(alloc, url, base) {
         Ok(url) => url,
         Err(status) => return status,

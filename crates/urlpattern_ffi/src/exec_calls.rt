@@ -54,7 +54,7 @@ fn test_pattern(
 }
 
 /// Finds the first pattern that matches a URL, and writes its index. `NoMatch`: no pattern matches,
-/// or the text is not a URL. `NoPattern`: the handle is empty.
+/// or the text is not a URL. `NoPattern`: the handle has no pattern.
 pub fn first(
     alloc: Global,
     kept: &Option<Box<PatternBox>>,
@@ -72,7 +72,7 @@ pub fn first(
 }
 
 /// Finds the first pattern of a list that matches a URL, and writes its index. `NoMatch`: no
-/// pattern matches, or the text is not a URL.
+/// pattern matches, or the text is not a URL. `NoPattern`: the list is empty.
 fn first_in(
     alloc: Global,
     list: &UrlPatternList<PatternRegexp>,
@@ -82,6 +82,9 @@ fn first_in(
 ) -> Status
     ensures { IsFirstReported list.now url.now base.now index.old index.new result }
 {
+    if list.is_empty() {
+        return Status::NoPattern;
+    }
     let url = match url_of(alloc, url, base) {
         Ok(url) => url,
         Err(status) => return status,
@@ -165,10 +168,11 @@ fn match_text(
     }
 }
 
-/// The JSON of a result, as text.
+/// The JSON of a result, as text with no white space between tokens.
 fn json_text(alloc: Global, found: &UrlPatternResult) -> Result<String, Error>
     ensures { IfOk result (λ text. IsResultText found.now (string_bytes text)) }
 {
     let tree = found.to_json_value(alloc)?;
-    Ok(tree.to_string(alloc)?)
+    let text = tree.to_string(alloc)?;
+    Ok(text)
 }

@@ -5,12 +5,12 @@ ghost use Rattle.urlpattern_ffi.specs.Statuses.{status_number};
 /// The outcome of a call.
 #[derive(Clone, Copy)]
 pub enum Status {
-    /// The call succeeded, or the pattern matches, covers the asked one, or has a custom regular
-    /// expression.
+    /// The call succeeded, or the pattern matches, covers the asked one, has a custom regular
+    /// expression, or has a meaning in each component.
     Done,
     /// The pattern does not match, or no pattern of the handle does, or the text is not a URL. Also
     /// the status of a pattern that does not cover the asked one, has no custom regular expression,
-    /// or is not rejected.
+    /// has no meaning in a component, or is not rejected.
     NoMatch,
     /// A text is not UTF-8.
     NotUtf8,

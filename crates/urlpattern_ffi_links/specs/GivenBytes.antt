@@ -1,6 +1,6 @@
 -- The groups of a pattern with their texts, cut out of one text. Texts are bytes.
 use Rattle.std.specs.Prelude.{◌≡◌, ◌+◌, ◌≤◌, ℕ, Any, List, drop, length, slice_get, take, Some}
-use Rattle.std.specs.{Borrow.Bor, Str.IsUtf8}
+use Rattle.std.specs.{Borrow.Bor, List.AllZip, Str.IsUtf8}
 use Rattle.urlpattern_components.specs.Eight.{components}
 use Rattle.urlpattern_components.specs.declared.eight.ComponentName.{ComponentName}
 use Rattle.urlpattern_ffi_links.specs.declared.given.GivenBytes.{GivenBytes}
@@ -34,9 +34,13 @@ GivesGroup text given group =
 abbrev pub GivesNothing : (text : List ℕ) → GivenBytes → Type 0
 GivesNothing text given = (group : GroupOfBytes) → ¬ GivesGroup text given group
 
--- The reason why the elements of the list cut no groups out of `text`: one of them cuts out no
--- group, or memory ran out.
+-- Each element of the list cuts a group out of `text`.
+abbrev pub GiveGroups : (text : List ℕ) → List GivenBytes → Type 0
+GiveGroups text given = (groups : List GroupOfBytes) × AllZip (GivesGroup text) given groups
+
+-- The reason why no groups are cut out of `text`: an element of the list cuts out none, or memory
+-- ran out although each cuts out one.
 abbrev pub RejectsParts : (text : List ℕ) → List GivenBytes → Unlinked → Type 0
 RejectsParts text given unlinked.Given = Any (GivesNothing text) given
-RejectsParts text given unlinked.OutOfMemory = Unit {0}
+RejectsParts text given unlinked.OutOfMemory = GiveGroups text given
 RejectsParts text given (unlinked.NoLink error) = ⊥

@@ -6,7 +6,7 @@ use Rattle.url.specs.Parts.{Parts}
 use Rattle.urlpattern_engine.specs.PatternRegexps.{pattern_result}
 use Rattle.urlpattern_engine.specs.declared.pattern_regexp.PatternRegexp.{PatternRegexp}
 use Rattle.urlpattern_generate.specs.WriteSettings.{given_groups}
-use Rattle.urlpattern_ffi_links.specs.GivenBytes.{GivesGroup, GivesNothing, GroupOfBytes}
+use Rattle.urlpattern_ffi_links.specs.GivenBytes.{GiveGroups, GivesGroup, GivesNothing, GroupOfBytes}
 use Rattle.urlpattern_ffi_links.specs.declared.given.GivenBytes.{GivenBytes}
 use Rattle.urlpattern_ffi_links.specs.declared.given_link.Unlinked.{Unlinked}
 use Rattle.urlpattern_ffi_links.specs.declared.given_link.Unlinked.TheVariants as unlinked
@@ -31,9 +31,9 @@ RejectsLinkOfBytes pattern text given error =
     × RejectsLink pattern_result pattern (given_groups groups) error)
 
 -- The reason why there is no URL: an element of `given` cuts no group out of `text`, the pattern
--- has no URL with the groups, or memory ran out.
+-- has no URL with the groups, or memory ran out although each element cuts out a group.
 abbrev pub IsUnlinked : UrlPattern PatternRegexp → (text : List ℕ) → List GivenBytes → Unlinked
     → Type 0
 IsUnlinked pattern text given unlinked.Given = Any (GivesNothing text) given
 IsUnlinked pattern text given (unlinked.NoLink error) = RejectsLinkOfBytes pattern text given error
-IsUnlinked pattern text given unlinked.OutOfMemory = Unit {0}
+IsUnlinked pattern text given unlinked.OutOfMemory = GiveGroups text given

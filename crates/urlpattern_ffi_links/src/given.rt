@@ -28,7 +28,8 @@ pub struct GivenBytes {
 
 /// Cuts groups with their texts out of `text`, one for each element of `given`.
 ///
-/// The error is `Unlinked::Given` if an element gives no group, or `OutOfMemory`.
+/// The error is `Unlinked::Given` if an element gives no group, also where memory runs out, or
+/// `OutOfMemory`.
 pub(crate) fn groups_of<'t>(
     alloc: Global,
     text: &'t [u8],
@@ -38,19 +39,32 @@ pub(crate) fn groups_of<'t>(
     ensures refused { IfErr result (RejectsParts text.now given.now) }
 {
     let Ok(mut groups) = Vec::with_capacity(alloc, given.len()) else {
-        return Err(Unlinked::OutOfMemory);
+        return Err(reason_without_memory(text, given));
     };
     for part in given {
         match numbered_group(text, part) {
             Some(group) => {
                 if groups.push(group).is_err() {
-                    return Err(Unlinked::OutOfMemory);
+                    return Err(reason_without_memory(text, given));
                 }
             }
             None => return Err(Unlinked::Given),
         }
     }
     Ok(groups)
+}
+
+/// The reason why no groups are cut out where memory ran out: `Given` if an element gives no group,
+/// and else `OutOfMemory`.
+fn reason_without_memory(text: &[u8], given: &[GivenBytes]) -> Unlinked
+    ensures { RejectsParts text.now given.now result }
+{
+    for part in given {
+        let Some(_group) = numbered_group(text, part) else {
+            return Unlinked::Given;
+        };
+    }
+    Unlinked::OutOfMemory
 }
 
 /// Cuts the group that `given` names and the text for it out of `text`. `None`: no component has

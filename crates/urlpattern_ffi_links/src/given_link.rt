@@ -17,7 +17,7 @@ pub enum Unlinked {
     Given,
     /// The pattern has no URL with these groups.
     NoLink(NoLink),
-    /// Memory ran out.
+    /// Memory ran out. Each element of `given` gives a group.
     OutOfMemory,
 }
 

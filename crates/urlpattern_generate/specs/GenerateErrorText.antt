@@ -8,13 +8,14 @@ use Rattle.urlpattern_generate.specs.declared.generate_error.GenerateError.TheVa
 abbrev pub generate_error_text : GenerateError → List ℕ
 generate_error_text (errors.Missing component name) =
     codes "the group `" ++ name_text component
-    ++ (codes "." ++ string_bytes name ++ codes "` is missing")
+    ++ (codes "." ++ string_bytes name ++ codes "` is missing: give a text for it")
 generate_error_text (errors.NotCaptured component name) =
     codes "the group `" ++ name_text component
-    ++ (codes "." ++ string_bytes name ++ codes "` cannot capture what is given for it")
+    ++ (codes "." ++ string_bytes name
+    ++ codes "` cannot capture what is given for it: give a text that it matches")
 generate_error_text (errors.ReadOtherwise component) =
     codes "the " ++ name_text component
-    ++ codes " would be read with other groups, or no URL has it"
+    ++ codes " would be read with other groups, or no URL has it: give other texts"
 generate_error_text errors.NoParts =
-    codes "the pattern was put together by hand, so that its parts are not known"
+    codes "the pattern was put together by hand, so that its parts are not known: compile it"
 generate_error_text errors.OutOfMemory = codes "out of memory"

@@ -1,6 +1,6 @@
 -- The text of a component in which its matcher finds the requested captures, and why there is none.
 use Rattle.std.specs.Prelude.{◌≡◌, ◌≢◌, ◌⊎◌, ◌≤◌, ◌||◌, ℕ, Bool, true, not, List, length, IsTrue, MatchBool, Option, Some, None, Ok}
-use Rattle.std.specs.{Char.is_ascii_alphabetic, Str.chars}
+use Rattle.std.specs.{Char.is_ascii_alphabetic, Str.IsUtf8, Str.chars}
 use Rattle.url.specs.Parser.{Parsed}
 use Rattle.urlpattern_canonical.specs.Canonical.{long_text}
 use Rattle.urlpattern_components.specs.declared.eight.ComponentName.{ComponentName}
@@ -85,7 +85,8 @@ pub record HasText {E : Type 0} (answer : E → List ℕ → Option Captures) (m
 abbrev pub IsTextReadOtherwise : {E : Type 0} → (answer : E → List ℕ → Option Captures)
     → MatcherView E → WriteSettings → List PartView → Type 0
 IsTextReadOtherwise answer matcher settings parts =
-    (bytes : List ℕ) × IsWritten settings parts (chars bytes)
+    (bytes : List ℕ) × IsUtf8 bytes
+    × IsWritten settings parts (chars bytes)
     × (FindsOther answer matcher settings parts (chars bytes)
     ⊎ IsNotCanonical settings.canonical bytes)
 

@@ -11,5 +11,6 @@ abbrev pub no_link_text : NoLink → Option (List ℕ)
 no_link_text (errors.Component error) = Some (generate_error_text error)
 no_link_text (errors.Url reason) = None
 no_link_text (errors.OtherText component) =
-    Some (codes "a URL with these texts has another " ++ name_text component)
+    Some (codes "a URL with these texts has another " ++ name_text component
+    ++ codes ": give other texts, or change the pattern")
 no_link_text errors.OutOfMemory = Some (codes "out of memory")

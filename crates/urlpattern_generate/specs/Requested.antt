@@ -1,6 +1,6 @@
 -- The captures that are requested of the groups of parts.
 use Rattle.std.specs.Prelude.{◌≡◌, ℕ, Bool, false, List, [], Option, Some, None, Ok, length, if◌then◌else◌}
-use Rattle.std.specs.{Char.is_ascii_digit, Str.chars}
+use Rattle.std.specs.{Char.is_ascii_digit, Str.IsUtf8, Str.chars}
 use Rattle.url.specs.Parser.{Parsed}
 use Rattle.urlpattern_canonical.specs.Canonical.{IsRejectedByUrl}
 use Rattle.urlpattern_generate.specs.WriteSettings.{WriteSettings}
@@ -54,5 +54,6 @@ AreRequested settings = OfEachGroup (IsRequested settings)
 -- The group of this name has a value that `url` rejects, or that may be too long.
 abbrev pub RejectsGiven : WriteSettings → (name : List ℕ) → Type 0
 RejectsGiven settings name =
-    (bytes : List ℕ) × (settings.given name ≡ Some (chars bytes))
+    (bytes : List ℕ) × IsUtf8 bytes
+    × (settings.given name ≡ Some (chars bytes))
     × IsRejectedByUrl (settings.canonical (chars bytes)) (length bytes)

@@ -36,25 +36,27 @@ pub enum GenerateError {
     OutOfMemory,
 }
 
-/// Prints the reason in one line, with the component and the group where they are known.
+/// Prints the reason in one line, with the component and the group where they are known, and what
+/// to do.
 impl fmt::Display for GenerateError {
     ghost output = { λ error. Some (generate_error_text error) };
 
     fn fmt<W: fmt::Write>(&self, f: &mut fmt::Formatter<W>) -> fmt::Result {
         match self {
-            Self::Missing(component, name) => {
-                write!(f, "the group `{component}.{name}` is missing")
-            }
+            Self::Missing(component, name) => write!(
+                f,
+                "the group `{component}.{name}` is missing: give a text for it"
+            ),
             Self::NotCaptured(component, name) => write!(
                 f,
-                "the group `{component}.{name}` cannot capture what is given for it"
+                "the group `{component}.{name}` cannot capture what is given for it: give a text that it matches"
             ),
             Self::ReadOtherwise(component) => write!(
                 f,
-                "the {component} would be read with other groups, or no URL has it"
+                "the {component} would be read with other groups, or no URL has it: give other texts"
             ),
             Self::NoParts => f.write_str(
-                "the pattern was put together by hand, so that its parts are not known",
+                "the pattern was put together by hand, so that its parts are not known: compile it",
             ),
             Self::OutOfMemory => f.write_str("out of memory"),
         }

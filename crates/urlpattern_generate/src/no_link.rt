@@ -33,7 +33,8 @@ pub enum NoLink {
     OutOfMemory,
 }
 
-/// Prints the reason in one line.
+/// Prints the reason in one line, with the component and the group where they are known, and what
+/// to do.
 impl fmt::Display for NoLink {
     ghost output = { no_link_text };
 
@@ -41,9 +42,10 @@ impl fmt::Display for NoLink {
         match self {
             Self::Component(error) => fmt::Display::fmt(error, f),
             Self::Url(reason) => write!(f, "no URL has these texts: {reason}"),
-            Self::OtherText(component) => {
-                write!(f, "a URL with these texts has another {component}")
-            }
+            Self::OtherText(component) => write!(
+                f,
+                "a URL with these texts has another {component}: give other texts, or change the pattern"
+            ),
             Self::OutOfMemory => f.write_str("out of memory"),
         }
     }

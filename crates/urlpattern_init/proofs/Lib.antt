@@ -4,3 +4,4 @@ pub mod InheritanceLemmas
 pub mod SplitExamples
 pub mod UrlTexts
 pub mod SpecialSchemeLemmas
+pub mod SplitPlaces

@@ -6,8 +6,9 @@ use Rattle.std.specs.Char.{encode_utf8}
 use Rattle.std.specs.Prelude.{codes, IsTrue, IsSomeAnd, Option, slice_get}
 use Rattle.urlpattern_meaning.proofs.PlainTexts.{letters, plain_cut}
 use Rattle.urlpattern_init.proofs.SplitUnique.{splits_one_given}
-use Rattle.urlpattern_init.specs.ConstructorString.{SplitsAs, SplitsInto}
-use Rattle.urlpattern_constructor.specs.Split.{EndsAt, IsAbsoluteSplit, IsRelativeSplit, IsTextBetween, ends_at, may_end}
+use Rattle.urlpattern_init.specs.ConstructorString.{SplitsAs, SplitsInto, SplitsIntoTexts}
+use Rattle.urlpattern_constructor.specs.Split.{EndsAt, IsAbsoluteSplit, IsRelativeSplit, IsSplitTextBetween, SplitTextView, SplitTexts, ends_at, implied, may_end}
+use Rattle.urlpattern_constructor.specs.Splitting.{values_of_split}
 use Rattle.urlpattern_constructor.specs.declared.sections.Section.{Section}
 use Rattle.urlpattern_constructor.specs.declared.sections.Section.TheVariants.{Protocol, Authority, Username, Hostname, Port, Pathname, Search}
 use Rattle.urlpattern_syntax.specs.declared.tokenizer.TokenType.{TokenType}
@@ -47,14 +48,21 @@ ends section tokens from depth count place e within stops none = record {
 }
 
 -- The text between two tokens.
-between : (tokens : List TokenView) (from until : ℕ) (front text rest : List ℕ) → IsSomeAnd (slice_get tokens from) (λ token. token.index ≡ length front) → IsSomeAnd (slice_get tokens until) (λ token. token.index ≡ length front + length text) → byte_len front ≡ length front → byte_len text ≡ length text → IsTextBetween (front ++ text ++ rest) tokens from until text
-between tokens from until front text rest begins stops same_front same_text = record {
-  front = front;
-  rest = rest;
-  cut = refl;
-  begins = rw same_front begins;
-  ends = rw (same_front, same_text) stops;
-}
+between : (tokens : List TokenView) (from until : ℕ) (front text rest : List ℕ) → IsSomeAnd (slice_get tokens from) (λ token. token.index ≡ length front) → IsSomeAnd (slice_get tokens until) (λ token. token.index ≡ length front + length text) → byte_len front ≡ length front → byte_len text ≡ length text → IsSplitTextBetween (front ++ text ++ rest) tokens from until (record { text = text; start = Some (length front) })
+between tokens from until front text rest begins stops same_front same_text = (
+  record {
+    front = front;
+    rest = rest;
+    cut = refl;
+    begins = rw same_front begins;
+    ends = rw (same_front, same_text) stops;
+  },
+  ap Some (sym same_front),
+)
+
+-- The text of a component, which the constructor string has at `start`.
+abbrev found : (start : ℕ) → (text : List ℕ) → Option SplitTextView
+found start text = Some (record { text = text; start = Some start })
 
 -- ---- https://a]
 
@@ -63,7 +71,7 @@ bracket_tokens = letters 0 (codes "https") ++ one InvalidChar 5 (codes ":") ++ l
 
 -- An unmatched closing bracket is part of the hostname, and the port is empty.
 pub closing_bracket : IsAbsoluteSplit (codes "https://a]") bracket_tokens true 5
-    (record { protocol = Some (codes "https"); username = None; password = None; hostname = Some (codes "a]"); port = Some []; pathname = None; search = None; hash = None })
+    (record { protocol = found 0 (codes "https"); username = None; password = None; hostname = found 8 (codes "a]"); port = implied []; pathname = None; search = None; hash = None })
 unfolding byte_len encode_utf8
 closing_bracket = record {
   is_colon_there = refl;
@@ -96,7 +104,7 @@ special_tokens = letters 0 (codes "https") ++ one InvalidChar 5 (codes ":") ++ l
 
 -- A special protocol is followed by an authority, even without slashes.
 pub special_without_slashes : IsAbsoluteSplit (codes "https:1/") special_tokens true 5
-    (record { protocol = Some (codes "https"); username = None; password = None; hostname = Some (codes "1"); port = Some []; pathname = Some (codes "/"); search = None; hash = None })
+    (record { protocol = found 0 (codes "https"); username = None; password = None; hostname = found 6 (codes "1"); port = implied []; pathname = found 7 (codes "/"); search = None; hash = None })
 unfolding byte_len encode_utf8
 special_without_slashes = record {
   is_colon_there = refl;
@@ -141,7 +149,7 @@ opaque_tokens = letters 0 (codes "data") ++ one InvalidChar 4 (codes ":") ++ let
 
 -- A protocol that is not special is followed by a pathname, with an empty hostname and port.
 pub opaque_pathname : IsAbsoluteSplit (codes "data:1?b") opaque_tokens false 4
-    (record { protocol = Some (codes "data"); username = None; password = None; hostname = Some []; port = Some []; pathname = Some (codes "1"); search = Some (codes "b"); hash = None })
+    (record { protocol = found 0 (codes "data"); username = None; password = None; hostname = implied []; port = implied []; pathname = found 5 (codes "1"); search = found 7 (codes "b"); hash = None })
 unfolding byte_len encode_utf8
 opaque_pathname = record {
   is_colon_there = refl;
@@ -177,7 +185,7 @@ open_tokens = letters 0 (codes "a#b") ++ one Open 3 (codes "{") ++ letters 4 (co
 
 -- A group is open at End, and at its depth no token is seen on the second pass.
 pub depth_is_kept : IsRelativeSplit (codes "a#b{c") open_tokens
-    (record { pathname = Some (codes "a#b{c"); protocol = None; username = None; password = None; port = None; hostname = None; search = None; hash = None })
+    (record { pathname = found 0 (codes "a#b{c"); protocol = None; username = None; password = None; port = None; hostname = None; search = None; hash = None })
 unfolding byte_len encode_utf8
 depth_is_kept = record {
   until = 5;
@@ -205,7 +213,7 @@ whole_tokens =
 
 -- All eight components.
 pub all_components : IsAbsoluteSplit (codes "https://user\\:pw@example.com:8080/a?b#c") whole_tokens true 5
-    (record { protocol = Some (codes "https"); username = Some (codes "user"); password = Some (codes "pw"); hostname = Some (codes "example.com"); port = Some (codes "8080"); pathname = Some (codes "/a"); search = Some (codes "b"); hash = Some (codes "c") })
+    (record { protocol = found 0 (codes "https"); username = found 8 (codes "user"); password = found 14 (codes "pw"); hostname = found 17 (codes "example.com"); port = found 29 (codes "8080"); pathname = found 33 (codes "/a"); search = found 36 (codes "b"); hash = found 38 (codes "c") })
 unfolding byte_len encode_utf8
 all_components = record {
   is_colon_there = refl;
@@ -288,11 +296,15 @@ are_users_tokens = record {
   all = refl;
 }
 
+-- The components, with where each begins.
+abbrev pub users_texts : SplitTexts
+users_texts = record { protocol = found 0 (codes "https"); username = None; password = None; hostname = found 8 (codes "example.com"); port = implied []; pathname = found 19 (codes "/users/:id"); search = None; hash = None }
+
 abbrev pub users_values : Values
 users_values = record { protocol = Some (codes "https"); username = None; password = None; hostname = Some (codes "example.com"); port = Some []; pathname = Some (codes "/users/:id"); search = None; hash = None }
 
 -- When slashes follow, it makes no difference whether the protocol is special.
-users_absolute : (special : Bool) → IsAbsoluteSplit users_text users_tokens special 5 users_values
+users_absolute : (special : Bool) → IsAbsoluteSplit users_text users_tokens special 5 users_texts
 unfolding byte_len encode_utf8
 users_absolute special = record {
   is_colon_there = refl;
@@ -330,16 +342,19 @@ users_absolute special = record {
   );
 }
 
-users_splits : (special : Bool) → SplitsAs users_text special users_values
+users_splits : (special : Bool) → SplitsAs users_text special users_texts
 users_splits special = (users_tokens, are_users_tokens, inr (5, special, users_absolute special, refl))
 
 answered : {A : Type 0} (special : Bool) (found : Option A) (Is : A → Type 0) → IsSomeAnd found Is → IsSomeAnd found (λ one. special ≡ special)
 answered special (Some one) Is is = refl
 answered special None Is is = absurd is
 
+one_split : (IsSpecial : List ℕ → Bool → Type 0) (texts : SplitTexts) → SplitsIntoTexts IsSpecial users_text texts → texts ≡ users_texts
+one_split IsSpecial texts (tokens, are_tokens, inl relative) =
+    splits_one_given users_text true texts users_texts (tokens, are_tokens, inl relative) (users_splits true)
+one_split IsSpecial texts (tokens, are_tokens, inr (colon, special, absolute, known)) =
+    splits_one_given users_text special texts users_texts (tokens, are_tokens, inr (colon, special, absolute, answered special _ _ known)) (users_splits special)
+
 -- `users_text` has one split, whichever protocols are special.
 pub users_split : (IsSpecial : List ℕ → Bool → Type 0) (components : Values) → SplitsInto IsSpecial users_text components → components ≡ users_values
-users_split IsSpecial components (tokens, are_tokens, inl relative) =
-    splits_one_given users_text true components users_values (tokens, are_tokens, inl relative) (users_splits true)
-users_split IsSpecial components (tokens, are_tokens, inr (colon, special, absolute, known)) =
-    splits_one_given users_text special components users_values (tokens, are_tokens, inr (colon, special, absolute, answered special _ _ known)) (users_splits special)
+users_split IsSpecial components (starts, (texts, splits, are_values, are_starts)) = sym are_values ∙ ap values_of_split (one_split IsSpecial texts splits)

@@ -3,7 +3,7 @@ use Rattle.std.proofs.Common.{◌≡◌, ℕ, zero, suc, ◌+◌, ◌<◌, ◌�
 use Rattle.std.proofs.lemmas.Bool.{and_from, and_parts, both_ways, cases_eq, cases_lt, false≢true, or_cases, or_left, or_right}
 use Rattle.std.specs.Prelude.{codes, IsSomeAnd, IsTrue}
 use Rattle.urlpattern_init.specs.ConstructorString.{SplitsAs}
-use Rattle.urlpattern_constructor.specs.Split.{AuthorityFrom, EndsAt, HashAt, HashFrom, HostnameFrom, IsAbsoluteSplit, IsRelativeSplit, PathnameAt, PathnameFrom, PortAt, SearchAt, SearchFrom, IsComponentBetween, UserinfoFrom, depth_before, ends_at, has_slashes, implied_pathname, is_at_sign, is_balanced, is_colon_sign, is_hash_sign, is_search_prefix, is_slash_sign, may_end}
+use Rattle.urlpattern_constructor.specs.Split.{AuthorityFrom, SplitTextView, SplitTexts, IsTextBetween, implied, EndsAt, HashAt, HashFrom, HostnameFrom, IsAbsoluteSplit, IsRelativeSplit, PathnameAt, PathnameFrom, PortAt, SearchAt, SearchFrom, IsComponentBetween, UserinfoFrom, depth_before, ends_at, has_slashes, implied_pathname, is_at_sign, is_balanced, is_colon_sign, is_hash_sign, is_search_prefix, is_slash_sign, may_end}
 use Rattle.urlpattern_constructor.proofs.ClosedTokens.{IsClosed}
 use Rattle.urlpattern_constructor.specs.Splitting.{may_end_before}
 use Rattle.urlpattern_constructor.specs.declared.sections.Section.{Section}
@@ -12,33 +12,34 @@ use Rattle.urlpattern_constructor.proofs.SplitLemmas.{may_end_parts, port_sign, 
 use Rattle.urlpattern_init.proofs.SplitUnique.{search_not_end}
 use Rattle.urlpattern_constructor.proofs.TextBetween.{are_closed, text_between}
 use Rattle.urlpattern_meaning.proofs.TokensExist.{lenient_tokens_exist}
+use Rattle.urlpattern_syntax.specs.Text.{byte_len}
 use Rattle.urlpattern_syntax.specs.Tokens.{AreLenientTokens, TokenView, end_of}
-use Rattle.urlpattern_components.specs.Eight.{Values, each}
+use Rattle.urlpattern_components.specs.Eight.{each}
 
 -- ---- components still to be found
 
 -- A hash for which `Is` holds, whatever the other components are.
-abbrev HashFor : (Is : Values → Type 0) → Type 0
-HashFor Is = (hash : Option (List ℕ)) × ((c : Values) → Is (record c { hash = hash }))
+abbrev HashFor : (Is : SplitTexts → Type 0) → Type 0
+HashFor Is = (hash : Option SplitTextView) × ((c : SplitTexts) → Is (record c { hash = hash }))
 
-abbrev SearchFor : (Is : Values → Type 0) → Type 0
-SearchFor Is = (search hash : Option (List ℕ)) × ((c : Values) → Is (record c { search = search; hash = hash }))
+abbrev SearchFor : (Is : SplitTexts → Type 0) → Type 0
+SearchFor Is = (search hash : Option SplitTextView) × ((c : SplitTexts) → Is (record c { search = search; hash = hash }))
 
-abbrev PathnameFor : (Is : Values → Type 0) → Type 0
-PathnameFor Is = (pathname search hash : Option (List ℕ)) × ((c : Values) → Is (record c { pathname = pathname; search = search; hash = hash }))
+abbrev PathnameFor : (Is : SplitTexts → Type 0) → Type 0
+PathnameFor Is = (pathname search hash : Option SplitTextView) × ((c : SplitTexts) → Is (record c { pathname = pathname; search = search; hash = hash }))
 
-abbrev PortFor : (Is : Values → Type 0) → Type 0
-PortFor Is = (port pathname search hash : Option (List ℕ)) × ((c : Values) → Is (record c { port = port; pathname = pathname; search = search; hash = hash }))
+abbrev PortFor : (Is : SplitTexts → Type 0) → Type 0
+PortFor Is = (port pathname search hash : Option SplitTextView) × ((c : SplitTexts) → Is (record c { port = port; pathname = pathname; search = search; hash = hash }))
 
-abbrev HostnameFor : (Is : Values → Type 0) → Type 0
+abbrev HostnameFor : (Is : SplitTexts → Type 0) → Type 0
 HostnameFor Is =
-    (hostname port pathname search hash : Option (List ℕ))
-    × ((c : Values) → Is (record c { hostname = hostname; port = port; pathname = pathname; search = search; hash = hash }))
+    (hostname port pathname search hash : Option SplitTextView)
+    × ((c : SplitTexts) → Is (record c { hostname = hostname; port = port; pathname = pathname; search = search; hash = hash }))
 
-abbrev UserinfoFor : (Is : Values → Type 0) → Type 0
-UserinfoFor Is = (username password : Option (List ℕ)) × ((c : Values) → Is (record c { username = username; password = password }))
+abbrev UserinfoFor : (Is : SplitTexts → Type 0) → Type 0
+UserinfoFor Is = (username password : Option SplitTextView) × ((c : SplitTexts) → Is (record c { username = username; password = password }))
 
-abbrev nothing : Values
+abbrev nothing : SplitTexts
 nothing = each (λ name. None)
 
 module _ (text : List ℕ) (tokens : List TokenView) (are_tokens : AreLenientTokens text tokens) where
@@ -91,9 +92,13 @@ module _ (text : List ℕ) (tokens : List TokenView) (are_tokens : AreLenientTok
   ends_some section from depth within =
       ends_within (suc (length tokens)) section from depth from (omega arith) within (omega arith) (λ other after before may. omega arith)
 
+  -- A text, with where it begins.
+  found_between : {from until : ℕ} → (between : List ℕ) × IsTextBetween text tokens from until between → (taken : Option SplitTextView) × IsComponentBetween text tokens from until taken
+  found_between b = (Some (record { text = b.0; start = Some (byte_len b.1.front) }), (b.1, refl))
+
   -- The text between a position and the end of its section.
-  takes_some : (section : Section) (from depth : ℕ) (ends : Ends section from depth) → (taken : Option (List ℕ)) × IsComponentBetween text tokens from ends.0 taken
-  takes_some section from depth ends = let b = text_between text tokens from ends.0 are_tokens ends.1.after ends.1.within in (Some b.0, b.1)
+  takes_some : (section : Section) (from depth : ℕ) (ends : Ends section from depth) → (taken : Option SplitTextView) × IsComponentBetween text tokens from ends.0 taken
+  takes_some section from depth ends = found_between (text_between text tokens from ends.0 are_tokens ends.1.after ends.1.within)
 
   -- ---- from the hash backwards
 
@@ -131,7 +136,7 @@ module _ (text : List ℕ) (tokens : List TokenView) (are_tokens : AreLenientTok
           (s.0, s.1, λ c. inl (sign, s.2 c))
       | inr sign ↦
           let h = hash_from (place + 1) (sign_goes_on (codes "#") tokens place closed sign) in
-          (Some [], h.0, λ c. inr (inl (sign, refl, h.1 (record c { search = Some [] }))))
+          (implied [], h.0, λ c. inr (inl (sign, refl, h.1 (record c { search = implied [] }))))
     ]
     | inr end ↦ (None, None, λ c. inr (inr (end, refl, refl)))
   ]
@@ -167,7 +172,7 @@ module _ (text : List ℕ) (tokens : List TokenView) (are_tokens : AreLenientTok
       (p.0, p.1, p.2, λ c. inl (slash, p.3 c))
   pathname_at special place within (Signs signs) =
       let s = search_at place within (or_left (is_search_prefix tokens place || is_hash_sign tokens place) (ends_at tokens place) signs) in
-      (Some (implied_pathname special), s.0, s.1, λ c. inr (inl (signs, refl, s.2 (record c { pathname = Some (implied_pathname special) }))))
+      (implied (implied_pathname special), s.0, s.1, λ c. inr (inl (signs, refl, s.2 (record c { pathname = implied (implied_pathname special) }))))
   pathname_at special place within (AtEnd end) = (None, None, None, λ c. inr (inr (end, refl, refl, refl)))
 
   port_at : (special : Bool) (place : ℕ) → place < length tokens → IsTrue (is_colon_sign tokens place) ⊎ ((¬ IsTrue (is_colon_sign tokens place)) × Follows place) → PortFor (PortAt text tokens special place)
@@ -181,7 +186,7 @@ module _ (text : List ℕ) (tokens : List TokenView) (are_tokens : AreLenientTok
       (t.0, p.0, p.1, p.2, λ c. inl (colon, (ends.0, ends.1, t.1, p.3 (record c { port = t.0 }))))
   port_at special place within (inr (no_colon, more)) =
       let p = pathname_at special place within more in
-      (Some [], p.0, p.1, p.2, λ c. inr (no_colon, refl, p.3 (record c { port = Some [] })))
+      (implied [], p.0, p.1, p.2, λ c. inr (no_colon, refl, p.3 (record c { port = implied [] })))
 
   -- Without a colon, a hostname is followed by what may follow a port.
   colon_or_more : (place : ℕ) → ¬ IsTrue (is_colon_sign tokens place) → (balanced : Bool) → IsTrue ((balanced && is_colon_sign tokens place) || is_slash_sign tokens place || is_search_prefix tokens place || is_hash_sign tokens place) → Follows place
@@ -222,14 +227,14 @@ module _ (text : List ℕ) (tokens : List TokenView) (are_tokens : AreLenientTok
       let le = username_before tokens from until ends.0 authority sign ends.1 in
       elim (cases_lt ends.0 until) [
         | inl less ↦
-            let b = text_between text tokens (ends.0 + 1) until are_tokens (omega arith) inside in
-            (t.0, Some b.0, λ c. (ends.0, ends.1, t.1, inr (less, b.1)))
+            let b = found_between (text_between text tokens (ends.0 + 1) until are_tokens (omega arith) inside) in
+            (t.0, b.0, λ c. (ends.0, ends.1, t.1, inr (less, b.1)))
         | inr ge ↦ (t.0, None, λ c. (ends.0, ends.1, t.1, inl (omega arith, refl)))
       ]
 
   -- Components after the protocol.
-  abbrev AuthorityFor : (Is : Values → Type 0) → Type 0
-  AuthorityFor Is = (c : Values) × ((protocol : Option (List ℕ)) → Is (record c { protocol = protocol }))
+  abbrev AuthorityFor : (Is : SplitTexts → Type 0) → Type 0
+  AuthorityFor Is = (c : SplitTexts) × ((protocol : Option SplitTextView) → Is (record c { protocol = protocol }))
 
   authority_from : (special : Bool) (from : ℕ) → from < length tokens → AuthorityFor (AuthorityFrom text tokens special from)
   authority_from special from within = by_sign (is_at_sign tokens ends.0) refl
@@ -241,22 +246,22 @@ module _ (text : List ℕ) (tokens : List TokenView) (are_tokens : AreLenientTok
       by_sign true sign =
           let u = userinfo_from from ends.0 ends.1 sign in
           let h = hostname_from special (ends.0 + 1) 0 (sign_goes_on (codes "@") tokens ends.0 closed sign) in
-          let c : Values = record nothing { username = u.0; password = u.1; hostname = h.0; port = h.1; pathname = h.2; search = h.3; hash = h.4 } in
+          let c : SplitTexts = record nothing { username = u.0; password = u.1; hostname = h.0; port = h.1; pathname = h.2; search = h.3; hash = h.4 } in
           (c, λ protocol. (ends.0, ends.1, inl (sign, u.2 (record c { protocol = protocol }), h.5 (record c { protocol = protocol }))))
       by_sign false other =
           let h = hostname_from special from (depth_before tokens from 0 ends.0) within in
-          let c : Values = record nothing { hostname = h.0; port = h.1; pathname = h.2; search = h.3; hash = h.4 } in
+          let c : SplitTexts = record nothing { hostname = h.0; port = h.1; pathname = h.2; search = h.3; hash = h.4 } in
           (c, λ protocol. (ends.0, ends.1, inr (both_ways (is_at_sign tokens ends.0) other, refl, refl, h.5 (record c { protocol = protocol }))))
 
   -- ---- the whole string
 
-  relative : (until : ℕ) → EndsAt Protocol tokens 0 0 until → IsTrue (ends_at tokens until) → (c : Values) × IsRelativeSplit text tokens c
+  relative : (until : ℕ) → EndsAt Protocol tokens 0 0 until → IsTrue (ends_at tokens until) → (c : SplitTexts) × IsRelativeSplit text tokens c
   relative until ends end = by_hash (is_hash_sign tokens 0) refl
     where
       depth : ℕ
       depth = depth_before tokens 0 0 until
 
-      by_search : (b : Bool) → is_search_prefix tokens 0 ≡ b → is_hash_sign tokens 0 ≡ false → (c : Values) × IsRelativeSplit text tokens c
+      by_search : (b : Bool) → is_search_prefix tokens 0 ≡ b → is_hash_sign tokens 0 ≡ false → (c : SplitTexts) × IsRelativeSplit text tokens c
       by_search true sign other =
           let next = closed.goes_on 0 some_token (search_not_end text tokens 0 are_tokens sign) in
           let s = search_from 1 (depth_before tokens 0 0 until) (omega arith) in (
@@ -287,7 +292,7 @@ module _ (text : List ℕ) (tokens : List TokenView) (are_tokens : AreLenientTok
             },
           )
 
-      by_hash : (b : Bool) → is_hash_sign tokens 0 ≡ b → (c : Values) × IsRelativeSplit text tokens c
+      by_hash : (b : Bool) → is_hash_sign tokens 0 ≡ b → (c : SplitTexts) × IsRelativeSplit text tokens c
       by_hash true sign =
           let next = sign_goes_on (codes "#") tokens 0 closed sign in
           let h = hash_from 1 (omega arith) in (
@@ -302,16 +307,16 @@ module _ (text : List ℕ) (tokens : List TokenView) (are_tokens : AreLenientTok
           )
       by_hash false other = by_search (is_search_prefix tokens 0) refl other
 
-  absolute : (special : Bool) (colon : ℕ) → EndsAt Protocol tokens 0 0 colon → IsTrue (is_colon_sign tokens colon) → (c : Values) × IsAbsoluteSplit text tokens special colon c
+  absolute : (special : Bool) (colon : ℕ) → EndsAt Protocol tokens 0 0 colon → IsTrue (is_colon_sign tokens colon) → (c : SplitTexts) × IsAbsoluteSplit text tokens special colon c
   absolute special colon ends sign = by_slashes (has_slashes tokens colon) refl
     where
-      t : (taken : Option (List ℕ)) × IsComponentBetween text tokens 0 colon taken
+      t : (taken : Option SplitTextView) × IsComponentBetween text tokens 0 colon taken
       t = takes_some Protocol 0 0 (colon, ends)
 
       next : colon + 1 < length tokens
       next = sign_goes_on (codes ":") tokens colon closed sign
 
-      by_special : (b : Bool) → special ≡ b → has_slashes tokens colon ≡ false → (c : Values) × IsAbsoluteSplit text tokens special colon c
+      by_special : (b : Bool) → special ≡ b → has_slashes tokens colon ≡ false → (c : SplitTexts) × IsAbsoluteSplit text tokens special colon c
       by_special true is_special no_slashes =
           let a = authority_from special (colon + 1) next in (
             record a.0 { protocol = t.0 },
@@ -324,7 +329,7 @@ module _ (text : List ℕ) (tokens : List TokenView) (are_tokens : AreLenientTok
           )
       by_special false not_special no_slashes =
           let p = pathname_from (colon + 1) 0 next in
-          let c : Values = record nothing { protocol = t.0; hostname = Some []; port = Some [] } in (
+          let c : SplitTexts = record nothing { protocol = t.0; hostname = implied []; port = implied [] } in (
             record c { pathname = p.0; search = p.1; hash = p.2 },
             record {
               is_colon_there = sign;
@@ -334,7 +339,7 @@ module _ (text : List ℕ) (tokens : List TokenView) (are_tokens : AreLenientTok
             },
           )
 
-      by_slashes : (b : Bool) → has_slashes tokens colon ≡ b → (c : Values) × IsAbsoluteSplit text tokens special colon c
+      by_slashes : (b : Bool) → has_slashes tokens colon ≡ b → (c : SplitTexts) × IsAbsoluteSplit text tokens special colon c
       by_slashes true slashes =
           let second = (and_parts (is_slash_sign tokens (colon + 1)) (is_slash_sign tokens (colon + 2)) slashes).1 in
           let more = sign_goes_on (codes "/") tokens (colon + 2) closed second in
@@ -345,12 +350,12 @@ module _ (text : List ℕ) (tokens : List TokenView) (are_tokens : AreLenientTok
       by_slashes false other = by_special special refl other
 
 -- A protocol, where there is one, is special as given.
-answered : (text : List ℕ) (tokens : List TokenView) (until : ℕ) (special : Bool) (taken : Option (List ℕ)) → IsComponentBetween text tokens 0 until taken → IsSomeAnd taken (λ protocol. special ≡ special)
+answered : (text : List ℕ) (tokens : List TokenView) (until : ℕ) (special : Bool) (taken : Option SplitTextView) → IsComponentBetween text tokens 0 until taken → IsSomeAnd taken (λ protocol. special ≡ special)
 answered text tokens until special None h = absurd h
 answered text tokens until special (Some protocol) h = refl
 
 -- A text has a split, whether its protocol is special or not.
-pub split_exists : (text : List ℕ) (special : Bool) → (components : Values) × SplitsAs text special components
+pub split_exists : (text : List ℕ) (special : Bool) → (components : SplitTexts) × SplitsAs text special components
 split_exists text special =
     let (tokens, are_tokens) = lenient_tokens_exist text in
     let (until, ends) = ends_some text tokens are_tokens Protocol 0 0 (some_token text tokens are_tokens) in

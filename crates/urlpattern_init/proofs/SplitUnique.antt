@@ -5,8 +5,8 @@ use Rattle.std.proofs.lemmas.List.{append_cancel_left}
 use Rattle.std.proofs.lemmas.Slice.Eq.{bytes_eq-Decides}
 use Rattle.std.specs.Prelude.{codes, IsSomeAnd, IsTrue, slice_get}
 use Rattle.std.specs.Str.{bytes_eq}
-use Rattle.urlpattern_init.specs.ConstructorString.{SplitsAs, SplitsInto}
-use Rattle.urlpattern_constructor.specs.Split.{AuthorityFrom, EndsAt, HasProtocol, HashAt, HashFrom, HostnameFrom, IsAbsoluteSplit, IsRelativeSplit, IsSplit, IsTextBetween, PathnameAt, PathnameFrom, PortAt, SearchAt, SearchFrom, IsComponentBetween, UserinfoFrom, passes_at, ends_at, has_slashes, is_at_sign, is_character, is_colon_sign, is_end, is_hash_sign, is_search_prefix, is_non_special_pattern_char, is_slash_sign, follows_modified, depth_before}
+use Rattle.urlpattern_init.specs.ConstructorString.{SplitsAs, SplitsIntoTexts}
+use Rattle.urlpattern_constructor.specs.Split.{AuthorityFrom, SplitTextView, SplitTexts, implied, EndsAt, HasProtocol, HashAt, HashFrom, HostnameFrom, IsAbsoluteSplit, IsRelativeSplit, IsSplit, IsTextBetween, PathnameAt, PathnameFrom, PortAt, SearchAt, SearchFrom, IsComponentBetween, UserinfoFrom, passes_at, ends_at, has_slashes, is_at_sign, is_character, is_colon_sign, is_end, is_hash_sign, is_search_prefix, is_non_special_pattern_char, is_slash_sign, follows_modified, depth_before}
 use Rattle.urlpattern_constructor.proofs.ClosedTokens.{IsClosed}
 use Rattle.urlpattern_constructor.specs.declared.sections.Section.{Section}
 use Rattle.urlpattern_constructor.specs.declared.sections.Section.TheVariants.{Authority, Hostname, Pathname, Port, Protocol, Search, Username}
@@ -17,7 +17,6 @@ use Rattle.urlpattern_meaning.proofs.TokensUnique.{lenient_tokens_one}
 use Rattle.urlpattern_syntax.proofs.TextLemmas.{byte_len-append, byte_len-nil, length-le-byte_len}
 use Rattle.urlpattern_syntax.specs.Text.{byte_len}
 use Rattle.urlpattern_syntax.specs.Tokens.{AreLenientTokens, IsCut, TokenView, end_of}
-use Rattle.urlpattern_components.specs.Eight.{Values}
 
 -- ---- texts
 
@@ -54,10 +53,14 @@ between_one text tokens from until between other h g =
     let same = front_one h.front g.front between other all m in
     append_cancel_left g.front between other (ap (λ x. x ++ between) (sym same) ∙ all)
 
-takes_one : (text : List ℕ) (tokens : List TokenView) (from until : ℕ) (taken other : Option (List ℕ)) → IsComponentBetween text tokens from until taken → IsComponentBetween text tokens from until other → taken ≡ other
+takes_one : (text : List ℕ) (tokens : List TokenView) (from until : ℕ) (taken other : Option SplitTextView) → IsComponentBetween text tokens from until taken → IsComponentBetween text tokens from until other → taken ≡ other
 takes_one text tokens from until None other h g = absurd h
 takes_one text tokens from until (Some one) None h g = absurd g
-takes_one text tokens from until (Some one) (Some other) h g = ap Some (between_one text tokens from until one other h g)
+takes_one text tokens from until (Some one) (Some other) h g =
+    let same_text = between_one text tokens from until one.text other.text h.0 g.0 in
+    let same_front = index_one (slice_get tokens from) (byte_len h.0.front) (byte_len g.0.front) h.0.begins g.0.begins in
+    let same_start : one.start ≡ other.start = h.1 ∙ ap Some same_front ∙ sym g.1 in
+    ap Some (λ i. record { text = same_text i; start = same_start i })
 
 -- ---- signs
 
@@ -117,25 +120,25 @@ search_not_end text tokens place h search end =
 
 -- ---- what two splits have in common
 
-abbrev SameSearch : Values → Values → Type 0
+abbrev SameSearch : SplitTexts → SplitTexts → Type 0
 SameSearch c d = (c.search ≡ d.search) × (c.hash ≡ d.hash)
 
-abbrev SamePathname : Values → Values → Type 0
+abbrev SamePathname : SplitTexts → SplitTexts → Type 0
 SamePathname c d = (c.pathname ≡ d.pathname) × SameSearch c d
 
-abbrev SamePort : Values → Values → Type 0
+abbrev SamePort : SplitTexts → SplitTexts → Type 0
 SamePort c d = (c.port ≡ d.port) × SamePathname c d
 
-abbrev SameHostname : Values → Values → Type 0
+abbrev SameHostname : SplitTexts → SplitTexts → Type 0
 SameHostname c d = (c.hostname ≡ d.hostname) × SamePort c d
 
-abbrev SameUserinfo : Values → Values → Type 0
+abbrev SameUserinfo : SplitTexts → SplitTexts → Type 0
 SameUserinfo c d = (c.username ≡ d.username) × (c.password ≡ d.password)
 
-abbrev SameAuthority : Values → Values → Type 0
+abbrev SameAuthority : SplitTexts → SplitTexts → Type 0
 SameAuthority c d = SameUserinfo c d × SameHostname c d
 
-same_components : (c d : Values) → c.protocol ≡ d.protocol → SameAuthority c d → c ≡ d
+same_components : (c d : SplitTexts) → c.protocol ≡ d.protocol → SameAuthority c d → c ≡ d
 same_components c d protocol same = λ i. record { protocol = protocol i; username = same.0.0 i; password = same.0.1 i; hostname = same.1.0 i; port = same.1.1.0 i; pathname = same.1.1.1.0 i; search = same.1.1.1.1.0 i; hash = same.1.1.1.1.1 i }
 
 module _ (text : List ℕ) (tokens : List TokenView) (are_tokens : AreLenientTokens text tokens) where
@@ -162,7 +165,7 @@ module _ (text : List ℕ) (tokens : List TokenView) (are_tokens : AreLenientTok
       let two = closed.last other (found_at (λ token. is_end token.kind) tokens other g).3 g in
       omega arith
 
-  module _ (c d : Values) where
+  module _ (c d : SplitTexts) where
     hash_from_one : (from : ℕ) → HashFrom text tokens from c → HashFrom text tokens from d → c.hash ≡ d.hash
     hash_from_one from h g =
         takes_one text tokens from g.0 c.hash d.hash (subst (λ until. IsComponentBetween text tokens from until c.hash) (end_one h.0 g.0 h.1 g.1) h.2) g.2
@@ -255,7 +258,7 @@ module _ (text : List ℕ) (tokens : List TokenView) (are_tokens : AreLenientTok
             takes_one text tokens (g.0 + 1) until c.password d.password (subst (λ place. IsComponentBetween text tokens (place + 1) until c.password) e a.1) b.1
 
     -- The two forms of an authority, by where its first section ends.
-    abbrev AuthorityAt : Values → (special : Bool) → (from until : ℕ) → Type 0
+    abbrev AuthorityAt : SplitTexts → (special : Bool) → (from until : ℕ) → Type 0
     AuthorityAt components special from until =
         (IsTrue (is_at_sign tokens until) × UserinfoFrom text tokens from until components × HostnameFrom text tokens special (until + 1) 0 components)
         ⊎ (¬ IsTrue (is_at_sign tokens until) × (components.username ≡ None) × (components.password ≡ None)
@@ -275,7 +278,7 @@ module _ (text : List ℕ) (tokens : List TokenView) (are_tokens : AreLenientTok
 
     -- ---- the whole string
 
-    abbrev RelativeFrom : Values → (until : ℕ) → Type 0
+    abbrev RelativeFrom : SplitTexts → (until : ℕ) → Type 0
     RelativeFrom components until =
         (IsTrue (is_hash_sign tokens 0) × (components.pathname ≡ None) × (components.search ≡ None) × HashFrom text tokens 1 components)
         ⊎ (IsTrue (is_search_prefix tokens 0) × (components.pathname ≡ None) × SearchFrom text tokens 1 (depth_before tokens 0 0 until) components)
@@ -301,12 +304,12 @@ module _ (text : List ℕ) (tokens : List TokenView) (are_tokens : AreLenientTok
         same_components c d (protocol ∙ sym no_protocol)
         ((username ∙ sym no_username, password ∙ sym no_password), (hostname ∙ sym no_hostname, (port ∙ sym no_port, pathname)))
 
-    abbrev AbsoluteFrom : Values → (special : Bool) → (colon : ℕ) → Type 0
+    abbrev AbsoluteFrom : SplitTexts → (special : Bool) → (colon : ℕ) → Type 0
     AbsoluteFrom components special colon =
         (IsTrue (has_slashes tokens colon) × AuthorityFrom text tokens special (colon + 3) components)
         ⊎ (IsTrue (not (has_slashes tokens colon) && special) × AuthorityFrom text tokens special (colon + 1) components)
         ⊎ (IsTrue (not (has_slashes tokens colon) && not special) × (components.username ≡ None) × (components.password ≡ None)
-        × (components.hostname ≡ Some []) × (components.port ≡ Some []) × PathnameFrom text tokens (colon + 1) 0 components)
+        × (components.hostname ≡ implied []) × (components.port ≡ implied []) × PathnameFrom text tokens (colon + 1) 0 components)
 
     no_slashes : (slashes other : Bool) → IsTrue slashes → IsTrue (not slashes && other) → ⊥
     no_slashes true other h g = false≢true g
@@ -350,14 +353,14 @@ module _ (text : List ℕ) (tokens : List TokenView) (are_tokens : AreLenientTok
 module _ (IsSpecial : List ℕ → Bool → Type 0) (text : List ℕ) where
   -- The protocol of the text is both special and not special.
   abbrev HasTwoAnswers : Type 0
-  HasTwoAnswers = HasProtocol text (λ protocol. IsSpecial protocol true × IsSpecial protocol false)
+  HasTwoAnswers = HasProtocol text (λ protocol. IsSpecial protocol.text true × IsSpecial protocol.text false)
 
-  two_answers : (tokens : List TokenView) (colon : ℕ) (found other : Option (List ℕ)) → AreLenientTokens text tokens → EndsAt Protocol tokens 0 0 colon → IsTrue (is_colon_sign tokens colon) → IsComponentBetween text tokens 0 colon found → found ≡ other → IsSomeAnd found (λ protocol. IsSpecial protocol true) → IsSomeAnd other (λ protocol. IsSpecial protocol false) → HasTwoAnswers
+  two_answers : (tokens : List TokenView) (colon : ℕ) (found other : Option SplitTextView) → AreLenientTokens text tokens → EndsAt Protocol tokens 0 0 colon → IsTrue (is_colon_sign tokens colon) → IsComponentBetween text tokens 0 colon found → found ≡ other → IsSomeAnd found (λ protocol. IsSpecial protocol.text true) → IsSomeAnd other (λ protocol. IsSpecial protocol.text false) → HasTwoAnswers
   two_answers tokens colon None other t ends sign takes e h g = absurd h
   two_answers tokens colon (Some protocol) other t ends sign takes e h g =
-      (tokens, colon, protocol, t, ends, sign, takes, (h, subst (λ o. IsSomeAnd o (λ p. IsSpecial p false)) (sym e) g))
+      (tokens, colon, protocol, t, ends, sign, takes, (h, subst (λ o. IsSomeAnd o (λ p. IsSpecial p.text false)) (sym e) g))
 
-  absolutes_one : (tokens : List TokenView) (c d : Values) (special other : Bool) (colon place : ℕ) → AreLenientTokens text tokens → IsAbsoluteSplit text tokens special colon c → IsAbsoluteSplit text tokens other place d → IsSomeAnd c.protocol (λ protocol. IsSpecial protocol special) → IsSomeAnd d.protocol (λ protocol. IsSpecial protocol other) → (c ≡ d) ⊎ HasTwoAnswers
+  absolutes_one : (tokens : List TokenView) (c d : SplitTexts) (special other : Bool) (colon place : ℕ) → AreLenientTokens text tokens → IsAbsoluteSplit text tokens special colon c → IsAbsoluteSplit text tokens other place d → IsSomeAnd c.protocol (λ protocol. IsSpecial protocol.text special) → IsSomeAnd d.protocol (λ protocol. IsSpecial protocol.text other) → (c ≡ d) ⊎ HasTwoAnswers
   absolutes_one tokens c d true true colon place t h g a b = inl (absolute_one text tokens t c d true colon place h g)
   absolutes_one tokens c d false false colon place t h g a b = inl (absolute_one text tokens t c d false colon place h g)
   absolutes_one tokens c d true false colon place t h g a b =
@@ -365,20 +368,20 @@ module _ (IsSpecial : List ℕ → Bool → Type 0) (text : List ℕ) where
   absolutes_one tokens c d false true colon place t h g a b =
       inr (two_answers tokens place d.protocol c.protocol t g.protocol_ends g.is_colon_there g.protocol (sym (protocol_one text tokens t c d false true colon place h g)) b a)
 
-  split_one : (tokens : List TokenView) (c d : Values) → AreLenientTokens text tokens → IsSplit IsSpecial text tokens c → IsSplit IsSpecial text tokens d → (c ≡ d) ⊎ HasTwoAnswers
+  split_one : (tokens : List TokenView) (c d : SplitTexts) → AreLenientTokens text tokens → IsSplit IsSpecial text tokens c → IsSplit IsSpecial text tokens d → (c ≡ d) ⊎ HasTwoAnswers
   split_one tokens c d t (inl h) (inl g) = inl (relative_one text tokens t c d h g)
   split_one tokens c d t (inl h) (inr g) = absurd (relative_or_absolute text tokens t c d g.1 g.0 h g.2)
   split_one tokens c d t (inr h) (inl g) = absurd (relative_or_absolute text tokens t d c h.1 h.0 g h.2)
   split_one tokens c d t (inr h) (inr g) = absolutes_one tokens c d h.1 g.1 h.0 g.0 t h.2 g.2 h.3 g.3
 
   -- Two splits of a text are equal, unless its protocol is both special and not special.
-  pub splits_one : (c d : Values) → SplitsInto IsSpecial text c → SplitsInto IsSpecial text d → (c ≡ d) ⊎ HasTwoAnswers
+  pub splits_one : (c d : SplitTexts) → SplitsIntoTexts IsSpecial text c → SplitsIntoTexts IsSpecial text d → (c ≡ d) ⊎ HasTwoAnswers
   splits_one c d h g =
       let e = lenient_tokens_one text h.0 g.0 h.1 g.1 in
       split_one g.0 c d g.1 (subst (λ tokens. IsSplit IsSpecial text tokens c) e h.2) g.2
 
 -- Two splits of a text are equal, once it is decided whether its protocol is special.
-pub splits_one_given : (text : List ℕ) (special : Bool) (c d : Values) → SplitsAs text special c → SplitsAs text special d → c ≡ d
+pub splits_one_given : (text : List ℕ) (special : Bool) (c d : SplitTexts) → SplitsAs text special c → SplitsAs text special d → c ≡ d
 splits_one_given text special c d h g = elim (splits_one (λ protocol answer. answer ≡ special) text c d h g) [
   | inl same ↦ same
   | inr two ↦ let both = two.7 in absurd (false≢true (both.1 ∙ sym both.0))

@@ -9,7 +9,7 @@ ghost use Rattle.urlpattern_init.specs.Inheritance.{texts_of_url};
 ghost use Rattle.urlpattern_init.specs.SpecialProtocol.{IsSpecialTo};
 ghost use Rattle.urlpattern_init.specs.UrlTexts.{EachIsLine, TextsOfUrlsAreLines};
 ghost use Rattle.urlpattern_meaning.specs.Laws.{AtMostOne};
-ghost use Rattle.urlpattern_components.specs.Eight.{Values};
+ghost use Rattle.urlpattern_constructor.specs.Split.{SplitTexts};
 
 use url::Url;
 use urlpattern_matcher::regexp::RegExp;
@@ -18,7 +18,7 @@ use urlpattern_matcher::regexp::RegExp;
 /// With engines of one type a string has at most one split, unless they permit both decisions.
 pub fn splits_are_one<R: RegExp>()
     ensures exist { (text : List ℕ) (special : Bool)
-        → (components : Values) × SplitsAs text special components }
+        → (texts : SplitTexts) × SplitsAs text special texts }
     ensures given { (text : List ℕ) (special : Bool) → AtMostOne (SplitsAs text special) }
     ensures computed { SplitsAreOneUnlessAmbiguous (IsSpecialTo R.RegExp) }
 {}

@@ -1,7 +1,7 @@
 -- Parts have a capture for each name.
 use Rattle.std.proofs.Common.{◌≡◌, ℕ, suc, List, [], ◌∷◌, ◌++◌, ap, length, ◌∙◌}
 use Rattle.urlpattern_laws.specs.LawsOfTexts.{CapturesAreAsNames}
-use Rattle.urlpattern_laws.specs.PartCaptures.{AreCapturesOf}
+use Rattle.urlpattern_expressions.specs.PartCaptures.{AreCapturesOf}
 use Rattle.urlpattern_meaning.proofs.MatchingLaws.{part_of}
 use Rattle.urlpattern_meaning.specs.PartMeaning.{Captures}
 use Rattle.urlpattern_syntax.specs.declared.parser.PartModifier.{PartModifier}

@@ -9,7 +9,7 @@ use Rattle.urlpattern_laws.proofs.Bare.{bare}
 use Rattle.urlpattern_laws.proofs.Denoting.{Texts, Denotes, good_cut}
 use Rattle.urlpattern_laws.proofs.Runs.{RunRounds, one_run, next_run, Runs, run_matches}
 use Rattle.urlpattern_laws.proofs.Takes.{matches_takes, nothing_in}
-use Rattle.urlpattern_laws.specs.Expressions.{is_groupless}
+use Rattle.urlpattern_expressions.specs.Expressions.{is_groupless}
 use Rattle.urlpattern_meaning.specs.PartMeaning.{Captures}
 use Rattle.urlpattern_meaning.specs.Ways.{Way}
 use Rattle.urlpattern_engine.proofs.GroupSlots.{Shown, shown-append, shown-capturing, shown-empty_way}

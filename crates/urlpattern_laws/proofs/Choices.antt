@@ -16,8 +16,8 @@ use Rattle.regex_hir.specs.Text.{char_at, has_bytes_at, is_some_and}
 use Rattle.regex_syntax.specs.Brackets.{Nested}
 use Rattle.urlpattern_laws.proofs.Bare.{bare}
 use Rattle.urlpattern_laws.proofs.Takes.{at_push, char_here, character_of}
-use Rattle.urlpattern_laws.specs.Expressions.{is_groupless, matches_characters}
-use Rattle.urlpattern_laws.specs.PartWays.{captured_whole, followed_by, pattern_ways}
+use Rattle.urlpattern_expressions.specs.Expressions.{is_groupless, matches_characters}
+use Rattle.urlpattern_expressions.specs.PartWays.{captured_whole, followed_by, pattern_ways}
 use Rattle.urlpattern_meaning.proofs.WayLists.{every-append, every-cond, every-continued, every-map, every-weaker}
 use Rattle.urlpattern_meaning.proofs.WaysSound.{IsSound, AreSound, nil_of_zero, taken-count, taken-sound}
 use Rattle.urlpattern_meaning.specs.Dialect.{AllowsGroups, IsQuantified, Quantifier, Once, Optional, ZeroOrMore, OneOrMore, LazyOneOrMore}

@@ -25,8 +25,8 @@ use Rattle.urlpattern_laws.proofs.ItemsOf.{items_go_on}
 use Rattle.urlpattern_laws.proofs.Catching.{groupless_bare}
 use Rattle.urlpattern_laws.proofs.Senses.{Sense, Fulfils, fulfils_quiet, quiet}
 use Rattle.urlpattern_laws.proofs.Takes.{Takes, matches_takes, takes_matches}
-use Rattle.urlpattern_laws.specs.Expressions.{ExpressionMatches, MatchesWhole, captures_nothing, is_groupless, is_self_contained, matches_characters}
-use Rattle.urlpattern_laws.specs.PartWays.{expression_ways, pattern_ways, ways_of_reading}
+use Rattle.urlpattern_expressions.specs.Expressions.{ExpressionMatches, MatchesWhole, captures_nothing, is_groupless, is_self_contained, matches_characters}
+use Rattle.urlpattern_expressions.specs.PartWays.{expression_ways, pattern_ways, ways_of_reading}
 use Rattle.urlpattern_engine.proofs.AtomsRead.{full}
 use Rattle.urlpattern_engine.proofs.ItemsRead.{Free, at_text}
 

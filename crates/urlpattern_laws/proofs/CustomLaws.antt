@@ -16,18 +16,20 @@ use Rattle.urlpattern_engine.proofs.ItemsRead.{at_text}
 use Rattle.urlpattern_laws.proofs.FirstOfTrees.{first_of_tree}
 use Rattle.urlpattern_laws.proofs.MatchersCapture.{matchers_capture}
 use Rattle.urlpattern_laws.proofs.MatchersFirst.{matchers_first}
-use Rattle.urlpattern_laws.proofs.MatchersTaken.{matchers_taken, shorter_room}
+use Rattle.urlpattern_laws.proofs.MatchersTaken.{matchers_taken}
 use Rattle.urlpattern_laws.proofs.ValuesTaken.{first_captured, pattern_values_capture, pattern_values_first, pattern_values_taken, regex_values_capture, regex_values_first, regex_values_taken}
-use Rattle.urlpattern_laws.specs.Expressions.{ExpressionMatches, MatchesWhole}
-use Rattle.urlpattern_laws.specs.LawsOfTexts.{ComponentsCapture, HasNumbers, IsCapturedByParts, HasMatcherPremises, MatchersReturnIfMatched, MatchersCapture, ReadsInGroups, RegexpCondition, AcceptedAlone}
+use Rattle.urlpattern_expressions.specs.Expressions.{ExpressionMatches, MatchesWhole}
+use Rattle.urlpattern_laws.specs.LawsOfTexts.{ComponentsCapture, HasMatcherPremises, MatchersReturnIfMatched, MatchersCapture, ReadsInGroups}
+use Rattle.urlpattern_pattern.specs.ByText.{AcceptedAlone}
 use Rattle.urlpattern_laws.specs.LawsOfWays.{ComponentsReturnFirstOfParts, MatchersReturnFirstOfParts}
-use Rattle.urlpattern_laws.specs.MatchedPartTexts.{AllCaptureNothing, AllStandAlone}
-use Rattle.urlpattern_laws.specs.PartWays.{parts_first_way}
+use Rattle.urlpattern_expressions.specs.PartCaptures.{IsCapturedByParts}
+use Rattle.urlpattern_expressions.specs.MatchedPartTexts.{AllCaptureNothing, AllStandAlone}
+use Rattle.urlpattern_expressions.specs.PartWays.{parts_first_way}
 use Rattle.urlpattern_engine.specs.PatternRegexps.{pattern_engine}
 use Rattle.urlpattern_meaning.specs.FirstResults.{AcceptedText}
 use Rattle.urlpattern_meaning.specs.Matching.{EachResultIs, InnerView, Literal, MatcherView, RegExp, SingleCapture}
 use Rattle.urlpattern_meaning.specs.PartMeaning.{Captures}
-use Rattle.urlpattern_syntax.specs.{Options.OptionsView, Parts.PartView, RegexpText.regexp_text}
+use Rattle.urlpattern_syntax.specs.{Options.OptionsView, Parts.PartView}
 
 pub reads_in_groups : ReadsInGroups
 unfolding join_parts
@@ -57,23 +59,23 @@ took_any (SingleCapture filter allow_empty) P p took = tt
 took_any (RegExp (Ok value)) P p took = p
 took_any (RegExp (Err error)) P p took = took
 
-pub regex_matchers_taken : MatchersReturnIfMatched regex_engine (λ regexp. ⊤) (λ options flags. AcceptedText (λ value. ⊤))
-regex_matchers_taken = matchers_taken regex_engine (λ flags. ⊤) (λ regexp. ⊤) _ regex_values_taken (λ options parts middle le fits. tt) (λ options flags inner kept took. took)
+pub regex_matchers_taken : MatchersReturnIfMatched regex_engine (λ options flags. AcceptedText (λ value. ⊤))
+regex_matchers_taken = matchers_taken regex_engine (λ flags. ⊤) _ regex_values_taken (λ options flags inner kept took. took)
 
-pub pattern_matchers_taken : MatchersReturnIfMatched pattern_engine HasNumbers AcceptedAlone
-pattern_matchers_taken = matchers_taken pattern_engine KeepsCase HasNumbers _ pattern_values_taken shorter_room (λ options flags inner kept took. took_any inner (KeepsCase flags) (took.0 ∙ kept) took.1)
+pub pattern_matchers_taken : MatchersReturnIfMatched pattern_engine AcceptedAlone
+pattern_matchers_taken = matchers_taken pattern_engine KeepsCase _ pattern_values_taken (λ options flags inner kept took. took_any inner (KeepsCase flags) (took.0 ∙ kept) took.1)
 
-pub regex_matchers_capture : MatchersCapture regex_engine (λ regexp. ⊤) (λ options flags. AcceptedText (λ value. ⊤))
-regex_matchers_capture = matchers_capture regex_engine (λ flags. ⊤) (λ regexp. ⊤) _ regex_values_capture (λ options parts middle le fits. tt) (λ options flags inner kept took. took)
+pub regex_matchers_capture : MatchersCapture regex_engine (λ options flags. AcceptedText (λ value. ⊤))
+regex_matchers_capture = matchers_capture regex_engine (λ flags. ⊤) _ regex_values_capture (λ options flags inner kept took. took)
 
-pub pattern_matchers_capture : MatchersCapture pattern_engine HasNumbers AcceptedAlone
-pattern_matchers_capture = matchers_capture pattern_engine KeepsCase HasNumbers _ pattern_values_capture shorter_room (λ options flags inner kept took. took_any inner (KeepsCase flags) (took.0 ∙ kept) took.1)
+pub pattern_matchers_capture : MatchersCapture pattern_engine AcceptedAlone
+pattern_matchers_capture = matchers_capture pattern_engine KeepsCase _ pattern_values_capture (λ options flags inner kept took. took_any inner (KeepsCase flags) (took.0 ∙ kept) took.1)
 
-pub regex_matchers_first : MatchersReturnFirstOfParts regex_engine (λ regexp. ⊤) (λ options flags. AcceptedText (λ value. ⊤))
-regex_matchers_first = matchers_first regex_engine (λ flags. ⊤) (λ regexp. ⊤) _ regex_values_first (λ options parts middle le fits. tt) (λ options flags inner kept took. took)
+pub regex_matchers_first : MatchersReturnFirstOfParts regex_engine (λ options flags. AcceptedText (λ value. ⊤))
+regex_matchers_first = matchers_first regex_engine (λ flags. ⊤) _ regex_values_first (λ options flags inner kept took. took)
 
-pub pattern_matchers_first : MatchersReturnFirstOfParts pattern_engine HasNumbers AcceptedAlone
-pattern_matchers_first = matchers_first pattern_engine KeepsCase HasNumbers _ pattern_values_first shorter_room (λ options flags inner kept took. took_any inner (KeepsCase flags) (took.0 ∙ kept) took.1)
+pub pattern_matchers_first : MatchersReturnFirstOfParts pattern_engine AcceptedAlone
+pattern_matchers_first = matchers_first pattern_engine KeepsCase _ pattern_values_first (λ options flags inner kept took. took_any inner (KeepsCase flags) (took.0 ∙ kept) took.1)
 
 -- ---- components
 
@@ -81,22 +83,22 @@ abbrev AreFirst : OptionsView → List PartView → List ℕ → Option Captures
 AreFirst options parts text result = result ≡ parts_first_way options parts text
 
 -- A law on the results of each matcher of an engine holds of the matchers of components.
-components_answer : {E : Type 0} (engine : Engine E) (Fits : RegexpCondition) (Accepted : Acceptance E) (Are : OptionsView → List PartView → List ℕ → Option Captures → Type 0)
+components_answer : {E : Type 0} (engine : Engine E) (Accepted : Acceptance E) (Are : OptionsView → List PartView → List ℕ → Option Captures → Type 0)
     → ((options : OptionsView) (inner : InnerView E) → AcceptedText (λ value. ⊤) inner → Accepted options (engine_flags options) inner)
-    → ((options : OptionsView) (flags : List ℕ) (parts : List PartView) (matcher : MatcherView E) → HasMatcherPremises engine Fits Accepted options flags parts matcher → AllCaptureNothing parts → EachResultIs engine.answer matcher (Are options parts))
-    → (options : OptionsView) (parts : List PartView) (component : ComponentView E) → IsComponentOf engine options parts component → AllStandAlone parts → AllCaptureNothing parts → Fits (regexp_text options parts)
+    → ((options : OptionsView) (flags : List ℕ) (parts : List PartView) (matcher : MatcherView E) → HasMatcherPremises engine Accepted options flags parts matcher → AllCaptureNothing parts → EachResultIs engine.answer matcher (Are options parts))
+    → (options : OptionsView) (parts : List PartView) (component : ComponentView E) → IsComponentOf engine options parts component → AllStandAlone parts → AllCaptureNothing parts
     → options.ignore_case ≡ false → AcceptedText (λ value. ⊤) component.matcher.inner → EachResultIs engine.answer component.matcher (Are options parts)
-components_answer engine Fits Accepted Are given answer options parts component is alone silent fits kept took =
-    answer options (engine_flags options) parts component.matcher (record { is_made = is.has_matcher; alone = alone; fits = fits; case_kept = kept; took = given options component.matcher.inner took }) silent
+components_answer engine Accepted Are given answer options parts component is alone silent kept took =
+    answer options (engine_flags options) parts component.matcher (record { is_made = is.has_matcher; alone = alone; case_kept = kept; took = given options component.matcher.inner took }) silent
 
-pub regex_components_capture : ComponentsCapture regex_engine (λ regexp. ⊤)
-regex_components_capture = components_answer regex_engine (λ regexp. ⊤) (λ options flags. AcceptedText (λ value. ⊤)) IsCapturedByParts (λ options inner took. took) regex_matchers_capture
+pub regex_components_capture : ComponentsCapture regex_engine
+regex_components_capture = components_answer regex_engine (λ options flags. AcceptedText (λ value. ⊤)) IsCapturedByParts (λ options inner took. took) regex_matchers_capture
 
-pub pattern_components_capture : ComponentsCapture pattern_engine HasNumbers
-pattern_components_capture = components_answer pattern_engine HasNumbers AcceptedAlone IsCapturedByParts (λ options inner took. (flags_agree options, took)) pattern_matchers_capture
+pub pattern_components_capture : ComponentsCapture pattern_engine
+pattern_components_capture = components_answer pattern_engine AcceptedAlone IsCapturedByParts (λ options inner took. (flags_agree options, took)) pattern_matchers_capture
 
-pub regex_components_first : ComponentsReturnFirstOfParts regex_engine (λ regexp. ⊤)
-regex_components_first = components_answer regex_engine (λ regexp. ⊤) (λ options flags. AcceptedText (λ value. ⊤)) AreFirst (λ options inner took. took) regex_matchers_first
+pub regex_components_first : ComponentsReturnFirstOfParts regex_engine
+regex_components_first = components_answer regex_engine (λ options flags. AcceptedText (λ value. ⊤)) AreFirst (λ options inner took. took) regex_matchers_first
 
-pub pattern_components_first : ComponentsReturnFirstOfParts pattern_engine HasNumbers
-pattern_components_first = components_answer pattern_engine HasNumbers AcceptedAlone AreFirst (λ options inner took. (flags_agree options, took)) pattern_matchers_first
+pub pattern_components_first : ComponentsReturnFirstOfParts pattern_engine
+pattern_components_first = components_answer pattern_engine AcceptedAlone AreFirst (λ options inner took. (flags_agree options, took)) pattern_matchers_first

@@ -6,7 +6,7 @@ use Rattle.regex_hir.specs.Re.{Re, empty, byte_in, cat, alt, group, plus}
 use Rattle.regex_syntax.specs.Brackets.{Nested}
 use Rattle.urlpattern_laws.proofs.Bare.{bare}
 use Rattle.urlpattern_laws.proofs.Takes.{Takes}
-use Rattle.urlpattern_laws.specs.Expressions.{matches_characters}
+use Rattle.urlpattern_expressions.specs.Expressions.{matches_characters}
 use Rattle.urlpattern_meaning.specs.Dialect.{Quantifier, Once, Optional, ZeroOrMore, OneOrMore, LazyOneOrMore}
 use Rattle.urlpattern_engine.proofs.ItemsRead.{repeated_as}
 use Rattle.urlpattern_engine.proofs.TreesRead.{scalars_parts}

@@ -1,19 +1,34 @@
--- Patterns over engines that return first ways match what their parts mean.
+-- Patterns over engines that return first ways match by their texts, and what their parts mean.
+use Rattle.std.specs.Prelude.{false}
 use Rattle.urlpattern_matcher.proofs.FirstMatchers.{flags_agree}
 use Rattle.urlpattern_matcher.specs.Regexes.{regex_engine}
 use Rattle.urlpattern_matcher.specs.declared.regexp.RegExp.{Ghosts as Engine}
 use Rattle.urlpattern_engine.proofs.EngineLaws as own
 use Rattle.urlpattern_engine.specs.PatternRegexps.{pattern_engine}
-use Rattle.urlpattern_pattern.specs.ByText.{MakesFirstWays}
+use Rattle.urlpattern_pattern.specs.ByText.{AcceptedAlone, MakesFirstWays}
 use Rattle.urlpattern_laws.proofs.MatchingLemmas.{own_parts_mean}
+use Rattle.urlpattern_compile.specs.Compiled.{settings_of}
+use Rattle.urlpattern_matcher.specs.Components.{IsEngineOf, engine_flags}
+use Rattle.urlpattern_pattern.proofs.ByTextLemmas.{component_by, pattern_by}
+use Rattle.urlpattern_pattern.specs.ByTextLaws.{PatternsReturnByText}
+use Rattle.urlpattern_laws.proofs.SimpleMatchers.{generated_first, matcher_of_middle}
 use Rattle.urlpattern_laws.specs.PartReadings.{OwnPartsMean}
 use Rattle.urlpattern_engine.proofs.RegexMatchers as regex
 
 pub parts_mean_by_first_ways : {E : Type 0} (engine : Engine E) → MakesFirstWays engine → OwnPartsMean engine
-parts_mean_by_first_ways engine firsts = own_parts_mean engine _ firsts (λ options inner took. flags_agree options)
+parts_mean_by_first_ways engine firsts = own_parts_mean engine AcceptedAlone (generated_first engine firsts) (λ options inner took. (flags_agree options, took))
 
 pub pattern_parts_mean : OwnPartsMean pattern_engine
-pattern_parts_mean = parts_mean_by_first_ways pattern_engine own.taken_first
+pattern_parts_mean = own_parts_mean pattern_engine _ own.taken_first (λ options inner took. flags_agree options)
 
 pub regex_parts_mean : OwnPartsMean regex_engine
 regex_parts_mean = own_parts_mean regex_engine _ regex.taken_first (λ options inner took. took)
+
+-- The values of the engine that are called return first ways.
+pub pattern_by_engines : {E : Type 0} (engine : Engine E) → PatternsReturnByText engine
+pattern_by_engines engine init asked values pattern are_values compiled firsts = pattern_by engine init asked values pattern are_values compiled (λ component has.
+    let settings = settings_of asked values compiled.hierarchical component in
+    component_by engine settings (pattern component) (compiled.are_compiled component) has
+    (λ parts reads is_component have.
+    matcher_of_middle engine.answer (IsEngineOf engine false (engine_flags settings.options)) settings.options parts (pattern component).matcher is_component.has_matcher have.case_kept
+    (firsts component parts has reads)))

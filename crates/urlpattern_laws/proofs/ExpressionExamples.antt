@@ -9,7 +9,7 @@ use Rattle.regex_syntax.specs.Grammar.{read, branches, items, item, atom, char_m
 use Rattle.regex_syntax.specs.Reading.{first, skip, take_up_to, take_run, decimal}
 use Rattle.regex_syntax.specs.Sets.{verbatim, one_of, negate_if, case_fold, is_member}
 use Rattle.regex_syntax.specs.Escapes.{escape, one_letter, boundary}
-use Rattle.urlpattern_laws.specs.Expressions.{ExpressionMatches, captures_nothing, is_self_contained}
+use Rattle.urlpattern_expressions.specs.Expressions.{ExpressionMatches, captures_nothing, is_self_contained}
 
 choices : is_self_contained (codes "en|fr") ≡ true
 unfolding is_self_contained read branches items item atom char_meaning join_parts with_repetitions repetitions first skip verbatim names_below char_at has_bytes_at chars encode

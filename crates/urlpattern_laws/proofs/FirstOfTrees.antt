@@ -5,7 +5,7 @@ use Rattle.std.proofs.lemmas.List.Elements.{All-head, All-tail}
 use Rattle.std.specs.Prelude.{All}
 use Rattle.urlpattern_laws.proofs.StrippedWays.{continued_idle, exactly_put}
 use Rattle.urlpattern_laws.specs.LawsOfWays.{FirstWaysAreOfTrees}
-use Rattle.urlpattern_laws.specs.PartWays.{affixed_ways, bare_ways, between_ways, captured_whole, copies_ways, exactly, fixed_ways, followed_by, part_ways_by, parts_first_way, parts_ways, piece_ways, several_ways}
+use Rattle.urlpattern_expressions.specs.PartWays.{affixed_ways, bare_ways, between_ways, captured_whole, copies_ways, exactly, fixed_ways, followed_by, part_ways_by, parts_first_way, parts_ways, piece_ways, several_ways}
 use Rattle.urlpattern_meaning.proofs.DialectUnique.{trees_are_one}
 use Rattle.urlpattern_meaning.proofs.OneMeaning.{is_tree_of}
 use Rattle.urlpattern_meaning.proofs.PartTrees.{IsNotCustom, alone, between, character, copies, fixed_tree, further, group_atom, group_quantifier, part_tree_by, put, segment_atom, tree_of, wildcard_items}

@@ -7,7 +7,7 @@ use Rattle.regex_hir.specs.Text.{char_at, has_bytes_at}
 use Rattle.regex_syntax.specs.Grammar.{read, branches, items, item, atom, char_meaning, join_parts, with_repetitions, repetitions, bounds, names_below}
 use Rattle.regex_syntax.specs.Reading.{first, skip}
 use Rattle.regex_syntax.specs.Sets.{verbatim}
-use Rattle.urlpattern_laws.specs.PartWays.{parts_first_way}
+use Rattle.urlpattern_expressions.specs.PartWays.{parts_first_way}
 use Rattle.urlpattern_meaning.proofs.MatchingLaws.{part_of}
 use Rattle.urlpattern_syntax.specs.Options.{default_options, pathname_options}
 use Rattle.urlpattern_syntax.specs.Parts.{PartView}

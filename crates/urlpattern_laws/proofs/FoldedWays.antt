@@ -2,7 +2,7 @@
 use Rattle.std.proofs.Common.{◌≡◌, ◌≢◌, ℕ, ◌+◌, Bool, true, false, List, [], ◌∷◌, ◌++◌, length, take, drop, ap, inl, inr, refl, subst, sym, ◌∙◌, append_assoc, arith, cond}
 use Rattle.std.proofs.lemmas.List.{append-nil, length-append, length-drop, length-take-le, take-append-drop, take_at}
 use Rattle.std.proofs.lemmas.List.Elements.{All-cons, All-map, All-nil}
-use Rattle.std.specs.Prelude.{⊤, ◌-◌, All, codes, IfSome, Option, Some, None, Result, Ok, Err, IsTrue, option_map, option_to_list}
+use Rattle.std.specs.Prelude.{⊤, All, codes, IfSome, Option, Some, None, Result, Ok, Err, IsTrue, option_map, option_to_list}
 use Rattle.std.specs.Str.{all_scalars}
 use Rattle.urlpattern_matcher.specs.Components.{IsEngineOf, engine_flags, ignores_case}
 use Rattle.urlpattern_matcher.specs.FirstWays.{MatchersAcceptGenerated, ValuesReturnByFlags}

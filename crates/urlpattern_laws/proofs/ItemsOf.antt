@@ -12,11 +12,11 @@ use Rattle.regex_syntax.specs.Reading.{Text, first, skip, is_at}
 use Rattle.regex_syntax.specs.Verdict.{default_config}
 use Rattle.urlpattern_laws.proofs.Denoting.{Texts, Denotes, Joined, Nothing, Quantified, AreSameTexts, joined_same}
 use Rattle.urlpattern_laws.proofs.Takes.{Takes}
-use Rattle.urlpattern_laws.specs.Expressions.{is_groupless, matches_characters}
+use Rattle.urlpattern_expressions.specs.Expressions.{is_groupless, matches_characters}
 use Rattle.urlpattern_laws.proofs.Catching.{Catches, Then, catches_append}
 use Rattle.urlpattern_laws.proofs.Choices.{Cuts, Tries, cuts_followed, tries_append}
 use Rattle.urlpattern_laws.proofs.Senses.{Sense, SameSense, Fulfils, fulfils_empty, fulfils_last, fulfils_perhaps, fulfils_quantified, fulfils_quiet, fulfils_same, joined, no_text, perhaps, quiet}
-use Rattle.urlpattern_laws.specs.PartWays.{followed_by}
+use Rattle.urlpattern_expressions.specs.PartWays.{followed_by}
 use Rattle.urlpattern_meaning.specs.Ways.{WaysByText, quantified_ways}
 use Rattle.urlpattern_meaning.specs.Dialect.{Quantifier, Once, Optional, quantifier_text}
 use Rattle.urlpattern_engine.proofs.ItemsRead.{Free, OpensItem, at_text, quantified, repeated_as}

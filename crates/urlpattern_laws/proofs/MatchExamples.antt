@@ -10,7 +10,8 @@ use Rattle.urlpattern_components.specs.declared.eight.ComponentName.TheVariants.
 use Rattle.urlpattern_init.specs.declared.init.UrlPatternMatchInput.TheVariants.{Url}
 use Rattle.urlpattern_init.specs.Inheritance.{texts_of_url}
 use Rattle.urlpattern_pattern.specs.Match.{CallsAnEngine, HasMatch, HasNoMatch, IsMatchOf}
-use Rattle.urlpattern_matches.specs.ResultViews.{group_of}
+use Rattle.urlpattern_laws.specs.FoldedPatterns.{IsSameByCase, IsSameInLowerCase}
+use Rattle.urlpattern_matches.specs.ResultViews.{ResultView, group_of}
 use Rattle.urlpattern_pattern.specs.Mismatch.{FindsMismatch}
 use Rattle.urlpattern_pattern.specs.Patterns.{PatternView}
 use Rattle.urlpattern_matcher.specs.Components.{ComponentView}
@@ -40,6 +41,10 @@ captures-left_over = refl
 names-left_over : group_of (codes "x" ∷ codes "y" ∷ []) (one ∷ []) (codes "y") ≡ None
 names-left_over = refl
 
+-- Of `/:a((?P<x>x)?y)/:b` and `/xy/1`, the group of the expression has the name of the next part.
+group_of_its_own-shifts_names : group_of (codes "a" ∷ codes "b" ∷ []) (Some (codes "xy") ∷ Some (codes "x") ∷ one ∷ []) (codes "b") ≡ Some (Some (codes "x"))
+group_of_its_own-shifts_names = refl
+
 -- Of two equal names, the one without a capture does not count.
 equal_name-left_over : group_of (codes "x" ∷ codes "x" ∷ []) (one ∷ []) (codes "x") ≡ Some one
 equal_name-left_over = refl
@@ -57,6 +62,18 @@ captured_and_part-determine None None flat part = refl
 captured_and_part-determine None (Some other) flat part = absurd cc
 captured_and_part-determine (Some group) None flat part = absurd cc
 captured_and_part-determine (Some group) (Some other) flat part = ap Some flat
+
+-- ---- results where case is ignored
+
+-- A result for the text `aA`, in which each group captured `text`.
+abbrev each_captured : (text : List ℕ) → ResultView
+each_captured text = record { input = codes "aA"; group = λ name. Some (Some text) }
+
+captures-equal_in_lower_case : IsSameInLowerCase (each_captured (codes "a")) (each_captured (codes "A"))
+captures-equal_in_lower_case = (refl, λ name. refl)
+
+case_kept-captures_equal : IsSameByCase false (each_captured (codes "a")) (each_captured (codes "a"))
+case_kept-captures_equal = (refl, λ name. refl)
 
 -- ---- matches
 

@@ -2,30 +2,37 @@
 use Rattle.std.proofs.Common.{◌≡◌, ◌∙◌, ℕ, Bool, false, List, [], ◌∷◌, ap, bytes_eq, cond, length, map, refl, subst, sym, true, zip, Option, Some}
 use Rattle.std.proofs.Math.Path.{fun_ext}
 use Rattle.std.proofs.lemmas.Map.Made.{AllPairs-from_IsDistinct, IsDistinct-from_AllPairs}
+use Rattle.std.proofs.lemmas.Option.{same_Some}
 use Rattle.std.proofs.lemmas.Slice.Eq.{bytes_eq-Decides}
 use Rattle.std.specs.List.{AllByRecursion, IsDistinct}
 use Rattle.std.specs.Map.{keys_of, lookup}
 use Rattle.std.specs.Option.{option_flatten}
-use Rattle.std.specs.Prelude.{String, option_map}
+use Rattle.std.specs.Prelude.{⊤, String, option_map}
 use Rattle.std.specs.String.{string_eq}
 use Rattle.std.specs.declared.alloc.Global.{Global}
+use Rattle.urlpattern_matcher.specs.Components.{ComponentView, engine_flags}
+use Rattle.urlpattern_matcher.specs.FirstWays.{Acceptance, EachReturnsFirst}
 use Rattle.urlpattern_matcher.specs.declared.regexp.RegExp.{Ghosts as Engine}
+use Rattle.urlpattern_compare.specs.declared.pattern_parts.PatternParts.{PatternParts}
 use Rattle.urlpattern_components.specs.declared.eight.ComponentName.{ComponentName}
 use Rattle.urlpattern_components.specs.Eight.{at}
-use Rattle.urlpattern_generate.specs.WriteSettings.{text_given}
+use Rattle.urlpattern_generate.specs.WriteSettings.{WriteSettings, text_given}
 use Rattle.urlpattern_laws.proofs.GivenGroups.{Distinct, Groups, captured_again, first_found, found_reversed, given_first, zip_distinct}
 use Rattle.urlpattern_laws.proofs.LinkedTexts.{links_of_captures}
-use Rattle.urlpattern_laws.specs.MatchLinks.{GroupsOfCapturesAreGiven, GroupsOfMatchesDiffer, GroupsOfResultsAreGiven, LinksOfMatchesAreTheTexts, NamesDiffer}
+use Rattle.urlpattern_laws.specs.MatchLinks.{GroupsOfCapturesAreGiven, GroupsOfMatchesDiffer, GroupsOfResultsAreGiven, IsWritableFromMatch, IsWritableFromParts, LinksOfCompiledMatchesAreTheTexts, LinksOfMatchesAreTheTexts, NamesDiffer}
 use Rattle.urlpattern_matches.proofs.MatchGroupLemmas.{text-eq}
 use Rattle.urlpattern_matches.specs.BorrowedMatches.{groups_view, listed_entries, listed_groups}
 use Rattle.urlpattern_matches.specs.ResultViews.{ResultView, group_of, results_of}
 use Rattle.urlpattern_meaning.proofs.CaptureCount.{captures_counted}
 use Rattle.urlpattern_meaning.proofs.NameLaws.{names_distinct}
-use Rattle.urlpattern_meaning.specs.PartMeaning.{Captures}
-use Rattle.urlpattern_compile.specs.Compiled.{canonical_encoding, settings_of}
+use Rattle.urlpattern_meaning.specs.{FirstResults.AcceptedText, Matching.InnerView, PartMeaning.Captures, PartMeaning.PartsMean}
+use Rattle.urlpattern_compile.specs.Compiled.{ParseSettings, canonical_encoding, settings_of}
 use Rattle.urlpattern_pattern.specs.ComponentTexts.{settings_in, parts_in}
+use Rattle.urlpattern_pattern.specs.KeptParts.{AreReadBySettings}
 use Rattle.urlpattern_pattern.specs.Patterns.{pattern_view}
-use Rattle.urlpattern_syntax.specs.{RegexpText.group_names, Text.text_of}
+use Rattle.urlpattern_pattern.specs.UrlPatterns.{IsMadeOfParts}
+use Rattle.urlpattern_syntax.specs.{ComponentParts.kept_options, ComponentParts.kept_parts, Options.OptionsView, RegexpText.group_names, Text.text_of}
+use Rattle.urlpattern_syntax.specs.declared.parts.ComponentParts.{ComponentParts}
 
 -- ---- the texts given for groups
 
@@ -106,3 +113,37 @@ links_of_matches {E} answer pattern groups url texts result link found are back 
           (captures_counted settings.options own (at texts component) captures means) it.names_differ it.has_names (found.are_results component).has_groups (are component);
       are_canonical = it.are_canonical;
     })
+
+-- ---- compiled patterns
+
+-- A component that is made of parts of known meaning is written from its match.
+writable : {E : Type 0} (engine : Engine E) (Accepted : Acceptance E) → EachReturnsFirst engine Accepted
+    → ((options : OptionsView) (inner : InnerView E) → AcceptedText (λ value. ⊤) inner → Accepted options (engine_flags options) inner)
+    → (reading : ParseSettings) (kept : ComponentParts) (compiled : ComponentView E) (settings : WriteSettings) (text : List ℕ) (captures : Captures)
+    → AreReadBySettings reading kept → IsMadeOfParts engine kept compiled → settings.options ≡ kept_options kept → IsWritableFromParts kept settings.canonical text captures
+    → IsWritableFromMatch engine.answer compiled settings (kept_parts kept) text captures
+writable engine Accepted firsts taken reading kept compiled settings text captures read made same it =
+    let options = kept_options kept in
+    let own = kept_parts kept in
+    let ways = firsts options (engine_flags options) own compiled.matcher (record {
+      is_made = made.is_component.has_matcher;
+      generated = it.known.generated;
+      case_kept = it.known.case_kept;
+      took = taken options compiled.matcher.inner made.has_engine.of_matcher;
+    }) in
+    record {
+      plain = it.plain;
+      means = λ answers. subst (λ (o : OptionsView). PartsMean o own text captures) (sym same) (ways text (Some captures) it.line.no_line_feed it.line.characters answers).1;
+      has_names = made.is_component.has_names;
+      names_differ = names_distinct reading.text reading.options (canonical_encoding reading.canonical) own read.reads;
+      are_canonical = it.are_canonical;
+    }
+
+pub links_of_compiled : {E : Type 0} (engine : Engine E) (Accepted : Acceptance E) → EachReturnsFirst engine Accepted
+    → ((options : OptionsView) (inner : InnerView E) → AcceptedText (λ value. ⊤) inner → Accepted options (engine_flags options) inner) → LinksOfCompiledMatchesAreTheTexts engine
+links_of_compiled engine Accepted firsts taken init asked pattern kept groups url texts result link found are each =
+    links_of_matches engine.answer pattern groups url texts result link found are (λ component parts has.
+    let one : kept.parts ≡ parts = same_Some _ _ (sym kept.has_parts ∙ has) in
+    subst (λ (own : PatternParts). IsWritableFromMatch engine.answer (pattern_view pattern component) (settings_in own groups component) (parts_in own component) (at texts component) (found.captures component)) one
+    (writable engine Accepted firsts taken (settings_of asked kept.values kept.hierarchical component) (at kept.parts.components component) (pattern_view pattern component) (settings_in kept.parts groups component)
+    (at texts component) (found.captures component) (kept.are_read component) (kept.are_made component) refl (each component)))

@@ -7,10 +7,10 @@ use Rattle.urlpattern_matcher.specs.Components.{IsEngineOf}
 use Rattle.urlpattern_matcher.specs.FirstWays.{Keeping, Acceptance}
 use Rattle.urlpattern_matcher.specs.declared.regexp.RegExp.{Ghosts as Engine}
 use Rattle.urlpattern_laws.proofs.Catching.{Then}
-use Rattle.urlpattern_laws.proofs.MatchersTaken.{HasRoomForFewer, TookAsKept, all_plain, asked, engine_taken, fast_plain, fast_taken, matcher_asks, middle_all}
-use Rattle.urlpattern_laws.specs.LawsOfTexts.{IsCapturedByParts, IsSomeIfMatched, MatchersCapture, PartsCaptureMeanings, RegexpCondition, ValuesCapture}
-use Rattle.urlpattern_laws.specs.PartCaptures.{PartCaptures, PartsCapture}
-use Rattle.urlpattern_laws.specs.MatchedPartTexts.{CapturesNothing, PartsMatch}
+use Rattle.urlpattern_laws.proofs.MatchersTaken.{TookAsKept, all_plain, asked, engine_taken, fast_plain, fast_taken, matcher_asks, middle_all}
+use Rattle.urlpattern_laws.specs.LawsOfTexts.{IsSomeIfMatched, MatchersCapture, PartsCaptureMeanings, ValuesCapture}
+use Rattle.urlpattern_expressions.specs.PartCaptures.{IsCapturedByParts, PartCaptures, PartsCapture}
+use Rattle.urlpattern_expressions.specs.MatchedPartTexts.{CapturesNothing, PartsMatch}
 use Rattle.urlpattern_meaning.proofs.MatcherMeaning.{HasEnds}
 use Rattle.urlpattern_meaning.proofs.MatchingLaws.{fast_means, part_of}
 use Rattle.urlpattern_meaning.proofs.PartTrees.{IsNotCustom}
@@ -104,7 +104,7 @@ peeled_captures options parts front middle back text inner captures peeled cut i
 
 -- ---- matchers with an engine
 
-engine_captured : {E : Type 0} (answer : E → List ℕ → Option Captures) (options : OptionsView) (parts : List PartView) (front : Option PartView) (middle : List PartView) (back : Option PartView) (matcher : MatcherView E) (engine : E) (text : List ℕ) (result : Option Captures) →
+pub engine_captured : {E : Type 0} (answer : E → List ℕ → Option Captures) (options : OptionsView) (parts : List PartView) (front : Option PartView) (middle : List PartView) (back : Option PartView) (matcher : MatcherView E) (engine : E) (text : List ℕ) (result : Option Captures) →
     AreStripped parts front middle back → HasEnds options matcher (end_text front) (end_text back) → matcher.inner ≡ RegExp (Ok engine) → options.ignore_case ≡ false →
     ((t : List ℕ) → IsTrue (all_scalars t) → IsCapturedByParts options middle t (answer engine t)) → IsTrue (all_scalars text) → Returns answer matcher text result → IsCapturedByParts options parts text result
 engine_captured answer options parts front middle back matcher engine text (Some captures) peeled ends is case captured fine matches =
@@ -116,20 +116,20 @@ engine_captured answer options parts front middle back matcher engine text None 
 
 -- ---- any matcher
 
-fast_captured : {E : Type 0} (answer : E → List ℕ → Option Captures) (options : OptionsView) (parts : List PartView) (matcher : MatcherView E) (text : List ℕ) (result : Option Captures) → All IsNotCustom parts →
+pub fast_captured : {E : Type 0} (answer : E → List ℕ → Option Captures) (options : OptionsView) (parts : List PartView) (matcher : MatcherView E) (text : List ℕ) (result : Option Captures) → All IsNotCustom parts →
     ((captures : Captures) → Matches answer matcher text captures ↔ PartsMean options parts text captures) → Returns answer matcher text result → IsCapturedByParts options parts text result
 fast_captured answer options parts matcher text (Some captures) plain same matches = means_captures options parts text captures ((same captures).0 matches)
 fast_captured answer options parts matcher text None plain same never = λ takes. true≢false (sym ((fast_taken answer options parts matcher text None plain same never).1 takes))
 
 -- If the values of an engine return what the parts capture, the matchers with accepted expressions
 -- do too.
-pub matchers_capture : {E : Type 0} (engine : Engine E) (Keeps : Keeping) (Fits : RegexpCondition) (Accepted : Acceptance E) → ValuesCapture engine Keeps Fits → HasRoomForFewer Fits → TookAsKept Accepted Keeps
-    → MatchersCapture engine Fits Accepted
-matchers_capture engine Keeps Fits Accepted values shorter took options flags parts matcher made silent text result no_feed fine answers =
+pub matchers_capture : {E : Type 0} (engine : Engine E) (Keeps : Keeping) (Accepted : Acceptance E) → ValuesCapture engine Keeps → TookAsKept Accepted Keeps
+    → MatchersCapture engine Accepted
+matchers_capture engine Keeps Accepted values took options flags parts matcher made silent text result no_feed fine answers =
     let m = made.is_made in
     let silent_middle = middle_all (λ part. CapturesNothing part.kind part.value) parts m.front m.middle m.back m.are_stripped silent in
-    matcher_asks engine Keeps Fits Accepted shorter took options flags parts matcher made (IsCapturedByParts options parts text result)
+    matcher_asks engine Keeps Accepted took options flags parts matcher made (IsCapturedByParts options parts text result)
     (λ is. fast_captured engine.answer options parts matcher text result (all_plain parts m.front m.middle m.back m.are_stripped (fast_plain (IsEngineOf engine false flags) options (end_text m.front) m.middle (end_text m.back) matcher m.is_made is))
     (λ captures. fast_means engine.answer (IsEngineOf engine false flags) options parts matcher text captures m made.case_kept no_feed is) answers)
     (λ value e keeps ends of. engine_captured engine.answer options parts m.front m.middle m.back matcher value text result m.are_stripped ends e made.case_kept
-    (values options flags m.middle value keeps of.alone silent_middle of.fits of.is_made) fine answers)
+    (values options flags m.middle value keeps of.alone silent_middle of.is_made) fine answers)

@@ -1,7 +1,6 @@
 -- A matcher returns captures exactly for the texts that its parts match.
-use Rattle.std.proofs.Common.{◌≡◌, ◌↔◌, ℕ, ◌≤◌, List, [], ◌∷◌, ◌++◌, length, true, false, Option, Some, None, Result, is_some, refl, sym, ap, ◌∙◌, subst, append-nil, length-append, arith, codes, true≢false}
+use Rattle.std.proofs.Common.{◌≡◌, ◌↔◌, ℕ, List, [], ◌∷◌, ◌++◌, true, false, Option, Some, None, Result, is_some, refl, sym, ap, ◌∙◌, subst, append-nil, true≢false}
 use Rattle.std.proofs.lemmas.List.Elements.{All-cons, All-head, All-nil, All-tail}
-use Rattle.std.specs.List.{flat_map}
 use Rattle.std.specs.Prelude.{◌≢◌, ◌&&◌, All, IsTrue, Ok, Err, option_to_list}
 use Rattle.std.specs.Str.{all_scalars}
 use Rattle.regex_hir.proofs.OptionLemmas.{value_of_IsSome}
@@ -12,8 +11,8 @@ use Rattle.urlpattern_laws.proofs.Denoting.{Joined, AreSameTexts, joined_same}
 use Rattle.urlpattern_laws.proofs.ItemsOf.{joined_assoc, nothing_joined, same_then, same_texts}
 use Rattle.urlpattern_laws.proofs.GroupItems.{one_copy}
 use Rattle.urlpattern_laws.proofs.TakenMeanings.{means_takes, parts_take_meanings}
-use Rattle.urlpattern_laws.specs.LawsOfTexts.{HasMatcherPremises, HasNumbers, IsSomeIfMatched, MatchersReturnIfMatched, RegexpCondition, ValuesReturnIfMatched}
-use Rattle.urlpattern_laws.specs.MatchedPartTexts.{AllStandAlone, PartMatches, PartsMatch, IsSelfContained}
+use Rattle.urlpattern_laws.specs.LawsOfTexts.{HasMatcherPremises, IsSomeIfMatched, MatchersReturnIfMatched, ValuesReturnIfMatched}
+use Rattle.urlpattern_expressions.specs.MatchedPartTexts.{AllStandAlone, PartMatches, PartsMatch, IsSelfContained}
 use Rattle.urlpattern_meaning.proofs.MatcherMeaning.{HasEnds, ends_of, not_fast, scalars_middle}
 use Rattle.urlpattern_meaning.proofs.MatchingLaws.{IsFast, fast_means, middle_kept, part_of}
 use Rattle.urlpattern_meaning.proofs.PartTrees.{IsNotCustom}
@@ -27,7 +26,7 @@ use Rattle.urlpattern_syntax.specs.declared.parser.PartModifier.{PartModifier}
 use Rattle.urlpattern_syntax.specs.declared.parser.PartModifier.TheVariants as modifiers
 use Rattle.urlpattern_syntax.specs.declared.parser.PartType.{PartType}
 use Rattle.urlpattern_syntax.specs.declared.parser.PartType.TheVariants.{FixedText, Regexp, SegmentWildcard, FullWildcard}
-use Rattle.urlpattern_syntax.specs.RegexpText.{is_fixed_text, is_plain, is_unmodified, part_regexp, regexp_text}
+use Rattle.urlpattern_syntax.specs.RegexpText.{is_fixed_text, is_plain, is_unmodified, regexp_text}
 use Rattle.urlpattern_syntax.specs.Text.{IsRepeated}
 
 -- ---- parts without plain ends
@@ -173,28 +172,6 @@ pub middle_all : (P : PartView → Type 0) (parts : List PartView) (front : Opti
 middle_all P parts front middle back peeled h =
     all_right P (option_to_list front) middle (all_left P (option_to_list front ++ middle) (option_to_list back) (subst (λ ps. All P ps) peeled.cut h))
 
--- ---- lengths of expressions
-
-module _ (options : OptionsView) where
-  abbrev pub written : List PartView → List ℕ
-  written parts = flat_map (part_regexp options) parts
-
-  left_length : (parts others : List PartView) → length (written parts) ≤ length (written (parts ++ others))
-  left_length [] others = omega arith
-  left_length (part ∷ parts) others =
-      omega (arith, left_length parts others, length-append (part_regexp options part) (written parts), length-append (part_regexp options part) (written (parts ++ others)))
-
-  right_length : (parts others : List PartView) → length (written others) ≤ length (written (parts ++ others))
-  right_length [] others = omega arith
-  right_length (part ∷ parts) others = omega (arith, right_length parts others, length-append (part_regexp options part) (written (parts ++ others)))
-
-  pub middle_length : (parts : List PartView) (front : Option PartView) (middle : List PartView) (back : Option PartView) → AreStripped parts front middle back → length (written middle) ≤ length (written parts)
-  middle_length parts front middle back peeled =
-      omega (arith, right_length (option_to_list front) middle, left_length (option_to_list front ++ middle) (option_to_list back), ap (λ ps. length (written ps)) peeled.cut)
-
-pub shorter_room : (options : OptionsView) (parts middle : List PartView) → length (written options middle) ≤ length (written options parts) → HasNumbers (regexp_text options parts) → HasNumbers (regexp_text options middle)
-shorter_room options parts middle le room = omega (arith, room, le, length-append (written options middle) (codes "$"), length-append (written options parts) (codes "$"))
-
 -- ---- any matcher
 
 made_value : {E : Type 0} (IsEngine : List ℕ → Result E ErrorView → Type 0) (regexp : List ℕ) (value other : Result E ErrorView) → IsEngine regexp other → RegExp value ≡ RegExp other → IsEngine regexp value
@@ -222,28 +199,22 @@ fast_taken answer options parts matcher text None plain same never = (
 )
 
 -- The engine's value was made of the text of the middle parts.
-pub record IsOfMiddle {E : Type 0} (engine : Engine E) (Fits : (regexp : List ℕ) → Type 0) (options : OptionsView) (flags : List ℕ) (middle : List PartView) (value : E) : Type 0 where
+pub record IsOfMiddle {E : Type 0} (engine : Engine E) (options : OptionsView) (flags : List ℕ) (middle : List PartView) (value : E) : Type 0 where
   pub alone : AllStandAlone middle
-  pub fits : Fits (regexp_text options middle)
   pub is_made : engine.IsMade value (regexp_text options middle) flags
-
--- An expression of some of the parts is short enough if that of all parts is.
-abbrev pub HasRoomForFewer : RegexpCondition → Type 0
-HasRoomForFewer Fits =
-    (options : OptionsView) (parts middle : List PartView) → length (written options middle) ≤ length (written options parts) → Fits (regexp_text options parts) → Fits (regexp_text options middle)
 
 -- An expression that the engine accepted was accepted with flags that keep case.
 abbrev pub TookAsKept : {E : Type 0} → Acceptance E → Keeping → Type 0
 TookAsKept {E} Accepted Keeps = (options : OptionsView) (flags : List ℕ) (inner : InnerView E) → options.ignore_case ≡ false → Accepted options flags inner → AcceptedText (λ value. Keeps flags) inner
 
 -- A matcher has no engine, or a value that was made of the text of the middle parts.
-pub matcher_asks : {E : Type 0} (engine : Engine E) (Keeps : Keeping) (Fits : RegexpCondition) (Accepted : Acceptance E) → HasRoomForFewer Fits → TookAsKept Accepted Keeps
-    → (options : OptionsView) (flags : List ℕ) (parts : List PartView) (matcher : MatcherView E) (made : HasMatcherPremises engine Fits Accepted options flags parts matcher)
+pub matcher_asks : {E : Type 0} (engine : Engine E) (Keeps : Keeping) (Accepted : Acceptance E) → TookAsKept Accepted Keeps
+    → (options : OptionsView) (flags : List ℕ) (parts : List PartView) (matcher : MatcherView E) (made : HasMatcherPremises engine Accepted options flags parts matcher)
     → (Is : Type 0) → (IsFast matcher.inner → Is)
     → ((value : E) → matcher.inner ≡ RegExp (Ok value) → Keeps flags → HasEnds options matcher (end_text made.is_made.front) (end_text made.is_made.back)
-    → IsOfMiddle engine Fits options flags made.is_made.middle value → Is)
+    → IsOfMiddle engine options flags made.is_made.middle value → Is)
     → Is
-matcher_asks {E} engine Keeps Fits Accepted shorter took options flags parts matcher made Is fast asks = by_inner matcher.inner refl (took options flags matcher.inner made.case_kept made.took)
+matcher_asks {E} engine Keeps Accepted took options flags parts matcher made Is fast asks = by_inner matcher.inner refl (took options flags matcher.inner made.case_kept made.took)
   where
     by_inner : (inner : InnerView E) → matcher.inner ≡ inner → AcceptedText (λ value. Keeps flags) inner → Is
     by_inner (Literal literal) e keeps = fast (subst (λ i. IsFast i) (sym e) tt)
@@ -254,18 +225,17 @@ matcher_asks {E} engine Keeps Fits Accepted shorter took options flags parts mat
         asks value e keeps (ends_of (IsEngineOf engine false flags) options (end_text m.front) m.middle (end_text m.back) matcher (Ok value) m.is_made e)
         (record {
           alone = middle_all (λ part. IsSelfContained part.kind part.value) parts m.front m.middle m.back m.are_stripped made.alone;
-          fits = shorter options parts m.middle (middle_length options parts m.front m.middle m.back m.are_stripped) made.fits;
           is_made = made_between (IsEngineOf engine false flags) options (end_text m.front) m.middle (end_text m.back) matcher (Ok value) m.is_made e;
         })
 
 -- If the values of an engine return captures for the texts that the parts match, the matchers with
 -- accepted expressions do too.
-pub matchers_taken : {E : Type 0} (engine : Engine E) (Keeps : Keeping) (Fits : RegexpCondition) (Accepted : Acceptance E) → ValuesReturnIfMatched engine Keeps Fits → HasRoomForFewer Fits → TookAsKept Accepted Keeps
-    → MatchersReturnIfMatched engine Fits Accepted
-matchers_taken engine Keeps Fits Accepted values shorter took options flags parts matcher made text result no_feed fine answers =
+pub matchers_taken : {E : Type 0} (engine : Engine E) (Keeps : Keeping) (Accepted : Acceptance E) → ValuesReturnIfMatched engine Keeps → TookAsKept Accepted Keeps
+    → MatchersReturnIfMatched engine Accepted
+matchers_taken engine Keeps Accepted values took options flags parts matcher made text result no_feed fine answers =
     let m = made.is_made in
-    matcher_asks engine Keeps Fits Accepted shorter took options flags parts matcher made (IsSomeIfMatched options parts text result)
+    matcher_asks engine Keeps Accepted took options flags parts matcher made (IsSomeIfMatched options parts text result)
     (λ is. fast_taken engine.answer options parts matcher text result (all_plain parts m.front m.middle m.back m.are_stripped (fast_plain (IsEngineOf engine false flags) options (end_text m.front) m.middle (end_text m.back) matcher m.is_made is))
     (λ captures. fast_means engine.answer (IsEngineOf engine false flags) options parts matcher text captures m made.case_kept no_feed is) answers)
     (λ value e keeps ends of. engine_taken engine.answer options parts m.front m.middle m.back matcher value text result m.are_stripped ends e made.case_kept
-    (values options flags m.middle value keeps of.alone of.fits of.is_made) fine answers)
+    (values options flags m.middle value keeps of.alone of.is_made) fine answers)

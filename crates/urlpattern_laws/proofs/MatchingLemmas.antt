@@ -1,7 +1,7 @@
 -- The texts that patterns match, by their parts.
-use Rattle.std.proofs.Common.{◌⊎◌, ℕ, List, inl, inr, sym, subst}
+use Rattle.std.proofs.Common.{◌≡◌, ◌⊎◌, ℕ, List, inl, inr, sym, subst}
 use Rattle.std.proofs.lemmas.Str.{scalars-chars, IsUtf8-string_bytes}
-use Rattle.std.specs.Prelude.{⊤, Option, Some, None, String, string_bytes}
+use Rattle.std.specs.Prelude.{⊤, IsSomeAnd, MatchOption, Option, Some, None, String, string_bytes}
 use Rattle.std.specs.declared.alloc.Global.{Global}
 use Rattle.urlpattern_compare.specs.MeantTexts.{MeansText}
 use Rattle.urlpattern_matcher.specs.Components.{engine_flags}
@@ -14,11 +14,10 @@ use Rattle.urlpattern_meaning.specs.PartMeaning.{Captures}
 use Rattle.urlpattern_pattern.proofs.MatchersDecide.{answered}
 use Rattle.urlpattern_pattern.specs.{Match.AreMatched, Patterns.PatternView, UrlPatterns.AreMadeOfParts}
 use Rattle.urlpattern_laws.specs.PartReadings.{ApartMatchNothing, AreItsParts, CommonAreMatched, CoveredAreMatched, CoveredByEngineAreMatched, CoveredByMeaningAreMatched, IsCoveredByMeaning, KnownAreCoveredByMeaning, OwnPartsMean, PartingsAreMatched, SameAreMatched}
-use Rattle.urlpattern_compare.proofs.SameParts.{known_or_not, same_within}
-use Rattle.urlpattern_compare.specs.Comparing.{AreSame, IsComponentCovered, IsKnown, IsMeantBy, MatchesNoLine}
+use Rattle.urlpattern_compare.proofs.SameParts.{known_or_not, same_flips, same_within}
+use Rattle.urlpattern_compare.specs.Comparing.{AreSame, IsCommonText, IsComponentCovered, IsExampleText, IsKnown, IsMeantBy, IsOnlyIn, MatchesNoLine}
 use Rattle.urlpattern_syntax.specs.declared.parts.ComponentParts.{ComponentParts}
 use Rattle.urlpattern_compare.specs.declared.pattern_parts.PatternParts.{PatternParts}
-use Rattle.urlpattern_components.proofs.EightLemmas.{at-each}
 use Rattle.urlpattern_components.specs.declared.eight.ComponentName.{ComponentName}
 use Rattle.urlpattern_components.specs.Eight.{Texts, at}
 use Rattle.urlpattern_syntax.specs.Options.{OptionsView, options_view}
@@ -120,20 +119,53 @@ covered_by_engine engine mean made pattern asked parts asked_parts by also cover
 meant_line : (component : ComponentParts) (text : String Global) → IsMeantBy component (text_of text) → IsLine (text_of text)
 meant_line component text meant = record { characters = scalars-chars (string_bytes text) (IsUtf8-string_bytes text); no_line_feed = meant.line }
 
+-- A component matches a text that its parts mean.
+meant_text : {E : Type 0} (answer : E → List ℕ → Option Captures) (pattern : PatternView E) (parts : PatternParts) (name : ComponentName) (known : String Global) (text : List ℕ) →
+    AreItsParts answer pattern parts → IsMeantBy (at parts.components name) (text_of known) → text ≡ text_of known → IsMatched answer (pattern name).matcher text
+meant_text answer pattern parts name known text are meant same =
+    subst (λ (t : List ℕ). IsMatched answer (pattern name).matcher t) (sym same)
+    ((are name meant.known (text_of known) (meant_line (at parts.components name) known meant)).1 meant.means)
+
+-- A component matches its example, or any text that it matches where there is none.
+example_matched : {E : Type 0} (answer : E → List ℕ → Option Captures) (pattern : PatternView E) (parts : PatternParts) (name : ComponentName) (found : Option (String Global)) (text : List ℕ) →
+    AreItsParts answer pattern parts → IsExampleText (at parts.components name) found →
+    MatchOption found (IsMatched answer (pattern name).matcher text) (λ it. text ≡ text_of it) → IsMatched answer (pattern name).matcher text
+example_matched answer pattern parts name None text are is matched = matched
+example_matched answer pattern parts name (Some known) text are is same = meant_text answer pattern parts name known text are is same
+
+-- A common text of a component is matched by both patterns.
+common_component : {E : Type 0} (answer : E → List ℕ → Option Captures) (pattern other : PatternView E) (parts other_parts : PatternParts) (name : ComponentName) (found : Option (String Global)) (text : List ℕ) →
+    AreItsParts answer pattern parts → AreItsParts answer other other_parts → SameAreMatched answer other pattern other_parts parts →
+    IsCommonText (at parts.components name) (at other_parts.components name) found → IsLine text →
+    MatchOption found (IsMatched answer (pattern name).matcher text) (λ it. text ≡ text_of it) →
+    IsMatched answer (pattern name).matcher text × IsMatched answer (other name).matcher text
+common_component answer pattern other parts other_parts name None text are other_are alike is line matched = (
+  matched,
+  covered_component answer other pattern other_parts parts name text other_are are alike (inr (inr (same_flips (at parts.components name) (at other_parts.components name) is.0))) line matched,
+)
+common_component answer pattern other parts other_parts name (Some known) text are other_are alike is line same =
+    (meant_text answer pattern parts name known text are is.0 same, meant_text answer other other_parts name known text other_are is.1 same)
+
 pub common_matched : {E : Type 0} (answer : E → List ℕ → Option Captures) → CommonAreMatched answer
-common_matched answer pattern parts texts are meant = λ name.
-    let text = at texts name in
-    let it = meant name in
-    subst (λ (t : List ℕ). IsMatched answer (pattern name).matcher t) (sym (at-each (λ other. text_of (at texts other)) name))
-    ((are name it.known (text_of text) (meant_line (at parts.components name) text it)).1 it.means)
+common_matched answer pattern other parts other_parts found are other_are alike common texts lines known = (
+  λ name. (common_component answer pattern other parts other_parts name (at found name) (at texts name) are other_are alike (common name) (lines name) (known name)).0,
+  λ name. (common_component answer pattern other parts other_parts name (at found name) (at texts name) are other_are alike (common name) (lines name) (known name)).1,
+)
+
+-- The text that parts two patterns is the known one.
+parting_text : {E : Type 0} (answer : E → List ℕ → Option Captures) (pattern asked : PatternView E) (parts asked_parts : PatternParts) (name : ComponentName) (found : Option (String Global)) (text : List ℕ) →
+    AreItsParts answer pattern parts → IsSomeAnd found (λ it. IsOnlyIn (at parts.components name) (at asked_parts.components name) (text_of it)) →
+    MatchOption found (IsMatched answer (asked name).matcher text) (λ it. text ≡ text_of it) → ¬ IsMatched answer (pattern name).matcher text
+parting_text answer pattern asked parts asked_parts name None text are is same matched = absurd is
+parting_text answer pattern asked parts asked_parts name (Some known) text are is same matched =
+    is.not_meant ((are name is.known (text_of known) (meant_line (at asked_parts.components name) known is.meant)).0
+    (subst (λ (t : List ℕ). IsMatched answer (pattern name).matcher t) same matched))
 
 pub partings_matched : {E : Type 0} (answer : E → List ℕ → Option Captures) → PartingsAreMatched answer
-partings_matched answer pattern asked parts asked_parts parting are asked_are is =
-    let name = parting.component in
-    let text = at parting.texts name in (
-      common_matched answer asked asked_parts parting.texts asked_are is.meant,
-      λ matched. is.not_meant ((are name is.known (text_of text) (meant_line (at asked_parts.components name) text (is.meant name))).0
-          (subst (λ (t : List ℕ). IsMatched answer (pattern name).matcher t) (at-each (λ other. text_of (at parting.texts other)) name) matched)),
+partings_matched answer pattern asked parts asked_parts parting are asked_are is texts known =
+    let name = parting.component in (
+      λ other. example_matched answer asked asked_parts other (at parting.texts other) (at texts other) asked_are (is.examples other) (known other),
+      parting_text answer pattern asked parts asked_parts name (at parting.texts name) (at texts name) are is.parted (known name),
     )
 
 pub apart_matched : {E : Type 0} (answer : E → List ℕ → Option Captures) → ApartMatchNothing answer

@@ -6,6 +6,7 @@ use Rattle.std.specs.declared.alloc.Global.{Global}
 use Rattle.url.specs.Parser.{Parsed}
 use Rattle.url.specs.declared.error.ParseError.{ParseError}
 use Rattle.urlpattern_canonical.specs.Canonical.{IsResult, Reports}
+use Rattle.urlpattern_expressions.proofs.SimpleLemmas.{generated_simple}
 use Rattle.urlpattern_matcher.proofs.FirstMatchers.{flags_agree}
 use Rattle.urlpattern_matcher.specs.Components.{ComponentView, IsComponentOf, IsEngineOf, IsWholeEngineOf, engine_flags, has_regexp}
 use Rattle.urlpattern_matcher.specs.declared.regexp.RegExp.{Ghosts as Engine}
@@ -201,14 +202,10 @@ init_refusal_one engine init asked values error other are_values decides of too 
 -- ---- engines that decide
 
 -- A component whose pattern text has a meaning matches by the text.
-answers_by : {E : Type 0} (engine : Engine E) (settings : ParseSettings) (compiled : ComponentView E) → MakesFirstWays engine → HasMeaning settings → IsComponentCompiled engine settings compiled → ReturnsByText engine.answer settings compiled
+pub answers_by : {E : Type 0} (engine : Engine E) (settings : ParseSettings) (compiled : ComponentView E) → MakesFirstWays engine → HasMeaning settings → IsComponentCompiled engine settings compiled → ReturnsByText engine.answer settings compiled
 answers_by engine settings compiled firsts has is_compiled =
-    component_by engine settings compiled is_compiled has (λ parts reads is_component generated. firsts settings.options (engine_flags settings.options) parts compiled.matcher (record {
-      is_made = is_component.has_matcher;
-      generated = generated;
-      case_kept = has.case_kept;
-      took = flags_agree settings.options;
-    }))
+    component_by engine settings compiled is_compiled has (λ parts reads is_component have.
+    firsts settings.options (engine_flags settings.options) parts compiled.matcher is_component.has_matcher have (flags_agree settings.options, is_compiled.1.of_matcher))
 
 accepts_by_text : {E : Type 0} (engine : Engine E) (settings : ParseSettings) → MakesFirstWays engine → HasMeaning settings → AcceptsAlike engine settings
 accepts_by_text engine settings firsts has compiled other is_compiled is_other accepts =
@@ -217,6 +214,6 @@ accepts_by_text engine settings firsts has compiled other is_compiled is_other a
 
 pub first_ways_decide : {E : Type 0} (engine : Engine E) → FirstWaysDecide engine
 first_ways_decide engine firsts either asked values none = record {
-  accepts_alike = accepts_by_text engine (settings_of asked values false Protocol) firsts (record { generated = none false Protocol; case_kept = refl });
+  accepts_alike = accepts_by_text engine (settings_of asked values false Protocol) firsts (record { simple = λ parts reads. generated_simple parts (none false Protocol parts reads); case_kept = refl });
   takes_or_refuses = λ hierarchical component. either (settings_of asked values hierarchical component) (none hierarchical component);
 }

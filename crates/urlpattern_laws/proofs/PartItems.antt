@@ -9,9 +9,9 @@ use Rattle.urlpattern_laws.proofs.ItemsOf.{AreItemsOf, no_items, append_items, s
 use Rattle.urlpattern_laws.proofs.PartCharacters.{IsOfCharacters, no_fixed, part_characters}
 use Rattle.urlpattern_laws.proofs.PieceItems.{fixed_items, piece_inside}
 use Rattle.urlpattern_laws.proofs.Senses.{Sense, joined, no_text, quiet}
-use Rattle.urlpattern_laws.specs.PartCaptures.{PartCaptures, PartsCapture}
-use Rattle.urlpattern_laws.specs.MatchedPartTexts.{AllCaptureNothing, AllStandAlone, CapturesNothing, IsMatchedPiece, PartMatches, PartsMatch, IsSelfContained}
-use Rattle.urlpattern_laws.specs.PartWays.{fixed_ways, part_ways_by, parts_ways, piece_ways}
+use Rattle.urlpattern_expressions.specs.PartCaptures.{PartCaptures, PartsCapture}
+use Rattle.urlpattern_expressions.specs.MatchedPartTexts.{AllCaptureNothing, AllStandAlone, CapturesNothing, IsMatchedPiece, PartMatches, PartsMatch, IsSelfContained}
+use Rattle.urlpattern_expressions.specs.PartWays.{fixed_ways, part_ways_by, parts_ways, piece_ways}
 use Rattle.urlpattern_meaning.specs.PartMeaning.{Allows, Captures, IsCapture, capture_of_none}
 use Rattle.urlpattern_meaning.proofs.Copies.{GroupMeans, IsBetween, core_copies}
 use Rattle.urlpattern_meaning.proofs.MatchingLaws.{part_of}

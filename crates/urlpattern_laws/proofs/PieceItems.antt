@@ -23,8 +23,8 @@ use Rattle.urlpattern_laws.proofs.Denoting.{Denotes, Joined, Quantified, AreSame
 use Rattle.urlpattern_laws.proofs.GroupsOf.{IsInside, items_inside}
 use Rattle.urlpattern_laws.proofs.ItemsOf.{AreItemsOf, IsItemOf, no_items, append_items, same_items, quantified_items, once_items, atom_item}
 use Rattle.urlpattern_laws.proofs.Senses.{Sense, joined_quiet, quiet, quiet_same}
-use Rattle.urlpattern_laws.specs.MatchedPartTexts.{CapturesNothing, IsMatchedPiece, IsSelfContained}
-use Rattle.urlpattern_laws.specs.PartWays.{exactly, piece_ways}
+use Rattle.urlpattern_expressions.specs.MatchedPartTexts.{CapturesNothing, IsMatchedPiece, IsSelfContained}
+use Rattle.urlpattern_expressions.specs.PartWays.{exactly, piece_ways}
 use Rattle.urlpattern_meaning.specs.Ways.{WaysByText, one_that, quantified_ways}
 use Rattle.urlpattern_meaning.specs.Dialect.{Character, Plain, Escaped, character_of, character_text, ZeroOrMore, LazyOneOrMore, Dot, AnyBut, Literal, AtomMeans, IsCharacter, IsClassCharacter, IsOneBut, atom_text}
 use Rattle.urlpattern_meaning.specs.PartMeaning.{IsWildcardText}
@@ -43,7 +43,7 @@ use Rattle.urlpattern_syntax.specs.Text.{is_among, line_feed}
 
 -- ---- characters
 
-denotes_character : (c : ℕ) → IsScalar c → Denotes (literal (encode_utf8 c)) (λ text. text ≡ c ∷ [])
+pub denotes_character : (c : ℕ) → IsScalar c → Denotes (literal (encode_utf8 c)) (λ text. text ≡ c ∷ [])
 denotes_character c scalar =
     let here : char_at (encode_utf8 c) 0 ≡ Some c = char_at_from (encode_utf8 c) 0 c [] scalar (sym (append-nil (encode_utf8 c))) in
     record {

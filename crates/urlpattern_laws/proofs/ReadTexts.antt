@@ -4,14 +4,14 @@ use Rattle.std.proofs.Common.{◌≡◌, ℕ, List, [], ◌∷◌, ◌++◌, ref
 use Rattle.std.proofs.lemmas.List.{append-nil}
 use Rattle.std.specs.Char.{encode_utf8}
 use Rattle.std.specs.Fmt.{digits}
-use Rattle.std.specs.Prelude.{Option, IsTrue, codes, encode_utf8_all, false}
+use Rattle.std.specs.Prelude.{Option, IsTrue, Result, codes, encode_utf8_all, false}
 use Rattle.std.specs.Str.{chars}
 use Rattle.url.specs.Parser.{Parsed}
 use Rattle.urlpattern_pattern.proofs.MeaningLemmas.{none_custom}
 use Rattle.urlpattern_compile.specs.Compiled.{IsComponentCompiled, ParseSettings, canonical_encoding}
 use Rattle.urlpattern_pattern.specs.MatchMeaning.{ReadsAs}
 use Rattle.urlpattern_matcher.proofs.FirstMatchers.{flags_agree}
-use Rattle.urlpattern_matcher.specs.Components.{ComponentView, engine_flags, has_regexp}
+use Rattle.urlpattern_matcher.specs.Components.{ComponentView, IsEngineOf, engine_flags, has_regexp}
 use Rattle.urlpattern_engine.proofs.EngineLaws.{taken_first}
 use Rattle.urlpattern_engine.specs.PatternRegexps.{pattern_result, pattern_engine}
 use Rattle.urlpattern_engine.specs.declared.pattern_regexp.PatternRegexp.{PatternRegexp}
@@ -20,12 +20,14 @@ use Rattle.urlpattern_init.specs.UrlTexts.{IsLine}
 use Rattle.urlpattern_meaning.proofs.MatchingLaws.{middle_cancel}
 use Rattle.urlpattern_meaning.proofs.MeaningExamples.{alone_means, part_alone}
 use Rattle.urlpattern_meaning.proofs.MeaningLaws.{one_copy, peeled_means, plain_means}
-use Rattle.urlpattern_meaning.specs.Matching.{Agrees, Returns, AreStripped}
+use Rattle.urlpattern_meaning.proofs.StrippedParts.{middle_one}
+use Rattle.urlpattern_meaning.specs.Matching.{Agrees, AreStripped, HoldsEngine, IsMadeBetween, IsMadeOf, MatcherView, Returns, end_text}
 use Rattle.urlpattern_meaning.specs.PartMeaning.{AreGenerated, Captures, IsWildcardText, PartsMean}
 use Rattle.urlpattern_syntax.proofs.PieceExamples.{PieceCut, bare, ends, piece, pieces_of}
 use Rattle.urlpattern_syntax.proofs.ReadingExamples.{tokens_of, unnamed}
 use Rattle.urlpattern_syntax.proofs.RegexpTextExamples.{group}
 use Rattle.urlpattern_syntax.proofs.TokenExamples.{done, empty, literals, mark, next, no, token}
+use Rattle.urlpattern_syntax.specs.Errors.{ErrorView}
 use Rattle.urlpattern_syntax.specs.Options.{OptionsView, default_options}
 use Rattle.urlpattern_syntax.specs.Parts.{PartView, fixed_text}
 use Rattle.urlpattern_syntax.specs.Pieces.{Anything, Bare, Piece, Stops}
@@ -164,11 +166,43 @@ text_and_segment_mean options front prefix name text captures =
 
 -- ---- a component
 
--- A component that returns what these parts mean for each text without line feeds, and has their
--- names.
+module _ {E : Type 0} (IsEngine : (regexp : List ℕ) → Result E ErrorView → Type 0) (options : OptionsView) (matcher : MatcherView E) where
+  -- What is left of the parts between plain fixed texts decides whether there is an engine.
+  made_of_middle : (parts : List PartView) (front : Option PartView) (middle : List PartView) (back : Option PartView) → AreStripped parts front middle back →
+      ((prefix suffix : List ℕ) → IsMadeBetween IsEngine options prefix middle suffix matcher → ¬ HoldsEngine matcher.inner) →
+      IsMadeOf IsEngine options parts matcher → ¬ HoldsEngine matcher.inner
+  made_of_middle parts front middle back stripped without made =
+      without (end_text made.front) (end_text made.back)
+      (subst (λ (of : List PartView). IsMadeBetween IsEngine options (end_text made.front) of (end_text made.back) matcher)
+      (middle_one parts made.front front made.middle middle made.back back made.are_stripped stripped) made.is_made)
+
+  -- A matcher of a fixed text, of nothing, of anything, or of a text and a segment has no engine.
+  pub literal_alone : (text : List ℕ) → IsMadeOf IsEngine options (literal text) matcher → ¬ HoldsEngine matcher.inner
+  literal_alone text =
+      made_of_middle (literal text) (Some (fixed_text text modifiers.None)) [] None (record { cut = refl; front_removed = refl; back_removed = λ holds. holds })
+      (λ prefix suffix made. subst (λ (of : MatcherView E). ¬ HoldsEngine of.inner) (sym made) (λ holds. holds))
+
+  pub nothing_alone : IsMadeOf IsEngine options [] matcher → ¬ HoldsEngine matcher.inner
+  nothing_alone =
+      made_of_middle [] None [] None (record { cut = refl; front_removed = λ holds. holds; back_removed = λ holds. holds })
+      (λ prefix suffix made. subst (λ (of : MatcherView E). ¬ HoldsEngine of.inner) (sym made) (λ holds. holds))
+
+  pub anything_alone : IsMadeOf IsEngine options anything matcher → ¬ HoldsEngine matcher.inner
+  anything_alone =
+      made_of_middle anything None anything None (record { cut = refl; front_removed = no; back_removed = no })
+      (λ prefix suffix made. subst (λ (of : MatcherView E). ¬ HoldsEngine of.inner) (sym made) (λ holds. holds))
+
+  pub segment_alone : (front prefix name : List ℕ) → IsMadeOf IsEngine options (text_and_segment front prefix name) matcher → ¬ HoldsEngine matcher.inner
+  segment_alone front prefix name =
+      made_of_middle (text_and_segment front prefix name) (Some (fixed_text front modifiers.None)) (segment prefix name ∷ []) None (segment_peeled front prefix name)
+      (λ prefix suffix made. subst (λ (of : MatcherView E). ¬ HoldsEngine of.inner) (sym made) (λ holds. holds))
+
+-- A component that is made of these parts, returns what they mean for each text without line feeds,
+-- and has their names.
 pub record IsOfParts (options : OptionsView) (parts : List PartView) (compiled : ComponentView PatternRegexp) : Type 0 where
   pub means : (text : List ℕ) (result : Option Captures) → IsLine text → Returns pattern_result compiled.matcher text result → Agrees options parts text result
   pub names : compiled.group_name_list ≡ group_names parts
+  pub made : IsMadeOf (IsEngineOf pattern_engine false (engine_flags options)) options parts compiled.matcher
 
 -- A compiled component, case kept, whose text reads as these parts alone, none of them custom.
 pub of_parts : (settings : ParseSettings) (expected : List PartView) (compiled : ComponentView PatternRegexp) → IsComponentCompiled pattern_engine settings compiled →
@@ -187,4 +221,6 @@ of_parts settings expected compiled is kept generated read =
             took = flags_agree settings.options;
           }) text result line.no_line_feed line.characters answers).1;
       names = made.has_names ∙ ap (λ (of : List PartView). group_names of) (sym same);
+      made =
+          subst (λ (of : List PartView). IsMadeOf (IsEngineOf pattern_engine false (engine_flags settings.options)) settings.options of compiled.matcher) (sym same) made.has_matcher;
     }

@@ -2,7 +2,10 @@
 use Rattle.std.proofs.Common.{◌≡◌, ℕ, false, List, subst, sym, ◌∙◌}
 use Rattle.std.specs.Prelude.{⊤, Some, Ok}
 use Rattle.regex.specs.declared.string.regex.Regex.{Regex}
-use Rattle.urlpattern_engine.proofs.RegexMatchers.{taken_first}
+use Rattle.urlpattern_expressions.proofs.SimpleLemmas.{generated_simple}
+use Rattle.urlpattern_expressions.specs.SimpleExpressions.{HaveMeaning}
+use Rattle.urlpattern_laws.proofs.SimpleMatchers.{regex_makes_first_ways}
+use Rattle.urlpattern_matcher.proofs.FirstMatchers.{flags_agree}
 use Rattle.urlpattern_engine.proofs.RegexWays.{regex_follows}
 use Rattle.urlpattern_matcher.specs.Components.{ComponentView, IsComponentOf, IsEngineOf, engine_flags}
 use Rattle.urlpattern_matcher.specs.Regexes.{regex_result, regex_engine}
@@ -64,10 +67,13 @@ module _ (settings : ParseSettings) (compiled : ComponentView Regex) (is_compile
   first_result captures result answers is_result =
       let (parts, reads, is_component) = is_compiled.0 in
       let options = settings.options in
-      let (is_first, is_meant) = taken_first options (engine_flags options) parts compiled.matcher (taken parts is_component) text (Some captures) premises.no_line_feed premises.characters answers in
+      let is = taken parts is_component in
+      let have : HaveMeaning options parts = record { simple = generated_simple parts is.generated; case_kept = is.case_kept } in
+      let first =
+      regex_makes_first_ways options (engine_flags options) parts compiled.matcher is.is_made have (flags_agree options, is.took) text (Some captures) premises.no_line_feed premises.characters answers in
       record {
         captures = captures;
-        way = record { parts = parts; reads = reads; is_first = is_first; is_meant = is_meant };
+        way = record { parts = parts; reads = reads; is_first = first };
         is_result = subst (λ (names : List (List ℕ)). IsResultOf names captures text result) is_component.has_names is_result;
       }
 

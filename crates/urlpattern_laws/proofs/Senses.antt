@@ -8,8 +8,8 @@ use Rattle.regex_syntax.specs.Grammar.{group_count}
 use Rattle.urlpattern_laws.proofs.Catching.{Catches, Only, Perhaps, Then, Whole, catches_alone, catches_group, catches_last, catches_perhaps, catches_same, catches_silent}
 use Rattle.urlpattern_laws.proofs.Choices.{Cuts, Tries, allows_none, cuts_captured, cuts_idle, cuts_quantified, tries_alone, tries_captured, tries_idle, tries_last, tries_quantified}
 use Rattle.urlpattern_laws.proofs.Denoting.{Texts, Denotes, Joined, Nothing, Quantified, AreSameTexts, denotes_same, denotes_empty, denotes_alone, denotes_last, denotes_quantified}
-use Rattle.urlpattern_laws.specs.Expressions.{is_groupless}
-use Rattle.urlpattern_laws.specs.PartWays.{captured_whole, followed_by}
+use Rattle.urlpattern_expressions.specs.Expressions.{is_groupless}
+use Rattle.urlpattern_expressions.specs.PartWays.{captured_whole, followed_by}
 use Rattle.urlpattern_meaning.specs.Dialect.{Quantifier, Optional, ZeroOrMore}
 use Rattle.urlpattern_meaning.specs.PartMeaning.{Captures}
 use Rattle.urlpattern_meaning.specs.Ways.{WaysByText, empty_way, quantified_ways}

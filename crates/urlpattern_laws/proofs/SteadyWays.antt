@@ -9,7 +9,7 @@ use Rattle.regex_syntax.specs.Grammar.{Names, read}
 use Rattle.regex_syntax.specs.Verdict.{default_config}
 use Rattle.urlpattern_laws.proofs.Choices.{HasCaptures, Cuts, cuts_captured, cuts_either, cuts_followed, cuts_idle, cuts_one, cuts_quantified}
 use Rattle.urlpattern_laws.proofs.PartItems.{part_count, parts_count}
-use Rattle.urlpattern_laws.specs.PartWays.{affixed_ways, bare_ways, between_ways, captured_whole, copies_ways, exactly, fixed_ways, followed_by, part_ways_by, parts_ways, pattern_ways, piece_ways, several_ways, ways_of_reading}
+use Rattle.urlpattern_expressions.specs.PartWays.{affixed_ways, bare_ways, between_ways, captured_whole, copies_ways, exactly, fixed_ways, followed_by, part_ways_by, parts_ways, pattern_ways, piece_ways, several_ways, ways_of_reading}
 use Rattle.urlpattern_meaning.proofs.WayLists.{every-weaker}
 use Rattle.urlpattern_meaning.proofs.WaysCut.{Falls, IsCut, cut-append, cut-continued, cut-empty_way, cut-map, one-cut, taken-cut}
 use Rattle.urlpattern_meaning.proofs.WaysSound.{IsSound}

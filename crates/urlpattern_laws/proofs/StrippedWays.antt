@@ -10,7 +10,7 @@ use Rattle.urlpattern_laws.proofs.Catching.{Caps, Then}
 use Rattle.urlpattern_laws.proofs.Choices.{HasCaptures}
 use Rattle.urlpattern_laws.proofs.PartItems.{parts_count}
 use Rattle.urlpattern_laws.proofs.SteadyWays.{steady_parts}
-use Rattle.urlpattern_laws.specs.PartWays.{exactly, followed_by, part_ways_by, parts_first_way, parts_ways}
+use Rattle.urlpattern_expressions.specs.PartWays.{exactly, followed_by, part_ways_by, parts_first_way, parts_ways}
 use Rattle.urlpattern_meaning.proofs.MatchingLaws.{part_of}
 use Rattle.urlpattern_meaning.proofs.PartTrees.{put}
 use Rattle.urlpattern_meaning.proofs.TreeMeaning.{character_same}

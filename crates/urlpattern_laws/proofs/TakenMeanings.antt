@@ -3,7 +3,7 @@ use Rattle.std.proofs.Common.{ℕ, zero, suc, List, [], ◌∷◌, ◌++◌, Opt
 use Rattle.std.proofs.lemmas.List.Elements.{All-head, All-tail}
 use Rattle.std.specs.Prelude.{◌≢◌}
 use Rattle.urlpattern_laws.specs.LawsOfTexts.{PartsMatchMeanings}
-use Rattle.urlpattern_laws.specs.MatchedPartTexts.{PartMatches, PartsMatch}
+use Rattle.urlpattern_expressions.specs.MatchedPartTexts.{PartMatches, PartsMatch}
 use Rattle.urlpattern_meaning.proofs.Copies.{IsBetween, copies_core}
 use Rattle.urlpattern_meaning.proofs.MatchingLaws.{part_of}
 use Rattle.urlpattern_meaning.proofs.PartTrees.{IsNotCustom}

@@ -11,7 +11,7 @@ use Rattle.regex_hir.proofs.TextLemmas.{char_at_from, char_at_parts, char_at_pas
 use Rattle.regex_hir.specs.Matches.{Matches, Rounds, one_round, next_round}
 use Rattle.regex_hir.specs.Re.{Re, empty, literal, byte_in, char_in, look, cat, alt, group, plus}
 use Rattle.regex_hir.specs.Text.{char_at, is_some_and}
-use Rattle.urlpattern_laws.specs.Expressions.{is_one_character, matches_characters}
+use Rattle.urlpattern_expressions.specs.Expressions.{is_one_character, matches_characters}
 use Rattle.urlpattern_engine.proofs.WayResults.{at}
 use Rattle.urlpattern_syntax.specs.Text.{IsRepeated}
 use Rattle.urlpattern_engine.proofs.LoopAttempts.{scalars_after}

@@ -4,7 +4,7 @@ use Rattle.std.specs.Char.{encode_utf8}
 use Rattle.std.specs.Prelude.{codes}
 use Rattle.std.specs.Str.{chars}
 use Rattle.url.proofs.OnLiterals.{url_on_literals}
-use Rattle.urlpattern_laws.proofs.ReadTexts.{IsOfParts, anything, anything_read, canonical_value, literal, literal_read, nothing_read, of_parts, text_and_segment}
+use Rattle.urlpattern_laws.proofs.ReadTexts.{IsOfParts, anything, anything_alone, anything_read, canonical_value, literal, literal_alone, literal_read, nothing_alone, nothing_read, of_parts, segment_alone, text_and_segment}
 use Rattle.urlpattern_compile.specs.Compiled.{AreCompiled, EachIsCompiled, IsPathKind, ParseSettings, canonical_encoding, settings_of}
 use Rattle.urlpattern_compile.specs.FromString.{IsPatternOfText}
 use Rattle.urlpattern_pattern.specs.KeptParts.{KeepsPartsOfText}
@@ -16,6 +16,7 @@ use Rattle.urlpattern_canonical.specs.declared.canonicalize_and_process.ProcessT
 use Rattle.urlpattern_engine.specs.PatternRegexps.{pattern_engine}
 use Rattle.urlpattern_engine.specs.declared.pattern_regexp.PatternRegexp.{PatternRegexp}
 use Rattle.urlpattern_meaning.proofs.PlainTexts.{parts_of, plain_parts}
+use Rattle.urlpattern_meaning.specs.Matching.{HoldsEngine}
 use Rattle.urlpattern_init.proofs.SplitExamples.{users_split, users_text, users_values}
 pub use Rattle.urlpattern_init.proofs.UrlTexts.{chars-path, chars-scheme, host_by_text, no_port}
 use Rattle.urlpattern_init.specs.Inheritance.{processed_values, values_view}
@@ -151,6 +152,18 @@ users_of_parts pattern is =
     let compiled = users_compiled pattern is in
     let hierarchical : compiled.hierarchical ≡ true = compiled.path_kind.1 (inr (inr refl)) in
     each_of_parts pattern (rw hierarchical at compiled.are_compiled)
+
+-- No component has an engine.
+pub users_alone : (pattern : PatternView PatternRegexp) → IsPatternOfText pattern_engine users_text None default_asked pattern → (component : ComponentName) →
+    ¬ HoldsEngine (pattern component).matcher.inner
+users_alone pattern is Protocol = literal_alone _ _ _ (codes "https") (users_of_parts pattern is Protocol).made
+users_alone pattern is Username = anything_alone _ _ _ (users_of_parts pattern is Username).made
+users_alone pattern is Password = anything_alone _ _ _ (users_of_parts pattern is Password).made
+users_alone pattern is Hostname = literal_alone _ _ _ (codes "example.com") (users_of_parts pattern is Hostname).made
+users_alone pattern is Port = nothing_alone _ _ _ (users_of_parts pattern is Port).made
+users_alone pattern is Pathname = segment_alone _ _ _ (codes "/users") (codes "/") (codes "id") (users_of_parts pattern is Pathname).made
+users_alone pattern is Search = anything_alone _ _ _ (users_of_parts pattern is Search).made
+users_alone pattern is Hash = anything_alone _ _ _ (users_of_parts pattern is Hash).made
 
 -- ---- the parts that the pattern keeps
 

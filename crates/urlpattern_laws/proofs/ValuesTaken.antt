@@ -22,15 +22,15 @@ use Rattle.urlpattern_laws.proofs.PartItems.{parts_count, parts_items, parts_sen
 use Rattle.urlpattern_laws.proofs.ItemsOf.{values}
 use Rattle.urlpattern_laws.proofs.Senses.{Fulfils}
 use Rattle.urlpattern_laws.proofs.WholeRead.{between_lines, found_captures, search_is, whole_read}
-use Rattle.urlpattern_laws.specs.LawsOfTexts.{HasNumbers, IsCapturedByParts, IsSomeIfMatched, RegexpCondition, ValuesReturnIfMatched, ValuesCapture}
+use Rattle.urlpattern_laws.specs.LawsOfTexts.{IsSomeIfMatched, ValuesReturnIfMatched, ValuesCapture}
 use Rattle.urlpattern_laws.specs.LawsOfWays.{FirstWaysAreCaptured, ValuesReturnFirstOfParts}
-use Rattle.urlpattern_laws.specs.PartCaptures.{PartsCapture}
-use Rattle.urlpattern_laws.specs.MatchedPartTexts.{AllCaptureNothing, AllStandAlone, PartsMatch}
-use Rattle.urlpattern_laws.specs.PartWays.{parts_first_way, parts_ways}
+use Rattle.urlpattern_expressions.specs.PartCaptures.{IsCapturedByParts, PartsCapture}
+use Rattle.urlpattern_expressions.specs.MatchedPartTexts.{AllCaptureNothing, AllStandAlone, PartsMatch}
+use Rattle.urlpattern_expressions.specs.PartWays.{parts_first_way, parts_ways}
 use Rattle.urlpattern_engine.proofs.EngineLaws.{expression_good, form_of, pattern_values_read, regex_values_read, text_good}
 use Rattle.urlpattern_engine.proofs.GrammarResults.{read_by_default, regex_some}
 use Rattle.urlpattern_engine.specs.Automatons.{config_for}
-use Rattle.urlpattern_engine.specs.PatternRegexps.{IsExpressionOf, pattern_engine}
+use Rattle.urlpattern_engine.specs.PatternRegexps.{HasNumbers, IsExpressionOf, pattern_engine}
 use Rattle.urlpattern_engine.specs.GrammarReadings.{re_result}
 use Rattle.urlpattern_engine.specs.declared.strategy.Strategy.{Strategy}
 use Rattle.urlpattern_engine.specs.declared.pattern_regexp.PatternRegexp.{PatternRegexp}
@@ -117,10 +117,10 @@ first_captured options parts text alone silent good fine =
     (captured_by options parts is.0 is.1 silent count refl text fine found refl (λ some. search.0 (sym same ∙ some), λ takes. same ∙ search.1 takes))
 
 -- A value that returns the first way returns what the parts capture.
-captured_as_first : {E : Type 0} (engine : Engine E) (Keeps : Keeping) (Fits : RegexpCondition) → ValuesReturnFirstOfParts engine Keeps Fits
-    → ((value : E) (regexp flags : List ℕ) → engine.IsMade value regexp flags → scalars regexp ≡ true) → ValuesCapture engine Keeps Fits
-captured_as_first engine Keeps Fits first good options flags parts value keeps alone silent fits made text fine =
-    subst (IsCapturedByParts options parts text) (sym (first options flags parts value keeps alone silent fits made text fine))
+captured_as_first : {E : Type 0} (engine : Engine E) (Keeps : Keeping) → ValuesReturnFirstOfParts engine Keeps
+    → ((value : E) (regexp flags : List ℕ) → engine.IsMade value regexp flags → scalars regexp ≡ true) → ValuesCapture engine Keeps
+captured_as_first engine Keeps first good options flags parts value keeps alone silent made text fine =
+    subst (IsCapturedByParts options parts text) (sym (first options flags parts value keeps alone silent made text fine))
     (first_captured options parts text alone silent (good value (regexp_text options parts) flags made) fine)
 
 -- ---- values
@@ -130,15 +130,15 @@ regex_read regexp flags regex made =
     read_for regexp (regex_engine.answer regex) (text_good regex.pattern.source regexp made.of_text) (regex_some false regexp regex (read_by_default regexp regex made))
     (regex_values_read regexp flags regex tt made)
 
-pub regex_values_taken : ValuesReturnIfMatched regex_engine (λ flags. ⊤) (λ regexp. ⊤)
-regex_values_taken options flags parts regex any alone fits made = answers_taken options parts (regex_engine.answer regex) alone (regex_read (regexp_text options parts) flags regex made)
+pub regex_values_taken : ValuesReturnIfMatched regex_engine (λ flags. ⊤)
+regex_values_taken options flags parts regex any alone made = answers_taken options parts (regex_engine.answer regex) alone (regex_read (regexp_text options parts) flags regex made)
 
-pub regex_values_first : ValuesReturnFirstOfParts regex_engine (λ flags. ⊤) (λ regexp. ⊤)
-regex_values_first options flags parts regex any alone silent fits made = answers_first options parts (regex_engine.answer regex) alone silent (regex_read (regexp_text options parts) flags regex made)
+pub regex_values_first : ValuesReturnFirstOfParts regex_engine (λ flags. ⊤)
+regex_values_first options flags parts regex any alone silent made = answers_first options parts (regex_engine.answer regex) alone silent (regex_read (regexp_text options parts) flags regex made)
 
-pub regex_values_capture : ValuesCapture regex_engine (λ flags. ⊤) (λ regexp. ⊤)
+pub regex_values_capture : ValuesCapture regex_engine (λ flags. ⊤)
 regex_values_capture =
-    captured_as_first regex_engine (λ flags. ⊤) (λ regexp. ⊤) regex_values_first (λ regex regexp flags made. text_good regex.pattern.source regexp made.of_text)
+    captured_as_first regex_engine (λ flags. ⊤) regex_values_first (λ regex regexp flags made. text_good regex.pattern.source regexp made.of_text)
 
 -- ---- values of `PatternRegexp`
 
@@ -161,25 +161,25 @@ tree_some regexp tree is good room =
     let few : suc (group_count tree) ≤ 2 ^ 32 = omega (arith, items_few tree, ap length is.0, length-append (items_text tree) (codes "$"), room) in
     ap (λ t. is_some (read default_config t)) is.0 ∙ ap is_some (tree_is_read tree is.1 fine few)
 
-expression_some : (ignore_case : Bool) (regexp : List ℕ) (strategy : Strategy) → ignore_case ≡ false → IsExpressionOf ignore_case regexp strategy → HasNumbers regexp → IsSome (read default_config regexp)
+pub expression_some : (ignore_case : Bool) (regexp : List ℕ) (strategy : Strategy) → ignore_case ≡ false → IsExpressionOf ignore_case regexp strategy → HasNumbers regexp → IsSome (read default_config regexp)
 expression_some ignore_case regexp strategy kept made room = elim (form_of ignore_case regexp strategy made) [
   | inl own ↦ tree_some regexp own.tree own.is_tree (expression_good ignore_case regexp strategy made) room
   | inr custom ↦ subst (λ (b : Bool). IsSome (read (config_for b) regexp)) kept custom.is_read
 ]
 
-pattern_read : (regexp flags : List ℕ) (value : PatternRegexp) → KeepsCase flags → HasNumbers regexp → pattern_engine.IsMade value regexp flags → IsReadFor regexp (pattern_engine.answer value)
-pattern_read regexp flags value keeps room made =
+pattern_read : (regexp flags : List ℕ) (value : PatternRegexp) → KeepsCase flags → pattern_engine.IsMade value regexp flags → IsReadFor regexp (pattern_engine.answer value)
+pattern_read regexp flags value keeps made =
     read_for regexp (pattern_engine.answer value) (expression_good value.ignore_case regexp value.strategy made.of_text)
-    (expression_some value.ignore_case regexp value.strategy (made.by_flags ∙ keeps) made.of_text room) (pattern_values_read regexp flags value keeps made)
+    (expression_some value.ignore_case regexp value.strategy (made.by_flags ∙ keeps) made.of_text made.has_numbers) (pattern_values_read regexp flags value keeps made)
 
-pub pattern_values_taken : ValuesReturnIfMatched pattern_engine KeepsCase HasNumbers
-pattern_values_taken options flags parts value keeps alone room made =
-    answers_taken options parts (pattern_engine.answer value) alone (pattern_read (regexp_text options parts) flags value keeps room made)
+pub pattern_values_taken : ValuesReturnIfMatched pattern_engine KeepsCase
+pattern_values_taken options flags parts value keeps alone made =
+    answers_taken options parts (pattern_engine.answer value) alone (pattern_read (regexp_text options parts) flags value keeps made)
 
-pub pattern_values_first : ValuesReturnFirstOfParts pattern_engine KeepsCase HasNumbers
-pattern_values_first options flags parts value keeps alone silent room made =
-    answers_first options parts (pattern_engine.answer value) alone silent (pattern_read (regexp_text options parts) flags value keeps room made)
+pub pattern_values_first : ValuesReturnFirstOfParts pattern_engine KeepsCase
+pattern_values_first options flags parts value keeps alone silent made =
+    answers_first options parts (pattern_engine.answer value) alone silent (pattern_read (regexp_text options parts) flags value keeps made)
 
-pub pattern_values_capture : ValuesCapture pattern_engine KeepsCase HasNumbers
+pub pattern_values_capture : ValuesCapture pattern_engine KeepsCase
 pattern_values_capture =
-    captured_as_first pattern_engine KeepsCase HasNumbers pattern_values_first (λ value regexp flags made. expression_good value.ignore_case regexp value.strategy made.of_text)
+    captured_as_first pattern_engine KeepsCase pattern_values_first (λ value regexp flags made. expression_good value.ignore_case regexp value.strategy made.of_text)

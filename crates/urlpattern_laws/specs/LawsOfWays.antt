@@ -6,9 +6,9 @@ use Rattle.urlpattern_matcher.specs.Components.{ComponentView, IsComponentOf}
 use Rattle.urlpattern_matcher.specs.FirstWays.{Keeping, Acceptance}
 use Rattle.urlpattern_printing.specs.Generated.{AreGenerated}
 use Rattle.urlpattern_matcher.specs.declared.regexp.RegExp.{Ghosts as Engine}
-use Rattle.urlpattern_laws.specs.LawsOfTexts.{HasMatcherPremises, IsCapturedByParts, RegexpCondition}
-use Rattle.urlpattern_laws.specs.MatchedPartTexts.{AllCaptureNothing, AllStandAlone}
-use Rattle.urlpattern_laws.specs.PartWays.{parts_first_way}
+use Rattle.urlpattern_laws.specs.LawsOfTexts.{HasMatcherPremises}
+use Rattle.urlpattern_expressions.specs.MatchedPartTexts.{AllCaptureNothing, AllStandAlone}
+use Rattle.urlpattern_expressions.specs.{PartCaptures.IsCapturedByParts, PartWays.parts_first_way}
 use Rattle.urlpattern_meaning.specs.Dialect.{IsTreeOf, Items}
 use Rattle.urlpattern_meaning.specs.FirstResults.{AcceptedText}
 use Rattle.urlpattern_meaning.specs.Matching.{EachResultIs, MatcherView}
@@ -34,35 +34,33 @@ FirstWaysAreCaptured =
     IsCapturedByParts options parts text (parts_first_way options parts text)
 
 -- A value that the engine made of the regular expression of parts returns the captures of their
--- first way. Premises: `Keeps` holds of the flags and `Fits` of the expression, and custom
--- expressions stand alone and capture nothing themselves.
-abbrev pub ValuesReturnFirstOfParts : {E : Type 0} → Engine E → Keeping → RegexpCondition → Type 0
-ValuesReturnFirstOfParts {E} engine Keeps Fits =
+-- first way. Premises: `Keeps` holds of the flags, and custom expressions stand alone and capture
+-- nothing themselves.
+abbrev pub ValuesReturnFirstOfParts : {E : Type 0} → Engine E → Keeping → Type 0
+ValuesReturnFirstOfParts {E} engine Keeps =
     (options : OptionsView) (flags : List ℕ) (parts : List PartView) (value : E) → Keeps flags →
-    AllStandAlone parts → AllCaptureNothing parts → Fits (regexp_text options parts) →
+    AllStandAlone parts → AllCaptureNothing parts →
     engine.IsMade value (regexp_text options parts) flags →
     (text : List ℕ) → IsTrue (all_scalars text)
     → engine.answer value text ≡ parts_first_way options parts text
 
 -- A matcher made of parts returns the captures of their first way for each text without line feeds.
 -- Premises: `HasMatcherPremises`, and custom expressions capture nothing themselves.
-abbrev pub MatchersReturnFirstOfParts : {E : Type 0} → Engine E → RegexpCondition → Acceptance E
-    → Type 0
-MatchersReturnFirstOfParts {E} engine Fits Accepted =
+abbrev pub MatchersReturnFirstOfParts : {E : Type 0} → Engine E → Acceptance E → Type 0
+MatchersReturnFirstOfParts {E} engine Accepted =
     (options : OptionsView) (flags : List ℕ) (parts : List PartView) (matcher : MatcherView E) →
-    HasMatcherPremises engine Fits Accepted options flags parts matcher → AllCaptureNothing parts →
+    HasMatcherPremises engine Accepted options flags parts matcher → AllCaptureNothing parts →
     EachResultIs engine.answer matcher (λ text result. result ≡ parts_first_way options parts text)
 
 -- The matcher of a component made of parts returns the captures of their first way for each text
 -- without line feeds. Premises: custom expressions stand alone and capture nothing themselves,
--- `Fits` holds of the regular expression, case is kept, and the engine, where one is needed,
--- accepted its expression.
-abbrev pub ComponentsReturnFirstOfParts : {E : Type 0} → Engine E → RegexpCondition → Type 0
-ComponentsReturnFirstOfParts {E} engine Fits =
+-- case is kept, and the engine, where one is needed, accepted its expression.
+abbrev pub ComponentsReturnFirstOfParts : {E : Type 0} → Engine E → Type 0
+ComponentsReturnFirstOfParts {E} engine =
     (options : OptionsView) (parts : List PartView) (component : ComponentView E)
     → IsComponentOf engine options parts component
     →
-    AllStandAlone parts → AllCaptureNothing parts → Fits (regexp_text options parts) →
+    AllStandAlone parts → AllCaptureNothing parts →
     options.ignore_case ≡ false → AcceptedText (λ value. ⊤) component.matcher.inner →
     EachResultIs engine.answer component.matcher (λ text result.
     result ≡ parts_first_way options parts text)

@@ -1,12 +1,11 @@
+pub mod CanonicalLaws
 pub mod Folded
+pub mod FoldedPatterns
 pub mod LinkLaws
 pub mod MatchLinks
 pub mod Outcomes
 pub mod PatternLaws
-pub mod Expressions
-pub mod MatchedPartTexts
-pub mod PartCaptures
-pub mod PartWays
 pub mod LawsOfTexts
 pub mod LawsOfWays
 pub mod PartReadings
+pub mod OwnGroups

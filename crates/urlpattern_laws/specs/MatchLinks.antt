@@ -2,12 +2,15 @@
 -- `answer` is what a value of an engine returns for a text.
 use Rattle.std.specs.Prelude.{◌≡◌, ◌≢◌, ℕ, AllPairs, List, Option, Some, map}
 use Rattle.std.specs.{Borrow.Bor, Map.keys_of}
-use Rattle.url.specs.Parts.{Parts}
+use Rattle.url.specs.{Parser.Parsed, Parts.Parts}
 use Rattle.urlpattern_matcher.specs.Components.{ComponentView}
 use Rattle.urlpattern_compile.specs.Compiled.{AreCompiled}
 use Rattle.urlpattern_matcher.specs.declared.regexp.RegExp.{Ghosts as Engine}
 use Rattle.urlpattern_generate.specs.WriteSettings.{GivenView, WriteSettings, given_groups, text_given}
+use Rattle.urlpattern_compare.specs.Comparing.{IsKnown}
 use Rattle.urlpattern_init.specs.Inheritance.{texts_of_url}
+use Rattle.urlpattern_init.specs.UrlTexts.{IsLine}
+use Rattle.urlpattern_init.specs.declared.init.UrlPatternInit.{UrlPatternInit}
 use Rattle.urlpattern_inputs.specs.declared.options.UrlPatternOptions.{UrlPatternOptions}
 use Rattle.urlpattern_laws.specs.LinkLaws.{AreCanonical, OfItsParts}
 use Rattle.urlpattern_generate.specs.LawsOfLinks.{HavePlainTexts}
@@ -17,13 +20,16 @@ use Rattle.urlpattern_matches.specs.declared.captures.UrlPatternCaptures.{UrlPat
 use Rattle.urlpattern_matches.specs.declared.result.UrlPatternResult.{UrlPatternResult}
 use Rattle.urlpattern_meaning.specs.Matching.{Returns}
 use Rattle.urlpattern_meaning.specs.PartMeaning.{Captures, PartsMean}
+use Rattle.urlpattern_pattern.specs.ComponentTexts.{settings_in}
+use Rattle.urlpattern_pattern.specs.KeptParts.{KeepsPartsOf}
 use Rattle.urlpattern_pattern.specs.LinkedUrls.{IsLink}
 use Rattle.urlpattern_pattern.specs.Match.{AreGroupsInOrder, IsMatchOf}
 use Rattle.urlpattern_pattern.specs.Patterns.{PatternView, pattern_view}
 use Rattle.urlpattern_pattern.specs.UrlPatterns.{UrlPattern}
 use Rattle.urlpattern_components.specs.declared.eight.ComponentName.{ComponentName}
 use Rattle.urlpattern_components.specs.Eight.{Texts, Values, at, components}
-use Rattle.urlpattern_syntax.specs.{Parts.PartView, RegexpText.group_names}
+use Rattle.urlpattern_syntax.specs.{ComponentParts.kept_parts, Parts.PartView, RegexpText.group_names}
+use Rattle.urlpattern_syntax.specs.declared.parts.ComponentParts.{ComponentParts}
 
 -- ---- the groups of a match
 
@@ -109,6 +115,37 @@ LinksOfMatchesAreTheTexts {E} answer =
     →
     ((component : ComponentName)
     → TextIsWritableFromMatch answer pattern groups component (at texts component)
+    (found.captures component))
+    →
+    texts_of_url url ≡ texts
+
+-- ---- links of compiled patterns
+
+-- The premises for a component of a compiled pattern: the meaning of its parts is known, no fixed
+-- text of them has a modifier, the text is a line, and each captured text is its own canonical
+-- form.
+pub record IsWritableFromParts (component : ComponentParts)
+    (canonical : List ℕ → Parsed (List ℕ)) (text : List ℕ) (captures : Captures) : Type 0 where
+  pub known : IsKnown component
+  pub plain : HavePlainTexts (kept_parts component)
+  pub line : IsLine text
+  pub are_canonical : AreCanonical canonical captures
+
+-- A link with the groups of a match of eight texts by a compiled pattern has these texts, if
+-- `IsWritableFromParts` holds of each component.
+abbrev pub LinksOfCompiledMatchesAreTheTexts : {E : Type 0} → Engine E → Type 0
+LinksOfCompiledMatchesAreTheTexts {E} engine =
+    (init : UrlPatternInit) (asked : UrlPatternOptions) (pattern : UrlPattern E)
+    (kept : KeepsPartsOf engine init asked pattern)
+    (groups : List GivenView) (url : Parts) (texts : Texts) (result : ComponentName → ResultView)
+    →
+    IsLink engine.answer pattern groups url
+    → (found : IsMatchOf engine.answer (pattern_view pattern) texts result)
+    → AreGroupsOfResult result groups
+    →
+    ((component : ComponentName)
+    → IsWritableFromParts (at kept.parts.components component)
+    (settings_in kept.parts groups component).canonical (at texts component)
     (found.captures component))
     →
     texts_of_url url ≡ texts

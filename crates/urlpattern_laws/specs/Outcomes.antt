@@ -1,12 +1,11 @@
 -- Statements of the laws on the outcomes of an init: a pattern, or an error.
-use Rattle.std.specs.Prelude.{◌≡◌, ◌≢◌, ◌⊎◌, ℕ, Bool, false, List, ◌++◌, Result, Ok, Err}
+use Rattle.std.specs.Prelude.{◌≡◌, ◌≢◌, ℕ, Bool, false, List, ◌++◌, Ok, Err}
 use Rattle.url.specs.declared.error.ParseError.TheVariants.{Overflow}
 use Rattle.urlpattern_matcher.specs.Components.{ComponentView, IsEngineOf, IsWholeEngineOf, engine_flags, has_regexp}
 use Rattle.urlpattern_matcher.specs.declared.regexp.RegExp.{Ghosts as Engine}
 use Rattle.urlpattern_init.specs.SpecialProtocol.{AcceptsSpecialScheme}
 use Rattle.urlpattern_init.specs.declared.init.UrlPatternInit.{UrlPatternInit}
 use Rattle.urlpattern_inputs.specs.declared.options.UrlPatternOptions.{UrlPatternOptions}
-use Rattle.urlpattern_meaning.specs.Laws.{HasRequestedResults}
 use Rattle.urlpattern_components.specs.declared.eight.ComponentName.{ComponentName}
 use Rattle.urlpattern_components.specs.declared.eight.ComponentName.TheVariants.{Protocol}
 use Rattle.urlpattern_components.specs.Eight.{Values}
@@ -15,7 +14,7 @@ use Rattle.urlpattern_syntax.specs.Parts.{PartView}
 use Rattle.urlpattern_syntax.specs.Reading.{Encoding}
 use Rattle.urlpattern_syntax.specs.RegexpText.{regexp_text}
 use Rattle.urlpattern_pattern.specs.{ByText.MakesFirstWays, ByText.ReadsNoCustom, MatchMeaning.ReadsAs, Patterns.PatternView}
-use Rattle.urlpattern_compile.specs.Compiled.{IsComponentCompiled, IsPatternOfInit, ParseSettings, RejectsInit, canonical_encoding, settings_of, pattern_values}
+use Rattle.urlpattern_compile.specs.Compiled.{IsComponentCompiled, IsPatternOfInit, ParseSettings, RejectsInit, settings_of, pattern_values}
 
 -- ---- errors
 
@@ -125,39 +124,8 @@ InitRejectionsAreOne engine =
     →
     RejectsInit engine init asked error → RejectsInit engine init asked other → error ≡ other
 
--- ---- an outcome exists
+-- ---- values
 
 -- Processed as a pattern, each init has values: none of its texts is rejected.
 abbrev pub InitsHaveValues : Type 0
 InitsHaveValues = (init : UrlPatternInit) → (values : Values) × (pattern_values init ≡ Ok values)
-
--- When the pattern texts of these values are parsed, `url` has a result for each text that it is
--- called with, other than out of memory and a text too long for it.
-abbrev pub UrlHasResults : UrlPatternOptions → Values → Type 0
-UrlHasResults asked values = (hierarchical : Bool) (component : ComponentName) →
-    let settings = settings_of asked values hierarchical component in
-    HasRequestedResults settings.text settings.options
-    (of_texts (canonical_encoding settings.canonical))
-
--- For any parts in a row, of those to which a pattern text of these values is parsed, the engine
--- makes a value of their regular expression, or may reject it.
-abbrev pub EngineHasResults : {E : Type 0} → Engine E → UrlPatternOptions → Values → Type 0
-EngineHasResults {E} engine asked values =
-    (hierarchical : Bool) (component : ComponentName) (parts before middle after : List PartView) →
-    let settings = settings_of asked values hierarchical component in
-    ReadsAs settings parts → parts ≡ before ++ middle ++ after →
-    (made : Result E ErrorView)
-    × IsEngineOf engine false (engine_flags settings.options)
-    (regexp_text settings.options middle) made
-
--- An init is compiled to a pattern, or it is rejected with an error as in `IsOfTexts`, if the
--- engine and `url` have results.
-abbrev pub InitsHaveOutcomes : {E : Type 0} → Engine E → Type 0
-InitsHaveOutcomes {E} engine =
-    (init : UrlPatternInit) (asked : UrlPatternOptions) (values : Values) →
-    pattern_values init ≡ Ok values
-    → EngineHasResults engine asked values
-    → UrlHasResults asked values
-    →
-    ((pattern : PatternView E) × IsPatternOfInit engine init asked pattern)
-    ⊎ ((error : ErrorView) × IsOfTexts error × RejectsInit engine init asked error)

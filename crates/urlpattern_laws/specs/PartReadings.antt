@@ -1,6 +1,6 @@
 -- The parts of a pattern, and what the pattern matches. `answer` is what a value of an engine
 -- returns for a text; a line is a text without line feeds.
-use Rattle.std.specs.Prelude.{◌↔◌, ◌⊎◌, ℕ, List, Option, String}
+use Rattle.std.specs.Prelude.{◌≡◌, ◌↔◌, ◌⊎◌, ℕ, List, MatchOption, Option, String}
 use Rattle.std.specs.declared.alloc.Global.{Global}
 use Rattle.urlpattern_matcher.specs.declared.regexp.RegExp.{Ghosts as Engine}
 use Rattle.urlpattern_init.specs.UrlTexts.{EachIsLine, IsLine}
@@ -11,12 +11,13 @@ use Rattle.urlpattern_meaning.specs.Matching.{IsMatched, MatcherView}
 use Rattle.urlpattern_meaning.specs.PartMeaning.{Captures}
 use Rattle.urlpattern_pattern.specs.{ByText.ReturnsByItsText, KeptParts.KeepsPartsOf, Match.AreMatched, Patterns.PatternView, Patterns.pattern_view}
 use Rattle.urlpattern_pattern.specs.UrlPatterns.{AreMadeOfParts, UrlPattern}
-use Rattle.urlpattern_compare.specs.Comparing.{AreApart, AreSame, IsCovered, IsKnown, IsParting, MeansAllOf, MeansEach, MeansIn, MatchesEveryLine, MatchesNoLine}
+use Rattle.urlpattern_compare.specs.Comparing.{AreApart, AreSame, IsCovered, IsKnown, IsParting, IsPatternOverlap, MeansAllOf, MeansIn, MatchesEveryLine, MatchesNoLine}
 use Rattle.urlpattern_compare.specs.declared.pattern_parts.{Parting.Parting, PatternParts.PatternParts}
+use Rattle.urlpattern_compare.specs.declared.pattern_parts.PatternOverlap.TheVariants.{Common}
 use Rattle.urlpattern_syntax.specs.declared.parts.ComponentParts.{ComponentParts}
 use Rattle.urlpattern_components.specs.declared.eight.ComponentName.{ComponentName}
 use Rattle.urlpattern_components.specs.declared.eight.Eight.{Eight}
-use Rattle.urlpattern_components.specs.Eight.{Texts, at, each}
+use Rattle.urlpattern_components.specs.Eight.{Texts, at}
 use Rattle.urlpattern_syntax.specs.Text.{text_of}
 
 -- ---- matching
@@ -28,10 +29,6 @@ abbrev pub AreItsParts : {E : Type 0} → (answer : E → List ℕ → Option Ca
 AreItsParts answer pattern parts =
     (name : ComponentName) → IsKnown (at parts.components name) → (text : List ℕ) → IsLine text →
     IsMatched answer (pattern name).matcher text ↔ MeansIn (at parts.components name) text
-
--- The characters of eight texts.
-abbrev pub eight_texts : Eight (String Global) → Texts
-eight_texts texts = each (λ name. text_of (at texts name))
 
 -- ---- laws
 
@@ -133,25 +130,42 @@ CoveredByEngineAreMatched {E} engine =
     IsCovered parts asked_parts → (texts : Texts) → EachIsLine texts
     → AreMatched engine.answer asked texts → AreMatched engine.answer pattern texts
 
--- The eight texts of a `Parting` show that `pattern` does not cover `asked`: `asked` matches them,
--- and `pattern` does not match the text of the parting's component.
+-- `texts` are the texts of `found`, where these are known, and texts that `pattern` matches in the
+-- other components.
+abbrev pub AreTextsWith : {E : Type 0} → (answer : E → List ℕ → Option Captures) → PatternView E
+    → (found : Eight (Option (String Global))) → Texts → Type 0
+AreTextsWith answer pattern found texts =
+    (name : ComponentName)
+    → MatchOption (at found name) (IsMatched answer (pattern name).matcher (at texts name))
+    (λ text. at texts name ≡ text_of text)
+
+-- The texts of a `Parting` show that `pattern` does not cover `asked`: `asked` matches them, with
+-- any texts that it matches in the components without a known text, and `pattern` does not match
+-- the text of the parting's component.
 abbrev pub PartingsAreMatched : {E : Type 0} → (answer : E → List ℕ → Option Captures) → Type 0
 PartingsAreMatched {E} answer =
     (pattern asked : PatternView E) (parts asked_parts : PatternParts) (parting : Parting)
     → AreItsParts answer pattern parts
     →
     AreItsParts answer asked asked_parts → IsParting parts asked_parts parting →
-    AreMatched answer asked (eight_texts parting.texts)
-    × ¬ IsMatched answer (pattern parting.component).matcher
-    (at (eight_texts parting.texts) parting.component)
+    (texts : Texts) → AreTextsWith answer asked parting.texts texts →
+    AreMatched answer asked texts
+    × ¬ IsMatched answer (pattern parting.component).matcher (at texts parting.component)
 
--- A pattern matches eight lines that its parts mean.
+-- Two patterns match the common texts that are found by their parts, with any texts that `pattern`
+-- matches in the components without a known text, if `SameAreMatched` holds of components with
+-- equal parts.
 abbrev pub CommonAreMatched : {E : Type 0} → (answer : E → List ℕ → Option Captures) → Type 0
 CommonAreMatched {E} answer =
-    (pattern : PatternView E) (parts : PatternParts) (texts : Eight (String Global))
+    (pattern other : PatternView E) (parts other_parts : PatternParts)
+    (found : Eight (Option (String Global)))
     → AreItsParts answer pattern parts
     →
-    MeansEach parts texts → AreMatched answer pattern (eight_texts texts)
+    AreItsParts answer other other_parts →
+    SameAreMatched answer other pattern other_parts parts →
+    IsPatternOverlap parts other_parts (Common found) →
+    (texts : Texts) → EachIsLine texts → AreTextsWith answer pattern found texts →
+    AreMatched answer pattern texts × AreMatched answer other texts
 
 -- If the parts of a component are apart, meaning no common line, no eight lines are matched by both
 -- patterns.

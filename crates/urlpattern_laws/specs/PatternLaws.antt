@@ -1,6 +1,6 @@
 -- Statements of the laws of whole patterns. `answer` is what a value of an engine returns for a
 -- text.
-use Rattle.std.specs.Prelude.{◌≡◌, ◌↔◌, ℕ, List, Ok, Option}
+use Rattle.std.specs.Prelude.{◌≡◌, ◌↔◌, ℕ, Bool, List, Ok, Option}
 use Rattle.regex.specs.declared.string.regex.Regex.{Regex}
 use Rattle.urlpattern_matcher.specs.declared.regexp.RegExp.{Ghosts as Engine}
 use Rattle.urlpattern_matcher.specs.Regexes.{regex_engine}
@@ -10,10 +10,11 @@ use Rattle.urlpattern_inputs.specs.declared.options.UrlPatternOptions.{UrlPatter
 use Rattle.urlpattern_components.specs.declared.eight.ComponentName.{ComponentName}
 use Rattle.urlpattern_components.specs.Eight.{Texts, Values, at}
 use Rattle.urlpattern_compile.specs.Compiled.{AreCompiled, ParseSettings, settings_of}
-use Rattle.urlpattern_pattern.specs.Match.{HasMatch, HasNoMatch, IsLongInput, IsMatch}
+use Rattle.urlpattern_pattern.specs.Match.{HasMatch, HasNoMatch, IsLongInput, IsMatch, TestsInput}
 use Rattle.urlpattern_matches.specs.ResultViews.{IsSameResult, ResultView}
 use Rattle.urlpattern_matches.specs.MatchInput.{input_texts}
 use Rattle.urlpattern_pattern.specs.ByText.{IsFirstResult}
+use Rattle.urlpattern_pattern.specs.ByTextLaws.{IsSameFinding}
 use Rattle.urlpattern_pattern.specs.Patterns.{PatternView}
 use Rattle.urlpattern_pattern.specs.MatchMeaning.{IsExecuted, IsFoundByMeaning, MeaningPremises, RegexPremises}
 
@@ -47,6 +48,34 @@ MatchesAreOne {E} answer =
     →
     IsMatch answer pattern input result → IsMatch answer pattern input other →
     (component : ComponentName) → IsSameResult (result component) (other component)
+
+-- Any two results of `exec` for inputs with equal texts are equal, such as an init and the URL with
+-- its texts. Premise: no text of an input is longer than `url` is certain to accept.
+abbrev pub EqualTextsHaveEqualResults : {E : Type 0} → (answer : E → List ℕ → Option Captures)
+    → Type 0
+EqualTextsHaveEqualResults {E} answer =
+    (pattern : PatternView E) (input other : UrlPatternMatchInput) (texts : Texts)
+    (found also : Option (ComponentName → ResultView))
+    → input_texts input ≡ Ok texts
+    → input_texts other ≡ Ok texts
+    →
+    ¬ IsLongInput input → ¬ IsLongInput other → IsExecuted answer pattern input found
+    → IsExecuted answer pattern other also
+    → IsSameFinding found also
+
+-- Any two tests of inputs with equal texts are equal. Premise: no text of an input is longer than
+-- `url` is certain to accept.
+abbrev pub EqualTextsHaveEqualTests : {E : Type 0} → (answer : E → List ℕ → Option Captures)
+    → Type 0
+EqualTextsHaveEqualTests {E} answer =
+    (pattern : PatternView E) (input other : UrlPatternMatchInput) (texts : Texts)
+    (matched also : Bool)
+    → input_texts input ≡ Ok texts
+    → input_texts other ≡ Ok texts
+    →
+    ¬ IsLongInput input → ¬ IsLongInput other → TestsInput answer pattern input matched
+    → TestsInput answer pattern other also
+    → matched ≡ also
 
 -- With a match a test is not false (`HasNoMatch`), unless a text of the input is longer than `url`
 -- is certain to accept.

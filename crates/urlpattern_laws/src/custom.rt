@@ -9,9 +9,11 @@
 ghost use Rattle.std.specs.Prelude.{⊤};
 ghost use Rattle.urlpattern_matcher.specs.Regexes.{regex_engine};
 ghost use Rattle.urlpattern_matcher.specs.FirstWays.{KeepsCase};
-ghost use Rattle.urlpattern_laws.specs.LawsOfTexts.{CapturesAreAsNames, ComponentsCapture, HasNumbers, MatchersReturnIfMatched, MatchersCapture, PartsCaptureMeanings, PartsMatchMeanings, ReadsInGroups, AcceptedAlone, ValuesReturnIfMatched, ValuesCapture};
+ghost use Rattle.urlpattern_laws.specs.LawsOfTexts.{CapturesAreAsNames, ComponentsCapture, MatchersReturnIfMatched, MatchersCapture, PartsCaptureMeanings, PartsMatchMeanings, ReadsInGroups, ValuesReturnIfMatched, ValuesCapture};
 ghost use Rattle.urlpattern_laws.specs.LawsOfWays.{ComponentsReturnFirstOfParts, FirstWaysAreCaptured, FirstWaysAreOfTrees, MatchersReturnFirstOfParts, ValuesReturnFirstOfParts};
+ghost use Rattle.urlpattern_laws.specs.OwnGroups.{ComponentsCaptureByGroups};
 ghost use Rattle.urlpattern_engine.specs.PatternRegexps.{pattern_engine};
+ghost use Rattle.urlpattern_pattern.specs.ByText.{AcceptedAlone};
 ghost use Rattle.urlpattern_meaning.specs.FirstResults.{AcceptedText};
 
 /// The grammar of the crate `regex` composes. In a group, with any text before and after, it reads
@@ -39,11 +41,11 @@ pub fn parts_take_the_texts_that_they_mean()
 /// matches by itself.
 ///
 /// Premises: each custom expression stands alone, as `expressions_are_read_in_groups` says. For
-/// `PatternRegexp`: the flag `i` is not set, and the regular expression has at most 2³² characters.
+/// `PatternRegexp`, the flag `i` is not set.
 #[tactic(auto, using(crate::proofs::ValuesTaken::pattern_values_taken, crate::proofs::ValuesTaken::regex_values_taken))]
 pub fn values_answer_the_texts_that_parts_take()
-    ensures own { ValuesReturnIfMatched pattern_engine KeepsCase HasNumbers }
-    ensures regex { ValuesReturnIfMatched regex_engine (λ flags. ⊤) (λ regexp. ⊤) }
+    ensures own { ValuesReturnIfMatched pattern_engine KeepsCase }
+    ensures regex { ValuesReturnIfMatched regex_engine (λ flags. ⊤) }
 {}
 
 /// A matcher returns captures for a text without line feeds exactly if its parts, custom ones
@@ -51,10 +53,10 @@ pub fn values_answer_the_texts_that_parts_take()
 ///
 /// Premises: each custom expression stands alone, as `expressions_are_read_in_groups` says; case is
 /// kept; and the engine, where one is needed, accepted its regular expression. For `PatternRegexp`,
-/// the flags keep case too, and the regular expression has at most 2³² characters.
+/// the flags keep case too.
 pub fn matchers_answer_the_texts_that_parts_take()
-    ensures own { MatchersReturnIfMatched pattern_engine HasNumbers AcceptedAlone }
-    ensures regex { MatchersReturnIfMatched regex_engine (λ regexp. ⊤) (λ options flags.
+    ensures own { MatchersReturnIfMatched pattern_engine AcceptedAlone }
+    ensures regex { MatchersReturnIfMatched regex_engine (λ options flags.
         AcceptedText (λ value. ⊤)) }
 {}
 
@@ -63,12 +65,11 @@ pub fn matchers_answer_the_texts_that_parts_take()
 /// captures its copies without the first prefix and the last suffix, as any group does.
 ///
 /// Premises: each custom expression stands alone, as `expressions_are_read_in_groups` says, and
-/// captures nothing itself. For `PatternRegexp`: the flag `i` is not set, and the regular
-/// expression has at most 2³² characters.
+/// captures nothing itself. For `PatternRegexp`, the flag `i` is not set.
 #[tactic(auto, using(crate::proofs::ValuesTaken::pattern_values_capture, crate::proofs::ValuesTaken::regex_values_capture))]
 pub fn values_answer_what_parts_capture()
-    ensures own { ValuesCapture pattern_engine KeepsCase HasNumbers }
-    ensures regex { ValuesCapture regex_engine (λ flags. ⊤) (λ regexp. ⊤) }
+    ensures own { ValuesCapture pattern_engine KeepsCase }
+    ensures regex { ValuesCapture regex_engine (λ flags. ⊤) }
 {}
 
 /// A matcher returns captures that its parts, custom ones included, have in a text without line
@@ -76,11 +77,10 @@ pub fn values_answer_what_parts_capture()
 ///
 /// Premises: each custom expression stands alone, as `expressions_are_read_in_groups` says, and
 /// captures nothing itself; case is kept; and the engine, where one is needed, accepted its regular
-/// expression. For `PatternRegexp`, the flags keep case too, and the regular expression has at most
-/// 2³² characters.
+/// expression. For `PatternRegexp`, the flags keep case too.
 pub fn matchers_answer_what_parts_capture()
-    ensures own { MatchersCapture pattern_engine HasNumbers AcceptedAlone }
-    ensures regex { MatchersCapture regex_engine (λ regexp. ⊤) (λ options flags.
+    ensures own { MatchersCapture pattern_engine AcceptedAlone }
+    ensures regex { MatchersCapture regex_engine (λ options flags.
         AcceptedText (λ value. ⊤)) }
 {}
 
@@ -90,11 +90,11 @@ pub fn matchers_answer_what_parts_capture()
 ///
 /// Premises: each custom expression stands alone, as `expressions_are_read_in_groups` says, and
 /// captures nothing itself; case is kept; and the engine, where one is needed, accepted its regular
-/// expression. For `PatternRegexp`, the regular expression has at most 2³² characters.
+/// expression.
 pub fn components_answer_what_parts_capture()
     ensures names { CapturesAreAsNames }
-    ensures own { ComponentsCapture pattern_engine HasNumbers }
-    ensures regex { ComponentsCapture regex_engine (λ regexp. ⊤) }
+    ensures own { ComponentsCapture pattern_engine }
+    ensures regex { ComponentsCapture regex_engine }
 {}
 
 /// A value that an engine made of the regular expression of parts returns the captures of the first
@@ -104,14 +104,13 @@ pub fn components_answer_what_parts_capture()
 /// captures that the parts have in the text (`PartsCapture`).
 ///
 /// Premises: each custom expression stands alone, as `expressions_are_read_in_groups` says, and
-/// captures nothing itself. For `PatternRegexp`: the flag `i` is not set, and the regular
-/// expression has at most 2³² characters.
+/// captures nothing itself. For `PatternRegexp`, the flag `i` is not set.
 #[tactic(auto, using(crate::proofs::CustomLaws::first_ways))]
 pub fn values_answer_the_first_way_of_parts()
     ensures trees { FirstWaysAreOfTrees }
     ensures captured { FirstWaysAreCaptured }
-    ensures own { ValuesReturnFirstOfParts pattern_engine KeepsCase HasNumbers }
-    ensures regex { ValuesReturnFirstOfParts regex_engine (λ flags. ⊤) (λ regexp. ⊤) }
+    ensures own { ValuesReturnFirstOfParts pattern_engine KeepsCase }
+    ensures regex { ValuesReturnFirstOfParts regex_engine (λ flags. ⊤) }
 {}
 
 /// A matcher returns the captures of the first way in which its parts match the whole of a text
@@ -119,11 +118,10 @@ pub fn values_answer_the_first_way_of_parts()
 ///
 /// Premises: each custom expression stands alone, as `expressions_are_read_in_groups` says, and
 /// captures nothing itself; case is kept; and the engine, where one is needed, accepted its regular
-/// expression. For `PatternRegexp`, the flags keep case too, and the regular expression has at most
-/// 2³² characters.
+/// expression. For `PatternRegexp`, the flags keep case too.
 pub fn matchers_answer_the_first_way_of_parts()
-    ensures own { MatchersReturnFirstOfParts pattern_engine HasNumbers AcceptedAlone }
-    ensures regex { MatchersReturnFirstOfParts regex_engine (λ regexp. ⊤) (λ options flags.
+    ensures own { MatchersReturnFirstOfParts pattern_engine AcceptedAlone }
+    ensures regex { MatchersReturnFirstOfParts regex_engine (λ options flags.
         AcceptedText (λ value. ⊤)) }
 {}
 
@@ -133,8 +131,20 @@ pub fn matchers_answer_the_first_way_of_parts()
 ///
 /// Premises: each custom expression stands alone, as `expressions_are_read_in_groups` says, and
 /// captures nothing itself; case is kept; and the engine, where one is needed, accepted its regular
-/// expression. For `PatternRegexp`, the regular expression has at most 2³² characters.
+/// expression.
 pub fn components_answer_the_first_way_of_parts()
-    ensures own { ComponentsReturnFirstOfParts pattern_engine HasNumbers }
-    ensures regex { ComponentsReturnFirstOfParts regex_engine (λ regexp. ⊤) }
+    ensures own { ComponentsReturnFirstOfParts pattern_engine }
+    ensures regex { ComponentsReturnFirstOfParts regex_engine }
+{}
+
+/// A compiled component captures what the groups of its expression do, in the order in which the
+/// groups begin. A custom expression with a group of its own, as `(?P<x>..)`, adds a capture, and
+/// the names of the parts after it are shifted, since names are beside captures in order: of
+/// `/:a((?P<x>x)?y)/:b` and `/xy/1`, `b` is `x`.
+///
+/// Premises: the matcher has an engine, as each with a custom part has; case is kept; and the text
+/// has no line feed.
+pub fn components_capture_by_groups()
+    ensures own { ComponentsCaptureByGroups pattern_engine }
+    ensures regex { ComponentsCaptureByGroups regex_engine }
 {}

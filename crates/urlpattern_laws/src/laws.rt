@@ -6,11 +6,15 @@
 ghost use Rattle.std.specs.Prelude.{⊤, ℕ, List, Option};
 ghost use Rattle.urlpattern_pattern.specs.ByText.{MakesFirstWays};
 ghost use Rattle.urlpattern_engine.specs.EcmaRegexps.{KeepsRegex, ecma_engine};
-ghost use Rattle.urlpattern_laws.specs.PatternLaws.{ResultsMeanTheParts, FirstResultsAreOne, MatchesAreOne, RegexMeetsPremises, RegexResultsAreFirst, TestsAgree, TestsAreOne};
+ghost use Rattle.urlpattern_laws.specs.PatternLaws.{EqualTextsHaveEqualResults, EqualTextsHaveEqualTests, ResultsMeanTheParts, FirstResultsAreOne, MatchesAreOne, RegexMeetsPremises, RegexResultsAreFirst, TestsAgree, TestsAreOne};
+ghost use Rattle.urlpattern_canonical.specs.Canonical.{canonical_hash, canonical_password, canonical_search, canonical_username};
+ghost use Rattle.urlpattern_laws.specs.CanonicalLaws.{AreCanonicalAgain};
 ghost use Rattle.urlpattern_laws.specs.Folded.{FoldedFirstsAreReturned, FoldedWaysAreReturned};
+ghost use Rattle.urlpattern_laws.specs.FoldedPatterns.{FindingsAreByCase, FindingsByCaseAreOne, InputFindingsAreByCase};
 ghost use Rattle.urlpattern_laws.specs.LinkLaws.{LinksAreOne, LinksDiffer, LinksOfCapturesAreTheTexts};
-ghost use Rattle.urlpattern_laws.specs.MatchLinks.{GroupsOfCapturesAreGiven, GroupsOfMatchesDiffer, GroupsOfResultsAreGiven, LinksOfMatchesAreTheTexts};
-ghost use Rattle.urlpattern_laws.specs.Outcomes.{DecidesGenerated, FirstWaysDecide, InitRejectionsAreOne, InitsHaveOutcomes, InitsHaveValues, PatternsExcludeRejections};
+ghost use Rattle.urlpattern_laws.specs.MatchLinks.{GroupsOfCapturesAreGiven, GroupsOfMatchesDiffer, GroupsOfResultsAreGiven, LinksOfCompiledMatchesAreTheTexts, LinksOfMatchesAreTheTexts};
+ghost use Rattle.urlpattern_laws.specs.Outcomes.{DecidesGenerated, FirstWaysDecide, InitRejectionsAreOne, InitsHaveValues, PatternsExcludeRejections};
+ghost use Rattle.urlpattern_pattern.specs.KeptMeanings.{KeptMeaningsAreOfTexts};
 ghost use Rattle.urlpattern_pattern.specs.ByTextLaws.{CompiledHaveMeaning, FindingsAreByText, FindingsAreOne, InputFindingsAreByText, PatternsReturnAlike, PatternsReturnByText, ReadingsAsAreOne, AcceptedPatternsReturnByText};
 ghost use Rattle.urlpattern_matcher.specs.FirstWays.{EachReturnsFirst};
 ghost use Rattle.urlpattern_matcher.specs.Regexes.{regex_engine};
@@ -20,10 +24,11 @@ ghost use Rattle.urlpattern_meaning.specs.PartMeaning.{Captures};
 
 pub use crate::custom::{
     components_answer_the_first_way_of_parts, components_answer_what_parts_capture,
-    expressions_are_read_in_groups, matchers_answer_the_first_way_of_parts,
-    matchers_answer_the_texts_that_parts_take, matchers_answer_what_parts_capture,
-    parts_take_the_texts_that_they_mean, values_answer_the_first_way_of_parts,
-    values_answer_the_texts_that_parts_take, values_answer_what_parts_capture,
+    components_capture_by_groups, expressions_are_read_in_groups,
+    matchers_answer_the_first_way_of_parts, matchers_answer_the_texts_that_parts_take,
+    matchers_answer_what_parts_capture, parts_take_the_texts_that_they_mean,
+    values_answer_the_first_way_of_parts, values_answer_the_texts_that_parts_take,
+    values_answer_what_parts_capture,
 };
 pub use urlpattern_engine::expression_laws::{
     matchers_by_pattern_regexp_answer_the_first_way, pattern_regexps_answer_as_regex_does,
@@ -74,6 +79,26 @@ pub fn tests_agree_with_matches<E>()
     ensures not_both { (answer : E → List ℕ → Option Captures) → TestsAreOne answer }
 {}
 
+/// What is found in an input depends on the input by its eight texts alone. For inputs with equal
+/// texts, such as an init and the URL with its texts, any two results are equal, and any two tests.
+///
+/// Premise: no text of the inputs is longer than `url` is certain to accept. A URL meets it.
+pub fn equal_texts_are_matched_alike<E>()
+    ensures results { (answer : E → List ℕ → Option Captures) → EqualTextsHaveEqualResults answer }
+    ensures tests { (answer : E → List ℕ → Option Captures) → EqualTextsHaveEqualTests answer }
+{}
+
+/// A canonical user name, password, search or hash is its own canonical form.
+///
+/// Nothing is said of protocols, hostnames, ports and pathnames. Of an init, `?` at the start of
+/// the search and `#` at the start of the hash are removed before the value is made canonical.
+pub fn canonical_values_are_canonical_again()
+    ensures username { AreCanonicalAgain canonical_username }
+    ensures password { AreCanonicalAgain canonical_password }
+    ensures search { AreCanonicalAgain canonical_search }
+    ensures hash { AreCanonicalAgain canonical_hash }
+{}
+
 /// A pattern compiled by `regex::Regex` meets the premise of `groups_mean_the_parts` on a
 /// component's engine, if the engine accepted its regular expression. In a match the groups of the
 /// component are the names of its parts with the captures of the first way, the first in which a
@@ -98,15 +123,18 @@ pub fn matchers_by_ecma_regexp_answer_the_first_way()
     ensures { EachReturnsFirst ecma_engine (λ options flags. AcceptedText KeepsRegex) }
 {}
 
-/// A compiled pattern matches by its pattern texts. Each component without a custom regular
-/// expression whose case is kept has the names of the parts of its pattern text, and returns for
-/// each text without line feeds the captures of the first way in which the parts match it. What is
-/// found in eight texts, or in an input that is not too long for `url`, is determined by the
-/// pattern texts, if each component is of this kind and each text is without line feed.
+/// A compiled pattern matches by its pattern texts. Each component that has a meaning, since its
+/// custom regular expressions are simple and its case is kept, has the names of the parts of its
+/// pattern text, and returns for each text without line feeds the captures of the first way in
+/// which the parts match it. What is found in eight texts, or in an input that is not too long for
+/// `url`, is determined by the pattern texts, if each component has a meaning and each text is
+/// without line feed.
 ///
-/// Premise: the engine, where a component of this kind needs one, accepted its regular expression,
-/// and its value returns the first way of the parts between prefix and suffix, which are left to
-/// it.
+/// Premise: the value of the engine, where a component that has a meaning needs one, returns the
+/// first way of the parts between prefix and suffix, which are left to it.
+///
+/// The parts that a compiled pattern keeps for a component have a meaning, as
+/// `UrlPattern::component_has_meaning` decides, exactly if the component's pattern text has one.
 pub fn patterns_answer_by_their_texts<R: RegExp>()
     ensures by_text { PatternsReturnByText R.RegExp }
     ensures found { FindingsAreByText R.answer }
@@ -114,29 +142,28 @@ pub fn patterns_answer_by_their_texts<R: RegExp>()
     ensures one { FindingsAreOne }
     ensures readings { ReadingsAsAreOne }
     ensures meaning { CompiledHaveMeaning R.RegExp }
+    ensures kept { KeptMeaningsAreOfTexts R.RegExp }
 {}
 
 /// Two patterns that are compiled from one init, over any engines, find equal results in eight
-/// texts, if both match by the init's pattern texts (`ReturnsByItsText`), no pattern text has a
-/// custom regular expression, case is kept, and no text has a line feed.
+/// texts, if both match by the init's pattern texts (`ReturnsByItsText`), each component has a
+/// meaning, and no text has a line feed.
 pub fn patterns_of_one_init_answer_alike<R: RegExp, S: RegExp>()
     ensures { PatternsReturnAlike R.answer S.answer }
 {}
 
 /// The premise on the engine under which patterns match by their pattern texts, for each of three
-/// engines. `PatternRegexp` meets it always; `regex::Regex` if it accepted the regular expressions
-/// of the components without a custom one; `EcmaRegexp` if it holds a `Regex` for these.
+/// engines. `PatternRegexp` and `regex::Regex` meet it always; `EcmaRegexp` if it holds a `Regex`
+/// for each component that has a meaning and needs an engine.
 pub fn patterns_by_these_engines_answer_by_their_texts()
     ensures pattern_regexp { MakesFirstWays pattern_engine }
-    ensures regex { AcceptedPatternsReturnByText regex_engine (AcceptedText (λ value. ⊤)) }
+    ensures regex { MakesFirstWays regex_engine }
     ensures ecma_regexp { AcceptedPatternsReturnByText ecma_engine (AcceptedText KeepsRegex) }
 {}
 
-/// An init has a single outcome: it is compiled to a pattern, or it is rejected with a single
-/// error. The outcome exists if `url` has a result for each text that it is called with, and the
-/// engine makes a value of each regular expression or may reject it. Processing an init as a
-/// pattern rejects no value. Two errors are left aside: out of memory, and a text too long for
-/// `url`.
+/// An init has at most one outcome: it is compiled to a pattern, or it is rejected with a single
+/// error, and never both. Processing an init as a pattern rejects no value. Two errors are left
+/// aside: out of memory, and a text too long for `url`.
 ///
 /// Premises: the engine does not both accept and reject a regular expression of a component's
 /// parts, or of some of them in a row; and any two matchers that it makes for the protocol accept a
@@ -147,7 +174,6 @@ pub fn inits_have_one_outcome<R: RegExp>()
     ensures not_both { PatternsExcludeRejections R.RegExp }
     ensures refusals { InitRejectionsAreOne R.RegExp }
     ensures values { InitsHaveValues }
-    ensures exist { InitsHaveOutcomes R.RegExp }
     ensures by_first_ways { FirstWaysDecide R.RegExp }
     ensures pattern_regexp { DecidesGenerated pattern_engine }
 {}
@@ -171,6 +197,21 @@ pub fn folded_ways_are_answered<R: RegExp>()
 /// In lower case, the captures are those of the first way.
 pub fn first_ways_are_answered_where_case_is_ignored()
     ensures { FoldedFirstsAreReturned pattern_engine }
+{}
+
+/// A compiled pattern over `PatternRegexp` matches by its pattern texts, also in components that
+/// ignore case. Each component without a custom regular expression, or, where case is kept, with
+/// simple ones, has the names of the parts of its pattern text, and for a text without line feeds
+/// the captures of the first way in which the parts match it: as `patterns_answer_by_their_texts`
+/// says if case is kept, and as `first_ways_are_answered_where_case_is_ignored` says if it is
+/// ignored. There is no match only if the parts of a component do not match its text.
+///
+/// What is found is determined by the pattern texts: exactly in a component that keeps case, and in
+/// lower case in one that ignores it.
+pub fn patterns_answer_by_their_texts_where_case_is_ignored()
+    ensures found { FindingsAreByCase pattern_engine }
+    ensures executed { InputFindingsAreByCase pattern_engine }
+    ensures one { FindingsByCaseAreOne }
 {}
 
 /// A pattern and groups have at most one link. Two links of a pattern whose groups are to capture
@@ -208,6 +249,11 @@ pub fn groups_of_matches_are_given<R: RegExp>()
 /// Premises, for each component: its names are those of its parts and differ; if its matcher
 /// returns these captures for its text, the parts mean the text with them; no fixed text has a
 /// modifier; and each captured text is its own canonical form.
+///
+/// A compiled pattern over `PatternRegexp` or `regex::Regex` meets the first two in a component
+/// without a custom part whose case is kept, for a text without line feeds.
 pub fn links_of_matches_are_the_texts<R: RegExp>()
-    ensures { LinksOfMatchesAreTheTexts R.answer }
+    ensures matches { LinksOfMatchesAreTheTexts R.answer }
+    ensures pattern_regexp { LinksOfCompiledMatchesAreTheTexts pattern_engine }
+    ensures regex { LinksOfCompiledMatchesAreTheTexts regex_engine }
 {}

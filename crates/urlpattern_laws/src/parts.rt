@@ -30,8 +30,9 @@ pub fn patterns_match_what_their_parts_mean_by_first_ways<R: RegExp>()
 {}
 
 /// A pattern that covers another by their parts matches any eight texts without line feeds that the
-/// other matches. A `Parting` of two patterns has eight texts that the other matches, and a
-/// component whose text the pattern does not match.
+/// other matches. A `Parting` of two patterns has texts that the other matches, with any texts that
+/// it matches in the components without a known text, and a component whose text the pattern does
+/// not match.
 ///
 /// Premises: each of the two patterns matches what its parts mean, where their meaning is known;
 /// and for components with equal parts whose meaning is not known, such as custom regular
@@ -63,10 +64,13 @@ pub fn covered_patterns_by_these_engines_match()
     ensures regex { CoveredByEngineAreMatched regex_engine }
 {}
 
-/// A pattern matches eight texts without line feeds that its parts mean, so each of two patterns
-/// matches the common texts that are found by their parts. If the parts of a component are apart,
-/// no eight texts without line feeds are matched by both patterns. Premise: each pattern matches
-/// what its parts mean, where their meaning is known.
+/// Each of two patterns matches the common texts that are found by their parts. In a component of
+/// which no text is known, since both have the same parts, they match any text without line feed
+/// that one of them matches. If the parts of a component are apart, no eight texts without line
+/// feeds are matched by both patterns.
+///
+/// Premise, for components with equal parts whose meaning is not known: the other pattern matches
+/// what this one matches, as for `covered_patterns_match`.
 pub fn overlapping_patterns_match<R: RegExp>()
     ensures common { CommonAreMatched R.answer }
     ensures apart { ApartMatchNothing R.answer }

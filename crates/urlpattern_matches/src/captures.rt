@@ -190,23 +190,6 @@ impl<'p, 'u> UrlPatternCaptures<'p, 'u> {
         }
     }
 
-    /// Returns an owned copy of the match, as `to_result` does, and always `Some`. A result is
-    /// large, so the `Option` is filled in place.
-    #[inline(always)]
-    pub fn to_found(&self, alloc: Global) -> Result<Option<UrlPatternResult>, Error>
-        ensures same { IfOk result (λ found. IsSomeAnd found (IsCopyOfMatch self.now)) }
-        ensures memory { OnlyOutOfMemory result }
-    {
-        let mut found = Ok(Some(empty_result(alloc)));
-        if let Ok(Some(copy)) = &mut found {
-            if self.copy_to(alloc, copy).is_err() {
-                drop(found);
-                return Err(Error::OutOfMemory);
-            }
-        }
-        found
-    }
-
     /// Copies the texts, names and captures of the match to `copy`, a result without groups.
     fn copy_to(&self, alloc: Global, copy: &mut UrlPatternResult) -> Result<(), OutOfMemory>
         requires { IsWithoutGroups copy.old }
@@ -241,6 +224,26 @@ impl<'p, 'u> UrlPatternCaptures<'p, 'u> {
             self.captures.get(name).as_slice(),
         )
     }
+}
+
+/// Returns an owned copy of a match, as `UrlPatternCaptures::to_result` does, within `Some`. A
+/// result is large, so the `Option` is filled in place.
+#[inline(always)]
+pub fn copy_found(
+    alloc: Global,
+    captures: &UrlPatternCaptures<'_, '_>,
+) -> Result<Option<UrlPatternResult>, Error>
+    ensures same { IfOk result (λ found. IsSomeAnd found (IsCopyOfMatch captures.now)) }
+    ensures memory { OnlyOutOfMemory result }
+{
+    let mut found = Ok(Some(empty_result(alloc)));
+    if let Ok(Some(copy)) = &mut found {
+        if captures.copy_to(alloc, copy).is_err() {
+            drop(found);
+            return Err(Error::OutOfMemory);
+        }
+    }
+    found
 }
 
 /// Returns what the group `group` captures, where `names` and `captures` are in one order.

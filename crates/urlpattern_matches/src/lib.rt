@@ -16,8 +16,8 @@ mod texts;
 
 pub use captures::{
     GroupCaptures, NoCaptures, UrlPatternCaptures, UrlPatternCapturesIter, UrlPatternGroups,
-    assemble_match,
+    assemble_match, copy_found,
 };
 pub use input_parsing::parse_match_input;
 pub use result::{UrlPatternComponentResult, UrlPatternResult};
-pub use texts::{input_texts, pathname_texts, url_texts};
+pub use texts::{are_lines, input_texts, is_line, pathname_texts, url_texts};

@@ -1,8 +1,9 @@
 //! The eight texts of an input, borrowed.
-ghost use Rattle.std.specs.Prelude.{◌≡◌, IfOk};
+ghost use Rattle.std.specs.Prelude.{◌≡◌, ◌↔◌, IfOk, IsTrue};
 ghost use Rattle.std.specs.Str.{chars};
 ghost use Rattle.urlpattern_init.specs.Inheritance as inherited;
 ghost use Rattle.urlpattern_init.specs.Inheritance.{texts_of_url};
+ghost use Rattle.urlpattern_init.specs.UrlTexts.{EachIsLine, IsLine};
 ghost use Rattle.urlpattern_matches.specs.MatchInput.{pathname_alone, texts_view};
 ghost use Rattle.urlpattern_matches.specs.GroupTexts.{borrowed_texts, IsTextCopied};
 ghost use Rattle.urlpattern_components.specs.Eight.{at};
@@ -48,6 +49,36 @@ pub fn input_texts(input: &MatchInput) -> Eight<&str>
         ensures { chars result.now ≡ at (texts_view input.entry.now) name }
     { input.get(name) };
     Eight::from_fn(text)
+}
+
+/// Whether a text has no line feed. No text of a `Url` has one.
+///
+/// What a pattern means is promised for such texts alone. With a line feed between `a` and `/b`,
+/// `/*` matches `/a/b`, and `/*/*` does not.
+///
+/// A path that is not from a `Url`:
+///
+/// ```rust line
+/// if !is_line(path) {
+///     return Ok(None);
+/// }
+/// ```
+pub fn is_line(text: &str) -> bool
+    ensures { IsTrue result ↔ IsLine (chars text.now) }
+{
+    text.chars().all(|c| c != '\n')
+}
+
+/// Whether none of eight texts has a line feed, as those of a `Url`.
+pub fn are_lines(texts: &Eight<&str>) -> bool
+    ensures { IsTrue result ↔ EachIsLine (borrowed_texts texts.now) }
+{
+    for name in ComponentName::all() {
+        if !is_line(texts.get(name)) {
+            return false;
+        }
+    }
+    true
 }
 
 /// Returns an owned copy of eight texts.

@@ -1,6 +1,5 @@
 -- Compiled patterns return what their pattern texts say.
-use Rattle.std.proofs.Common.{◌≡◌, ◌≢◌, ℕ, ◌<◌, ◌↔◌, Bool, true, false, List, ap, length, inl, inr, refl, subst, sym, ◌∙◌}
-use Rattle.std.proofs.lemmas.List.Folds.{list_any_none}
+use Rattle.std.proofs.Common.{◌≡◌, ℕ, ◌<◌, ◌↔◌, Bool, true, false, List, ap, length, inl, inr, refl, subst, sym, ◌∙◌}
 use Rattle.std.proofs.lemmas.Bool.{and_parts}
 use Rattle.std.proofs.lemmas.List.Sums.{AllPass-from_list_all}
 use Rattle.std.proofs.lemmas.Option.{same_Some}
@@ -8,8 +7,12 @@ use Rattle.std.specs.List.{All, Any}
 use Rattle.std.specs.Str.{all_scalars}
 use Rattle.std.specs.Prelude.{◌&&◌, Option, Some, None, Ok, IsTrue, slice_index_or}
 use Rattle.urlpattern_canonical.specs.Canonical.{special_schemes}
-use Rattle.urlpattern_matcher.specs.Components.{ComponentView, IsComponentOf, IsEngineOf, engine_flags, has_regexp, is_custom}
-use Rattle.urlpattern_matcher.specs.FirstWays.{ReturnsFirstWays, EachReturnsFirst, Acceptance}
+use Rattle.urlpattern_expressions.proofs.SimpleLemmas.{generated_simple}
+use Rattle.urlpattern_expressions.specs.PartsFirst.{ReturnsFirstOfParts}
+use Rattle.urlpattern_expressions.specs.PartWays.{parts_first_way}
+use Rattle.urlpattern_expressions.specs.SimpleExpressions.{HaveMeaning}
+use Rattle.urlpattern_matcher.specs.Components.{ComponentView, IsComponentOf, engine_flags}
+use Rattle.urlpattern_matcher.specs.FirstWays.{Acceptance}
 use Rattle.urlpattern_matcher.proofs.FirstMatchers.{flags_agree}
 use Rattle.urlpattern_printing.specs.Generated.{AreGenerated}
 use Rattle.urlpattern_matcher.specs.declared.regexp.RegExp.{Ghosts as Engine}
@@ -17,14 +20,10 @@ use Rattle.urlpattern_init.specs.SpecialProtocol.{AcceptsSpecialScheme}
 use Rattle.urlpattern_init.specs.UrlTexts.{IsLine}
 use Rattle.urlpattern_init.specs.declared.init.UrlPatternInit.{UrlPatternInit}
 use Rattle.urlpattern_inputs.specs.declared.options.UrlPatternOptions.{UrlPatternOptions}
-use Rattle.urlpattern_meaning.proofs.FirstResults.{first_agrees, first_one, matcher_first}
-use Rattle.urlpattern_meaning.specs.FirstResults.{IsFirstOf}
 use Rattle.urlpattern_meaning.specs.Matching.{Returns, InnerView}
 use Rattle.urlpattern_meaning.specs.PartMeaning.{Captures}
 use Rattle.urlpattern_components.specs.declared.eight.ComponentName.{ComponentName}
 use Rattle.urlpattern_components.specs.declared.eight.ComponentName.TheVariants.{Protocol}
-use Rattle.urlpattern_syntax.specs.declared.parser.PartType.{PartType}
-use Rattle.urlpattern_syntax.specs.declared.parser.PartType.TheVariants.{FixedText, Regexp, SegmentWildcard, FullWildcard}
 use Rattle.urlpattern_components.specs.Eight.{Texts, Values, at}
 use Rattle.urlpattern_syntax.specs.Parts.{PartView}
 use Rattle.urlpattern_syntax.specs.RegexpText.{group_names}
@@ -32,7 +31,7 @@ use Rattle.urlpattern_syntax.specs.Text.{lacks, line_feed}
 use Rattle.urlpattern_pattern.proofs.MatchersDecide.{answered}
 use Rattle.urlpattern_pattern.proofs.MatchLaws.{no_input-long, texts-one}
 use Rattle.urlpattern_pattern.proofs.MeaningLemmas.{executed_means, none_custom, read_once}
-use Rattle.urlpattern_pattern.specs.ByText.{ReturnsByItsText, ReturnsByText, EnginesReturnFirst, HasMeaning, IsFirstResult, IsFirstWay, IsExecutedByMeaning, IsFoundByText, IsHierarchicalByText, MakesFirstWays}
+use Rattle.urlpattern_pattern.specs.ByText.{AcceptedAlone, EachReturnsFirstOfParts, ReturnsByItsText, ReturnsByText, HasMeaning, IsFirstResult, IsFirstWay, IsExecutedByMeaning, IsFoundByText, IsHierarchicalByText, MakesFirstWays}
 use Rattle.urlpattern_compile.specs.Compiled.{AreCompiled, HasHierarchicalPath, IsComponentCompiled, IsPathKind, IsPatternOfInit, ParseSettings, settings_of, pattern_values}
 use Rattle.urlpattern_init.specs.declared.init.UrlPatternMatchInput.{UrlPatternMatchInput}
 use Rattle.urlpattern_matches.specs.MatchInput.{input_texts}
@@ -44,22 +43,14 @@ use Rattle.urlpattern_pattern.specs.Patterns.{PatternView}
 
 -- ---- no custom regular expression
 
-custom_is : (kind : PartType) → kind ≢ Regexp → is_custom kind ≡ false
-custom_is FixedText other = refl
-custom_is Regexp other = absurd (other refl)
-custom_is SegmentWildcard other = refl
-custom_is FullWildcard other = refl
-
-generated_flag : (parts : List PartView) → AreGenerated parts → has_regexp parts ≡ false
-generated_flag parts generated = list_any_none (λ part. is_custom part.kind) parts (λ k part lt. custom_is (slice_index_or parts k part).kind (generated k part lt))
-
 -- A component without a custom regular expression, and with its case kept, has a meaning.
 pub has_meaning : {E : Type 0} (engine : Engine E) (settings : ParseSettings) (compiled : ComponentView E) → IsComponentCompiled engine settings compiled →
     compiled.has_regexp_group ≡ false → settings.options.ignore_case ≡ false → HasMeaning settings
 has_meaning engine settings compiled is_compiled none kept =
     let (parts, reads, is_component) = is_compiled.0 in
     record {
-      generated = λ others also. subst (λ (ps : List PartView). AreGenerated ps) (read_once settings parts others reads also) (none_custom parts (sym is_component.regexp_flag ∙ none));
+      simple = λ others also.
+          generated_simple others (subst (λ (ps : List PartView). AreGenerated ps) (read_once settings parts others reads also) (none_custom parts (sym is_component.regexp_flag ∙ none)));
       case_kept = kept;
     }
 
@@ -68,7 +59,7 @@ has_meaning engine settings compiled is_compiled none kept =
 pub way_one : (settings : ParseSettings) (text : List ℕ) (captures others : Option Captures) → IsFirstWay settings text captures → IsFirstWay settings text others → captures ≡ others
 way_one settings text captures others first last =
     let parts : first.parts ≡ last.parts = read_once settings first.parts last.parts first.reads last.reads in
-    first_one settings.options last.parts text captures others (subst (λ (ps : List PartView). IsFirstOf settings.options ps text captures) parts first.is_first) last.is_first
+    first.is_first.is_first ∙ ap (λ (ps : List PartView). parts_first_way settings.options ps text) parts ∙ sym last.is_first.is_first
 
 -- ---- one component
 
@@ -77,8 +68,7 @@ module _ {E : Type 0} (answer : E → List ℕ → Option Captures) (settings : 
   -- The matcher's result is the first way.
   abbrev pub answer_first : (result : Option Captures) → Returns answer compiled.matcher text result → IsFirstWay settings text result
   answer_first result answers =
-      let (is_first, is_meant) = by.answers text result line.no_line_feed line.characters answers in
-      record { parts = by.parts; reads = by.reads; is_first = is_first; is_meant = is_meant }
+      record { parts = by.parts; reads = by.reads; is_first = by.answers text result line.no_line_feed line.characters answers }
 
   -- The first way is the matcher's result.
   pub first_answer : (result : Option Captures) → IsFirstWay settings text result → Returns answer compiled.matcher text result
@@ -96,7 +86,7 @@ module _ {E : Type 0} (answer : E → List ℕ → Option Captures) (settings : 
 
 -- A compiled component returns what its text says, if its matcher returns first ways.
 pub component_by : {E : Type 0} (engine : Engine E) (settings : ParseSettings) (compiled : ComponentView E) → IsComponentCompiled engine settings compiled → HasMeaning settings →
-    ((parts : List PartView) → ReadsAs settings parts → IsComponentOf engine settings.options parts compiled → AreGenerated parts → ReturnsFirstWays engine.answer settings.options parts compiled.matcher) →
+    ((parts : List PartView) → ReadsAs settings parts → IsComponentOf engine settings.options parts compiled → HaveMeaning settings.options parts → ReturnsFirstOfParts engine.answer settings.options parts compiled.matcher) →
     ReturnsByText engine.answer settings compiled
 component_by engine settings compiled is_compiled has firsts =
     let (parts, reads, is_component) = is_compiled.0 in
@@ -104,7 +94,7 @@ component_by engine settings compiled is_compiled has firsts =
       parts = parts;
       reads = reads;
       has_names = is_component.has_names;
-      answers = firsts parts reads is_component (has.generated parts reads);
+      answers = firsts parts reads is_component (record { simple = has.simple parts reads; case_kept = has.case_kept });
     }
 
 -- ---- whether the pathname is hierarchical
@@ -157,7 +147,8 @@ module _ {E : Type 0} (engine : Engine E) (init : UrlPatternInit) (asked : UrlPa
   abbrev manner_here : ComponentName → ParseSettings
   manner_here = settings_of asked values compiled.hierarchical
 
-  pattern_by : ((component : ComponentName) → HasMeaning (manner_here component) → ReturnsByText engine.answer (manner_here component) (pattern component)) →
+  -- Each component that has a meaning returns what its pattern text says.
+  pub pattern_by : ((component : ComponentName) → HasMeaning (manner_here component) → ReturnsByText engine.answer (manner_here component) (pattern component)) →
       ReturnsByItsText engine.answer init asked pattern
   pattern_by each = record {
     values = values;
@@ -168,28 +159,13 @@ module _ {E : Type 0} (engine : Engine E) (init : UrlPatternInit) (asked : UrlPa
     answers = each;
   }
 
-  -- The values of the engine that are called return first ways.
-  pub pattern_by_engines : EnginesReturnFirst engine.answer manner_here pattern → ReturnsByItsText engine.answer init asked pattern
-  pattern_by_engines firsts = pattern_by (λ component has.
-      let settings = manner_here component in
-      component_by engine settings (pattern component) (compiled.are_compiled component) has
-      (λ parts reads is_component generated text result no_feed scalars answers.
-      let is = matcher_first engine.answer (IsEngineOf engine false (engine_flags settings.options)) settings.options parts (pattern component).matcher text result is_component.has_matcher
-      generated has.case_kept no_feed scalars (firsts component parts has reads) answers in
-      (is, first_agrees settings.options parts text result generated is)))
-
   -- The engine accepted the texts.
-  pub pattern_by_took : (Accepted : Acceptance E) → EachReturnsFirst engine Accepted →
-      ((component : ComponentName) → (pattern component).has_regexp_group ≡ false → Accepted (manner_here component).options (engine_flags (manner_here component).options) (pattern component).matcher.inner) → ReturnsByItsText engine.answer init asked pattern
+  pub pattern_by_took : (Accepted : Acceptance E) → EachReturnsFirstOfParts engine Accepted →
+      ((component : ComponentName) → HasMeaning (manner_here component) → Accepted (manner_here component).options (engine_flags (manner_here component).options) (pattern component).matcher.inner) → ReturnsByItsText engine.answer init asked pattern
   pattern_by_took Accepted firsts took = pattern_by (λ component has.
       let settings = manner_here component in
       component_by engine settings (pattern component) (compiled.are_compiled component) has
-      (λ parts reads is_component generated. firsts settings.options (engine_flags settings.options) parts (pattern component).matcher (record {
-        is_made = is_component.has_matcher;
-        generated = generated;
-        case_kept = has.case_kept;
-        took = took component (is_component.regexp_flag ∙ generated_flag parts generated);
-      })))
+      (λ parts reads is_component have. firsts settings.options (engine_flags settings.options) parts (pattern component).matcher is_component.has_matcher have (took component has)))
 
 -- ---- results
 
@@ -267,10 +243,11 @@ module _ {E F : Type 0} (answer : E → List ℕ → Option Captures) (other : F
 pub init_by_text : {E : Type 0} (engine : Engine E) (init : UrlPatternInit) (asked : UrlPatternOptions) (pattern : PatternView E) → IsPatternOfInit engine init asked pattern → MakesFirstWays engine →
     ReturnsByItsText engine.answer init asked pattern
 init_by_text engine init asked pattern (values, are_values, compiled) firsts =
-    pattern_by_took engine init asked values pattern are_values compiled _ firsts (λ component none. flags_agree (settings_of asked values compiled.hierarchical component).options)
+    pattern_by_took engine init asked values pattern are_values compiled AcceptedAlone firsts
+    (λ component has. (flags_agree (settings_of asked values compiled.hierarchical component).options, (compiled.are_compiled component).1.of_matcher))
 
-pub taken_by_text : {E : Type 0} (engine : Engine E) (Accepted : InnerView E → Type 0) → EachReturnsFirst engine (λ options flags. Accepted) → AcceptedPatternsReturnByText engine Accepted
-taken_by_text engine Accepted firsts = λ init asked pattern (values, are_values, compiled) took.
+pub taken_by_text : {E : Type 0} (engine : Engine E) (Accepted : InnerView E → Type 0) → EachReturnsFirstOfParts engine (λ options flags. Accepted) → AcceptedPatternsReturnByText engine Accepted
+taken_by_text engine Accepted firsts = λ init asked values pattern are_values compiled took.
     pattern_by_took engine init asked values pattern are_values compiled (λ options flags. Accepted) firsts took
 
 -- What is found in an input.

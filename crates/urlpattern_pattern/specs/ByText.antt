@@ -1,18 +1,19 @@
 -- What patterns return, derived from their pattern texts. A *way* is one way in which a regular
 -- expression matches a text; the first way is the one that a backtracking engine finds first.
-use Rattle.std.specs.Prelude.{◌≡◌, ◌↔◌, ◌⊎◌, ℕ, Any, Bool, false, List, [], Option, None, Some, Ok, IsTrue, codes, unwrap_or}
+use Rattle.std.specs.Prelude.{◌≡◌, ◌↔◌, ◌⊎◌, ⊤, ℕ, Any, Bool, false, List, [], Option, None, Some, Ok, IsTrue, codes, unwrap_or}
 use Rattle.urlpattern_canonical.specs.Canonical.{special_schemes}
-use Rattle.urlpattern_matcher.specs.{Components.ComponentView, Components.FlagsAgree, FirstWays.ReturnsFirstWays, FirstWays.EachReturnsFirst}
+use Rattle.urlpattern_expressions.specs.{PartsFirst.IsFirstOfParts, PartsFirst.ReturnsFirstOfMiddle, PartsFirst.ReturnsFirstOfParts, SimpleExpressions.AreSimple, SimpleExpressions.HaveMeaning}
+use Rattle.urlpattern_matcher.specs.{Components.ComponentView, Components.FlagsAgree, Components.IsEngineOf, FirstWays.Acceptance}
 use Rattle.urlpattern_printing.specs.{Generated.AreGenerated}
 use Rattle.urlpattern_matcher.specs.declared.regexp.RegExp.{Ghosts as Engine}
 use Rattle.urlpattern_init.specs.UrlTexts.{IsLine}
 use Rattle.urlpattern_init.specs.declared.init.{UrlPatternInit.UrlPatternInit, UrlPatternMatchInput.UrlPatternMatchInput}
 use Rattle.urlpattern_inputs.specs.declared.options.UrlPatternOptions.{UrlPatternOptions}
-use Rattle.urlpattern_meaning.specs.{FirstResults.ReturnsFirstInMiddle, FirstResults.IsFirstOf, Matching.Agrees, PartMeaning.Captures}
+use Rattle.urlpattern_meaning.specs.{FirstResults.AcceptedText, Matching.IsMadeOf, Matching.MatcherView, PartMeaning.Captures}
 use Rattle.urlpattern_components.specs.declared.eight.ComponentName.{ComponentName}
 use Rattle.urlpattern_components.specs.declared.eight.ComponentName.TheVariants.{Protocol}
 use Rattle.urlpattern_components.specs.Eight.{Texts, Values, at}
-use Rattle.urlpattern_syntax.specs.{Parts.PartView, RegexpText.group_names, Text.begins_with}
+use Rattle.urlpattern_syntax.specs.{Options.OptionsView, Parts.PartView, RegexpText.group_names, Text.begins_with}
 use Rattle.urlpattern_compile.specs.FromString.{IsInitOfText}
 use Rattle.urlpattern_compile.specs.Compiled.{AreCompiled, IsPathKind, ParseSettings, is_mark, settings_of, pattern_values}
 use Rattle.urlpattern_pattern.specs.Match.{IsLongInput}
@@ -26,23 +27,23 @@ use Rattle.urlpattern_pattern.specs.MatchMeaning.{IsExecuted, IsFoundByMeaning, 
 abbrev pub ReadsNoCustom : ParseSettings → Type 0
 ReadsNoCustom settings = (parts : List PartView) → ReadsAs settings parts → AreGenerated parts
 
--- The component of `settings` has a meaning: its pattern text has no custom regular expression, and
--- case is kept. Its parts then say which texts match, with which captures.
+-- The component of `settings` has a meaning: each custom regular expression of its pattern text is
+-- simple (`is_simple`), and case is kept. Its parts then say which texts match, with which
+-- captures.
 pub record HasMeaning (settings : ParseSettings) : Type 0 where
-  pub generated : ReadsNoCustom settings
+  pub simple : (parts : List PartView) → ReadsAs settings parts → AreSimple parts
   pub case_kept : settings.options.ignore_case ≡ false
 
 -- ---- first ways
 
 -- `captures` are the captures of the first way in which the parts of the pattern text of `settings`
--- match the whole of `text`, or None if no way exists. The parts mean `text` with these captures;
--- None: the parts do not mean `text`.
+-- match the whole of `text`, or None if no way exists. The parts have these captures in `text`;
+-- None: the parts do not match `text`.
 pub record IsFirstWay (settings : ParseSettings) (text : List ℕ) (captures : Option Captures) : Type
     0 where
   pub parts : List PartView
   pub reads : ReadsAs settings parts
-  pub is_first : IsFirstOf settings.options parts text captures
-  pub is_meant : Agrees settings.options parts text captures
+  pub is_first : IsFirstOfParts settings.options parts text captures
 
 -- `result` is the result of the first way for the component of `settings` and its text `text`: its
 -- groups have the names of the parts, and the captures of the first way.
@@ -76,7 +77,7 @@ pub record ReturnsByText {E : Type 0} (answer : E → List ℕ → Option Captur
   pub parts : List PartView
   pub reads : ReadsAs settings parts
   pub has_names : compiled.group_name_list ≡ group_names parts
-  pub answers : ReturnsFirstWays answer settings.options parts compiled.matcher
+  pub answers : ReturnsFirstOfParts answer settings.options parts compiled.matcher
 
 -- By the pattern texts `values`, the pathname is hierarchical: the protocol is empty, its pattern
 -- text matches a special scheme, or the pathname begins with a slash.
@@ -112,12 +113,26 @@ abbrev pub EnginesReturnFirst : {E : Type 0} → (answer : E → List ℕ → Op
 EnginesReturnFirst answer settings pattern =
     (component : ComponentName) (parts : List PartView) → HasMeaning (settings component)
     → ReadsAs (settings component) parts →
-    ReturnsFirstInMiddle answer (settings component).options parts (pattern component).matcher.inner
+    ReturnsFirstOfMiddle answer (settings component).options parts (pattern component).matcher.inner
 
--- Each matcher that `engine` made of parts, none of them custom, with case kept and without the
--- flag `i`, returns first ways. Nothing is assumed of what the engine accepts or returns.
+-- Each matcher that `engine` made of parts, of which custom expressions are simple, with case kept,
+-- returns first ways, if the engine accepted, in the sense of `Accepted`, what the matcher needs.
+abbrev pub EachReturnsFirstOfParts : {E : Type 0} → Engine E → (Accepted : Acceptance E) → Type 0
+EachReturnsFirstOfParts {E} engine Accepted =
+    (options : OptionsView) (flags : List ℕ) (parts : List PartView) (matcher : MatcherView E) →
+    IsMadeOf (IsEngineOf engine false flags) options parts matcher → HaveMeaning options parts →
+    Accepted options flags matcher.inner → ReturnsFirstOfParts engine.answer options parts matcher
+
+-- The flags ignore case if and only if the options do, and the engine, where one is needed,
+-- accepted its regular expression.
+abbrev pub AcceptedAlone : {E : Type 0} → Acceptance E
+AcceptedAlone options flags inner = FlagsAgree options flags × AcceptedText (λ value. ⊤) inner
+
+-- Each matcher that `engine` made of parts, of which custom expressions are simple, with case kept
+-- and without the flag `i`, returns first ways, if the engine accepted the regular expression that
+-- the matcher needs. A compiled component has such a matcher.
 abbrev pub MakesFirstWays : {E : Type 0} → Engine E → Type 0
-MakesFirstWays engine = EachReturnsFirst engine (λ options flags inner. FlagsAgree options flags)
+MakesFirstWays engine = EachReturnsFirstOfParts engine AcceptedAlone
 
 -- ---- the result of `exec_once`
 

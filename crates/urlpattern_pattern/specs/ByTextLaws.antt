@@ -11,7 +11,7 @@ use Rattle.urlpattern_components.specs.declared.eight.ComponentName.{ComponentNa
 use Rattle.urlpattern_components.specs.Eight.{Texts, Values, at}
 use Rattle.urlpattern_syntax.specs.Parts.{PartView}
 use Rattle.urlpattern_pattern.specs.ByText.{ReturnsByItsText, EnginesReturnFirst, HasMeaning, IsFoundByText}
-use Rattle.urlpattern_compile.specs.Compiled.{AreCompiled, IsComponentCompiled, IsPatternOfInit, ParseSettings, settings_of, pattern_values}
+use Rattle.urlpattern_compile.specs.Compiled.{AreCompiled, IsComponentCompiled, ParseSettings, settings_of, pattern_values}
 use Rattle.urlpattern_pattern.specs.Match.{FindsInTexts, IsLongInput}
 use Rattle.urlpattern_matches.specs.ResultViews.{IsSameResult, ResultView}
 use Rattle.urlpattern_matches.specs.MatchInput.{input_texts}
@@ -30,15 +30,16 @@ PatternsReturnByText {E} engine =
     EnginesReturnFirst engine.answer (settings_of asked values compiled.hierarchical) pattern
     → ReturnsByItsText engine.answer init asked pattern
 
--- A pattern that is compiled from an init returns what its pattern texts say, if `Accepted`, a
--- premise on what the engine accepted, holds of the inner matcher of each component without custom
--- regular expression.
+-- A compiled pattern returns what its pattern texts say, if `Accepted`, a premise on what the
+-- engine accepted, holds of the inner matcher of each component that has a meaning.
 abbrev pub AcceptedPatternsReturnByText : {E : Type 0} → Engine E
     → (Accepted : InnerView E → Type 0) → Type 0
 AcceptedPatternsReturnByText {E} engine Accepted =
-    (init : UrlPatternInit) (asked : UrlPatternOptions) (pattern : PatternView E) →
-    IsPatternOfInit engine init asked pattern
-    → ((component : ComponentName) → (pattern component).has_regexp_group ≡ false
+    (init : UrlPatternInit) (asked : UrlPatternOptions) (values : Values) (pattern : PatternView E)
+    →
+    pattern_values init ≡ Ok values → (compiled : AreCompiled engine asked values pattern)
+    → ((component : ComponentName)
+    → HasMeaning (settings_of asked values compiled.hierarchical component)
     → Accepted (pattern component).matcher.inner)
     →
     ReturnsByItsText engine.answer init asked pattern

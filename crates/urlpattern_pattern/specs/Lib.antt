@@ -4,6 +4,7 @@ pub mod MatchCalls
 pub mod PatternComparing
 pub mod ComponentTexts
 pub mod KeptParts
+pub mod KeptMeanings
 pub mod LinkedUrls
 pub mod Match
 pub mod MatchMeaning

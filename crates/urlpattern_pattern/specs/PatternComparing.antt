@@ -17,10 +17,10 @@ OfPartsOfBoth pattern other Holds =
     IsSomeAnd pattern.parts (λ parts. IsSomeAnd other.parts (λ others. Holds parts others))
 
 -- The error of a comparison: `NoParts` only if one of the two patterns has no parts, and
--- `OutOfMemory` at any time.
+-- `OutOfMemory` only if both have parts.
 abbrev pub LackParts : {E : Type 0} → (pattern other : UrlPattern E) → CompareError → Type 0
 LackParts pattern other NoParts = (pattern.parts ≡ None) ⊎ (other.parts ≡ None)
-LackParts pattern other OutOfMemory = Unit {0}
+LackParts pattern other OutOfMemory = OfPartsOfBoth pattern other (λ parts others. Unit {0})
 
 -- The text as which the error is printed.
 abbrev pub compare_error_text : CompareError → List ℕ

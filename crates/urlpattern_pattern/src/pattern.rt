@@ -13,6 +13,7 @@ mod diagnose;
 mod generate;
 mod link;
 mod matching;
+mod meaning;
 mod mismatch;
 
 pub use compare::CompareError;

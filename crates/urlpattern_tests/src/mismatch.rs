@@ -4,7 +4,9 @@ use crate::given::{expect_same, pattern_of, url_of};
 use std::alloc::Global;
 use std::process::Abort;
 use std::test::Fail;
-use urlpattern::{ComponentName, Error, UrlPattern, pathname_texts, url_texts};
+use urlpattern::{
+    ComponentName, Error, UrlPattern, are_lines, is_line, pathname_texts, url_texts,
+};
 
 /// A text for each component.
 const EACH: &[(&str, &str)] = &[
@@ -122,6 +124,27 @@ fn a_path_alone(rt: HostRuntime) -> Result<(), Fail> {
     for (path, id) in paths {
         expect_same(&rt, id_of(rt.alloc(), path)?, id, path);
         expect_same(&rt, is_user(rt.alloc(), path)?, id.is_some(), path);
+    }
+    Ok(())
+}
+
+/// Whether a pattern of paths matches a path alone.
+fn is_matched(alloc: Global, pattern: &str, pathname: &str) -> Result<bool, Error> {
+    let pattern: UrlPattern = pattern_of(alloc, &[("pathname", pattern)])?;
+    let is_matched = pattern.test_texts(alloc, &pathname_texts(pathname));
+    drop(pattern);
+    is_matched
+}
+
+#[test]
+fn a_path_with_a_line_feed(rt: HostRuntime) -> Result<(), Fail> {
+    for (path, expected) in [("/a/b", true), ("", true), ("/a\r/é", true), ("/a\n/b", false)] {
+        expect_same(&rt, is_line(path), expected, path);
+        expect_same(&rt, are_lines(&pathname_texts(path)), expected, path);
+    }
+    for (pattern, expected) in [("/*", true), ("/*/*", false)] {
+        expect_same(&rt, is_matched(rt.alloc(), pattern, "/a\n/b")?, expected, pattern);
+        expect_same(&rt, is_matched(rt.alloc(), pattern, "/a/b")?, true, pattern);
     }
     Ok(())
 }

@@ -109,10 +109,12 @@ fn covering_of(alloc: Global, covering: &Made, asked: &Made) -> Result<(bool, bo
         PatternCovering::Covered => Ok((true, true)),
         PatternCovering::Unknown(_, _) => Ok((false, true)),
         PatternCovering::NotCovered(parting) => {
-            let path = parting.texts.get(ComponentName::Pathname);
-            match matches_of(alloc, covering, asked, path) {
-                Ok(found) => Ok((false, found == (false, true))),
-                Err(error) => Err(error),
+            match parting.texts.get(ComponentName::Pathname) {
+                Some(path) => match matches_of(alloc, covering, asked, path) {
+                    Ok(found) => Ok((false, found == (false, true))),
+                    Err(error) => Err(error),
+                },
+                None => Ok((false, true)),
             }
         }
     };
@@ -127,12 +129,13 @@ fn overlap_of(alloc: Global, covering: &Made, asked: &Made) -> Result<(bool, boo
     let answer = match &found {
         PatternOverlap::Apart => Ok((true, true)),
         PatternOverlap::Unknown(_, _) => Ok((false, true)),
-        PatternOverlap::Common(texts) => {
-            match matches_of(alloc, covering, asked, texts.get(ComponentName::Pathname)) {
+        PatternOverlap::Common(texts) => match texts.get(ComponentName::Pathname) {
+            Some(path) => match matches_of(alloc, covering, asked, path) {
                 Ok(found) => Ok((false, found == (true, true))),
                 Err(error) => Err(error),
-            }
-        }
+            },
+            None => Ok((false, true)),
+        },
     };
     drop(found);
     answer

@@ -136,8 +136,9 @@ impl<R: RegExp> UrlPattern<R> {
     /// `None`: the parts do not mean all eight texts, or `url` rejects the input. The premises:
     /// components without custom regular expressions, case that is kept, texts without line feeds,
     /// and an engine that follows its regular expression, where one is needed. With an engine whose
-    /// matchers return first ways, as those of `PatternRegexp` do, the captures are those of the
-    /// first way, without a premise on the engine.
+    /// matchers return first ways, as those of `PatternRegexp` and `regex::Regex` do, the captures
+    /// are those of the first way, without a premise on the engine, and components may have custom
+    /// regular expressions that are simple (`has_meaning`).
     ///
     /// The error says why the pattern is rejected, or that memory ran out.
     pub fn exec_once(

@@ -26,8 +26,8 @@ use urlpattern_inputs::MatchInput;
 use urlpattern_matcher::matcher::Look;
 use urlpattern_matcher::regexp::RegExp;
 use urlpattern_matches::{
-    GroupCaptures, NoCaptures, UrlPatternCaptures, UrlPatternResult, assemble_match, input_texts,
-    parse_match_input, url_texts,
+    GroupCaptures, NoCaptures, UrlPatternCaptures, UrlPatternResult, assemble_match, copy_found,
+    input_texts, parse_match_input, url_texts,
 };
 use urlpattern_syntax::Error;
 use urlpattern_syntax::error::OutOfMemory;
@@ -204,6 +204,9 @@ impl<R: RegExp> UrlPattern<R> {
     /// With a pattern for the path alone, and no URL:
     ///
     /// ```rust path
+    /// if !is_line(path) {
+    ///     return Ok(None);
+    /// }
     /// let Some(found) = users.captures_of_texts(alloc, &pathname_texts(path))? else {
     ///     return Ok(None);
     /// };
@@ -240,7 +243,7 @@ impl<R: RegExp> UrlPattern<R> {
             CopiesMatch R.answer (pattern_view self.now) (borrowed_texts texts.entry)) }
     {
         match match_of_texts(alloc, self, &texts)? {
-            Some(captures) => captures.to_found(alloc),
+            Some(captures) => copy_found(alloc, &captures),
             None => Ok(None),
         }
     }

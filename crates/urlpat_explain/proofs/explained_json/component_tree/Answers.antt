@@ -19,28 +19,24 @@ use Rattle.urlpat_explain.proofs.explained_json.component_tree.Goals as goal
 
 pub returns-in_default : goal.returns-in_default
 returns-in_default c =
-    let place = c.place-place.result in
-    let front = pattern_members (explained_view c.args.explained.now) c.args.name place in
+    let front = pattern_members (explained_view c.args.explained.now) c.args.name in
     let listed : members_view c.put_pattern.new.members.entries ≡ all_with no_members front =
     c.in_ok-put_pattern.ensures ∙ ap (λ (members : Members). all_with members front) (ap members_view c.new-members.ensures.empty) in
-    (place, [], c.place-place.ensures, rw c.in_default.is refl, view-Object c.put_pattern.new.members ∙ object-of _ front [] listed)
+    ([], rw c.in_default.is refl, view-Object c.put_pattern.new.members ∙ object-of _ front [] listed)
 
 pub returns : goal.returns
 returns c =
     let explained = explained_view c.args.explained.now in
     let name = c.args.name in
     let lent = c.in-Some.texts.now in
-    let place = c.place-place.result in
-    let front = pattern_members explained name place in
+    let front = pattern_members explained name in
     let listed : members_view c.put_pattern.new.members.entries ≡ all_with no_members front =
     c.in_ok-put_pattern.ensures ∙ ap (λ (members : Members). all_with members front) (ap members_view c.new-members.ensures.empty) in
     let (members, are, gain) = c.in_ok-put_match.ensures in
     let by_component = subst (λ (component : Component PatternRegexp). AreMatchMembers (component_view component) (chars c.get-2.result.now.now) members) c.get.ensures are in
     let by_text = subst (λ (text : List ℕ). AreMatchMembers (explained.pattern name) text members)
     (ap (λ (text : Bor (List ℕ)). chars text.now) c.get-2.ensures ∙ sym (at-each (λ other. chars (at lent other).now) name)) by_component in (
-      place,
       members,
-      c.place-place.ensures,
       subst (λ (texts : Option (Bor (Eight (Bor (List ℕ))))). AreInputMembers explained.pattern (lent_texts texts) name members) (sym c.in-Some.is) by_text,
       view-Object c.put_match.new.members ∙ object-of _ front members (gain ∙ ap (λ (before : Members). all_with before members) listed),
     )

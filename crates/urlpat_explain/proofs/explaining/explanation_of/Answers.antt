@@ -8,9 +8,10 @@ pub returns-clause-text : goal.returns-clause-text
 returns-clause-text c =
     let asked = asked_view c.args.asked in
     let pattern = pattern_view c.args.pattern.now in
+    let noted = c.in_ok-noted.noted in
     let init = c.args.init.now in
     let values = values_view c.in_ok-values.values in
     IfOk-weaker c.answer-found.result
-    (IsExplained c.args.json (record { string = asked.string; pattern = pattern; given = values_view init; values = values }) asked.base asked.input)
-    (IsExplanationOf c.args.json pattern init asked)
-    (λ found is. (values, c.in_ok-values.ensures.ok, is)) c.answer-found.ensures.text
+    (IsExplained c.args.json (record { pattern = pattern; given = values_view init; places = c.args.places.now; values = values; noted = noted }) asked.base asked.input)
+    (IsExplanationOf c.args.json c.args.pattern.now init c.args.places.now asked)
+    (λ found is. (values, noted, c.in_ok-values.ensures.ok, c.in_ok-noted.ensures, is)) c.answer-found.ensures.text

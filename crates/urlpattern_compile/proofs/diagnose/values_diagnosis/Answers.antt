@@ -4,8 +4,8 @@ use Rattle.urlpattern_compile.proofs.CompiledLemmas.{kept_are_compiled, made_vie
 use Rattle.urlpattern_compile.proofs.DiagnosisLemmas.{is_other}
 use Rattle.urlpattern_compile.proofs.diagnose.values_diagnosis.Goals as goal
 
-pub diagnosis-requires : goal.diagnosis-requires
-diagnosis-requires g c =
+pub diagnosis-requires-clause-rejected : goal.diagnosis-requires-clause-rejected
+diagnosis-requires-clause-rejected g c =
     is_other (RejectsValues g.R.RegExp c.args.options.now (values_view c.args.values.now)) c.in-Err.error c.in_ok-error-in-Err.error c.in-Err.ensures.refused c.in_ok-error-in-Err.ensures
 
 pub returns-in-Ok-components-clause-accepted : goal.returns-in-Ok-components-clause-accepted

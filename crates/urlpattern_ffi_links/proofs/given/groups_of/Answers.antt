@@ -3,7 +3,8 @@ use Rattle.urlpattern_ffi_links.proofs.GivenByteLemmas.{given_all, given_more, n
 use Rattle.urlpattern_ffi_links.proofs.given.groups_of.Goals as goal
 
 pub returns-in-None-clause-refused : goal.returns-in-None-clause-refused
-returns-in-None-clause-refused c = nothing_given c.args.text.now c.args.given.now c.loop-part.part-index _ c.loop-part-test.true c.in-None.ensures.nothing
+returns-in-None-clause-refused c =
+    search (rules, nothing_given c.args.text.now c.args.given.now c.loop-part.part-index _ c.loop-part-test.true c.in-None.ensures.nothing)
 
 pub loop-part-preserved : goal.loop-part-preserved
 loop-part-preserved c =

@@ -1,8 +1,7 @@
 use Rattle.std.proofs.Common.{ap, sym, ◌∙◌, inl, inr, arith}
 use Rattle.std.proofs.lemmas.Result.{err_from_is_err_and}
-use Rattle.std.specs.Str.{chars}
 use Rattle.urlpattern_constructor.specs.Split.{is_colon_sign}
-use Rattle.urlpattern_constructor.specs.Splitting.{tokens_of}
+use Rattle.urlpattern_constructor.specs.Splitting.{split_text_view, tokens_of}
 use Rattle.urlpattern_constructor.proofs.SplitLemmas.{colon_found}
 use Rattle.urlpattern_constructor.proofs.TextBetween.{source_closed}
 use Rattle.urlpattern_init.proofs.constructor_parser.split.Goals as goal
@@ -30,5 +29,5 @@ returns-in_err-special-clause-refused g c =
     rw (p.1, p.2)
     (elim c.in_err-special.ensures.refused [
       | inl memory ↦ inl memory
-      | inr refused ↦ inr (tokens, c.end_of-colon.result.index, chars c.text_between-protocol.result.now, c.requires, found.1, ap (is_colon_sign tokens) found.0 ∙ colon, c.text_between-protocol.ensures, refused)
+      | inr refused ↦ inr (tokens, c.end_of-colon.result.index, split_text_view c.split_text-protocol.result, c.requires, found.1, ap (is_colon_sign tokens) found.0 ∙ colon, c.split_text-protocol.ensures, refused)
     ])

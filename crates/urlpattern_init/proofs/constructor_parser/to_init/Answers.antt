@@ -3,7 +3,7 @@ use Rattle.std.proofs.lemmas.Result.{err_from_is_err_and}
 use Rattle.urlpattern_components.proofs.EightLemmas.{at-each, same_values}
 use Rattle.urlpattern_components.specs.Eight.{at}
 use Rattle.urlpattern_syntax.specs.Text.{text_of}
-use Rattle.urlpattern_constructor.specs.Splitting.{split_values}
+use Rattle.urlpattern_constructor.specs.Splitting.{split_texts, values_of_split}
 use Rattle.urlpattern_init.proofs.constructor_parser.to_init.Goals as goal
 
 pub returns-in_err-values-clause-memory : goal.returns-in_err-values-clause-memory
@@ -14,5 +14,5 @@ returns-in_err-values-clause-memory c =
 pub returns-clause-components : goal.returns-clause-components
 returns-clause-components c =
     c.from_eight.ensures.texts
-    ∙ same_values _ (split_values c.args.split.now) (λ name.
+    ∙ same_values _ (values_of_split (split_texts c.args.split.now)) (λ name.
     at-each (λ other. option_map text_of (at c.in_ok-values.values other)) name ∙ (c.in_ok-values.ensures.ok name).1.ok)

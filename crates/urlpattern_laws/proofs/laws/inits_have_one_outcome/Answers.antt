@@ -3,9 +3,9 @@ use Rattle.std.specs.Prelude.{All}
 use Rattle.urlpattern_meaning.proofs.MatcherMeaning.{all_left, all_right}
 use Rattle.urlpattern_meaning.proofs.PartTrees.{IsNotCustom}
 use Rattle.urlpattern_syntax.specs.Parts.{PartView}
-use Rattle.urlpattern_engine.proofs.EngineLaws.{taken_first}
+use Rattle.urlpattern_laws.proofs.SimpleMatchers.{pattern_makes_first_ways}
 use Rattle.urlpattern_engine.specs.PatternRegexps.{pattern_engine}
-use Rattle.urlpattern_laws.proofs.InitOutcomesExist.{init_outcome, inits_have_values}
+use Rattle.urlpattern_laws.proofs.InitValues.{inits_have_values}
 use Rattle.urlpattern_laws.proofs.OutcomesOne.{first_ways_decide, init_refusal_one, pattern_or_refusal}
 use Rattle.urlpattern_laws.specs.Outcomes.{NeverAcceptsAndRejectsGenerated}
 use Rattle.urlpattern_laws.proofs.laws.inits_have_one_outcome.Goals as goal
@@ -30,11 +30,8 @@ returns-clause-refusals g c = init_refusal_one g.R.RegExp
 pub returns-clause-values : goal.returns-clause-values
 returns-clause-values g c = inits_have_values
 
-pub returns-clause-exist : goal.returns-clause-exist
-returns-clause-exist g c = init_outcome g.R.RegExp
-
 pub returns-clause-by_first_ways : goal.returns-clause-by_first_ways
 returns-clause-by_first_ways g c = first_ways_decide g.R.RegExp
 
 pub returns-clause-pattern_regexp : goal.returns-clause-pattern_regexp
-returns-clause-pattern_regexp g c = first_ways_decide pattern_engine taken_first takes_generated
+returns-clause-pattern_regexp g c = first_ways_decide pattern_engine pattern_makes_first_ways takes_generated

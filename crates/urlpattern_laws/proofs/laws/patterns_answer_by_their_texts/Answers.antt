@@ -1,4 +1,6 @@
-use Rattle.urlpattern_pattern.proofs.ByTextLemmas.{finding_by_text, finding_one, has_meaning, input_by_text, pattern_by_engines}
+use Rattle.urlpattern_pattern.proofs.ByTextLemmas.{finding_by_text, finding_one, has_meaning, input_by_text}
+use Rattle.urlpattern_laws.proofs.EngineParts.{pattern_by_engines}
+use Rattle.urlpattern_laws.proofs.KeptMeaning.{kept_meaning}
 use Rattle.urlpattern_pattern.proofs.MeaningLemmas.{read_once}
 use Rattle.urlpattern_laws.proofs.laws.patterns_answer_by_their_texts.Goals as goal
 
@@ -19,3 +21,6 @@ returns-clause-readings g c = read_once
 
 pub returns-clause-meaning : goal.returns-clause-meaning
 returns-clause-meaning g c = has_meaning g.R.RegExp
+
+pub returns-clause-kept : goal.returns-clause-kept
+returns-clause-kept g c = kept_meaning g.R.RegExp

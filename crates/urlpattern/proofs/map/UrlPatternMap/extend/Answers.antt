@@ -1,17 +1,15 @@
-use Rattle.std.proofs.Common.{[], ap, arith, length, refl, sym, ◌∙◌, ◌++◌, ◌≡◌}
-use Rattle.std.proofs.lemmas.List.{append-nil, nil_from_length, take_at}
-use Rattle.std.specs.Prelude.{take}
+use Rattle.std.proofs.Common.{[], ap, arith, sym, ◌∙◌, ◌++◌, ◌≡◌}
+use Rattle.std.proofs.lemmas.List.{append-nil, nil_from_length}
 use Rattle.urlpattern.proofs.PatternMapLemmas.{on_err}
 use Rattle.urlpattern.proofs.map.UrlPatternMap.extend.Goals as goal
 
-pub returns-in_err-try_insert-clause-some : goal.returns-in_err-try_insert-clause-some
-returns-in_err-try_insert-clause-some g c =
+pub returns-in_err-try_insert-clause-until_refused : goal.returns-in_err-try_insert-clause-until_refused
+returns-in_err-try_insert-clause-until_refused g c =
     let invariant = c.loop-pattern.invariant in
     let yielded = c.loop-pattern.yielded in
-    let taken : take (length yielded) c.args.entries.items ≡ yielded =
-    ap (take (length yielded)) (sym invariant.left) ∙ take_at yielded c.loop-pattern.pattern-iterator.rest.items (length yielded) refl in
+    let entries = sym invariant.left ∙ ap (λ rest. yielded ++ rest) c.in-Some.ensures.steps.0 in
     on_err _ c.from_residual.result
-    (length yielded, c.in_err-try_insert.ensures.unchanged ∙ invariant.appended ∙ ap (λ entries. c.args.self.now ++ entries) (sym taken))
+    (yielded, (c.in-Some.pattern, c.in-Some.value), c.next.new.self.rest.items, entries, c.in_err-try_insert.ensures.unchanged ∙ invariant.appended)
 
 pub returns-clause-appended : goal.returns-clause-appended
 returns-clause-appended g c =

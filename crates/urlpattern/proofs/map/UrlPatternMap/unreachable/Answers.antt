@@ -10,7 +10,7 @@ pub returns-clause-found : goal.returns-clause-found
 returns-clause-found g c =
     let patterns = c.self.inside.patterns in
     let are_patterns : patterns ≡ keys_of c.args.self.now = sym (keys_of-zip patterns c.self.inside.values.items c.self.invariant) ∙ ap keys_of c.self.view_is in
-    subst (λ (them : List (UrlPattern g.row.R.Denot)). IfOk c.unreachable.result (λ found. AreUnreached them found.items)) are_patterns c.unreachable.ensures.found
+    subst (λ (them : List (UrlPattern g.row.R.Denot)). IfOk c.unreachable.result (λ found. AreUnreached g.R.RegExp them found.items)) are_patterns c.unreachable.ensures.found
 
 pub returns-clause-missing : goal.returns-clause-missing
 returns-clause-missing g c =

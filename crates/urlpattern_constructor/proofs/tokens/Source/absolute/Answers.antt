@@ -1,7 +1,7 @@
-use Rattle.std.proofs.Common.{Some, codes, not, sym, ap, ◌∙◌, inl, inr, arith}
+use Rattle.std.proofs.Common.{codes, not, sym, ap, ◌∙◌, inl, inr, arith}
 use Rattle.std.proofs.lemmas.Bool.{and_from}
 use Rattle.std.proofs.lemmas.Str.{chars-nil}
-use Rattle.urlpattern_constructor.specs.Split.{has_slashes}
+use Rattle.urlpattern_constructor.specs.Split.{has_slashes, implied}
 use Rattle.urlpattern_constructor.specs.Splitting.{tokens_of}
 use Rattle.urlpattern_constructor.proofs.SplitLemmas.{sign_goes_on}
 use Rattle.urlpattern_constructor.proofs.TextBetween.{source_closed, tokens_len}
@@ -53,8 +53,8 @@ returns-clause-split c =
         and_from (not (has_slashes (tokens_of c.args.self.now) c.args.colon.index)) (not c.args.special) (ap not (sym c.has_slashes.ensures ∙ c.if-has_slashes.false)) (ap not c.if-special.false),
         c.pathname_from-turns.ensures.nothing.1,
         c.pathname_from-turns.ensures.nothing.2,
-        ap Some chars-nil,
-        ap Some chars-nil,
+        c.implied.ensures ∙ ap implied chars-nil,
+        c.implied-2.ensures ∙ ap implied chars-nil,
         rw (c.after-2.ensures.index, c.after-2.ensures.depth) at c.pathname_from-turns.ensures.split,
       ));
     }

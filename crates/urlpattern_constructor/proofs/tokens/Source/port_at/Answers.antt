@@ -1,6 +1,7 @@
-use Rattle.std.proofs.Common.{◌+◌, ◌<◌, Some, codes, ap, sym, ◌∙◌, inr, arith}
+use Rattle.std.proofs.Common.{◌+◌, ◌<◌, codes, ap, sym, ◌∙◌, inl, inr, arith}
 use Rattle.std.proofs.lemmas.Bool.{both_ways}
 use Rattle.std.proofs.lemmas.Str.{chars-nil}
+use Rattle.urlpattern_constructor.specs.Split.{implied}
 use Rattle.urlpattern_constructor.specs.Splitting.{tokens_of}
 use Rattle.urlpattern_constructor.specs.declared.sections.Section.TheVariants.{Port}
 use Rattle.urlpattern_constructor.proofs.SplitLemmas.{port_sign, slash_is_seen, slash_seen_from_sign}
@@ -20,6 +21,12 @@ pathname_at-turns-requires-clause-slash c slash =
     let left = c.requires.slash c.end_of-end.result.index (omega arith) seen slash in
     omega (arith, left, c.end_of-end.ensures.turns, c.after-from.ensures.index, c.after-from.ensures.turns, ends.within)
 
+pub returns-then-is_non_special_pattern_char-clause-split : goal.returns-then-is_non_special_pattern_char-clause-split
+returns-then-is_non_special_pattern_char-clause-split c =
+    let ends = rw (c.after-from.ensures.index, c.after-from.ensures.depth) at c.end_of-end.ensures.ends in
+    let between = rw c.after-from.ensures.index at c.split_text.ensures in
+    inl (sym c.is_non_special_pattern_char.ensures ∙ c.if-is_non_special_pattern_char.true, (c.end_of-end.result.index, ends, between, c.pathname_at-turns.ensures.split))
+
 pub returns-clause-split : goal.returns-clause-split
 returns-clause-split c =
-    inr ((λ h. both_ways _ (sym c.is_non_special_pattern_char.ensures ∙ c.if-is_non_special_pattern_char.false) h), ap Some chars-nil, c.pathname_at-turns-2.ensures.split)
+    inr ((λ h. both_ways _ (sym c.is_non_special_pattern_char.ensures ∙ c.if-is_non_special_pattern_char.false) h), c.implied.ensures ∙ ap implied chars-nil, c.pathname_at-turns-2.ensures.split)

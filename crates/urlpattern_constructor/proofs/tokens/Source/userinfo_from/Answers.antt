@@ -15,7 +15,7 @@ hostname_from-turns-requires-clause-slash c other after seen slash =
 pub returns-then-not-is_non_special_pattern_char-clause-userinfo : goal.returns-then-not-is_non_special_pattern_char-clause-userinfo
 returns-then-not-is_non_special_pattern_char-clause-userinfo c =
     let alone = ends_alone c.args.self.now c.args.from c.args.until c.requires.source c.requires.ends c.requires.sign c.requires.level _ c.end_of-end.ensures.ends (sym c.is_non_special_pattern_char.ensures ∙ c.if-not-is_non_special_pattern_char.true) in
-    (c.end_of-end.result.index, alone.username, c.text_between.ensures, inl (alone.same, refl))
+    (c.end_of-end.result.index, alone.username, c.split_text.ensures, inl (alone.same, refl))
 
 pub returns-then-not-is_non_special_pattern_char-clause-hostname : goal.returns-then-not-is_non_special_pattern_char-clause-hostname
 returns-then-not-is_non_special_pattern_char-clause-hostname c =
@@ -48,8 +48,8 @@ hostname_from-turns-requires-2-clause-slash c other after seen slash =
 pub returns-clause-userinfo : goal.returns-clause-userinfo
 returns-clause-userinfo c =
     let found = ends_before c.args.self.now c.args.from c.args.until c.requires.source c.requires.ends c.requires.sign c.requires.level _ _ c.after-password_from.result c.end_of-end.ensures.ends (sym c.is_non_special_pattern_char.ensures ∙ c.if-not-is_non_special_pattern_char.false) c.after-password_from.ensures.index c.after-password_from.ensures.depth c.end_of-password_end.ensures.ends in
-    let between = rw (c.after-password_from.ensures.index, found.same) at c.text_between-2.ensures in
-    (c.end_of-end.result.index, found.username, c.text_between.ensures, inr (found.less, between))
+    let between = rw (c.after-password_from.ensures.index, found.same) at c.split_text-2.ensures in
+    (c.end_of-end.result.index, found.username, c.split_text.ensures, inr (found.less, between))
 
 pub returns-clause-hostname : goal.returns-clause-hostname
 returns-clause-hostname c =

@@ -13,12 +13,12 @@ pub returns-in-Some-clause-matched : goal.returns-in-Some-clause-matched
 returns-in-Some-clause-matched g c =
     let match : IsMatchOf g.R.RegExp.answer (pattern_view c.args.self.now) (borrowed_texts c.args.texts) (pattern_captures_view c.in-Some.captures) =
     rw c.in-Some.is at c.in_ok-captures.ensures.matched in
-    IfOk-weaker c.to_found.result _ _
+    IfOk-weaker c.copy_found.result _ _
     (λ found same. found-copy g.R.RegExp.answer (pattern_view c.args.self.now) (borrowed_texts c.args.texts) (pattern_captures_view c.in-Some.captures) result_view found same match)
-    c.to_found.ensures.same
+    c.copy_found.ensures.same
 
 pub returns-in-Some-clause-copied : goal.returns-in-Some-clause-copied
 returns-in-Some-clause-copied g c =
     let match : IsMatchOf g.R.RegExp.answer (pattern_view c.args.self.now) (borrowed_texts c.args.texts) (pattern_captures_view c.in-Some.captures) =
     rw c.in-Some.is at c.in_ok-captures.ensures.matched in
-    if_err _ c.to_found.result (inr (λ component. (match.captures component, match.are_answers component)))
+    if_err _ c.copy_found.result (inr (λ component. (match.captures component, match.are_answers component)))

@@ -1,0 +1,37 @@
+-- How much work comparing two lists of parts takes at most.
+use Rattle.std.specs.Prelude.{◌+◌, ◌*◌, ◌^◌, ◌≤◌, ℕ, List, [], ◌∷◌, length}
+use Rattle.urlpattern_compare.specs.Comparing.{IsReasonFor, IsReasonToShare}
+use Rattle.urlpattern_compare.specs.declared.coverage.Reason.TheVariants.{TooMany}
+use Rattle.urlpattern_compare.specs.declared.search.TheConstants.{MOST_PAIRS}
+use Rattle.urlpattern_syntax.specs.Parts.{PartView, parts_view}
+use Rattle.urlpattern_syntax.specs.declared.parser.PartType.{PartType}
+use Rattle.urlpattern_syntax.specs.declared.parts.ComponentParts.{ComponentParts}
+
+-- How often a wildcard of this kind is counted: a segment wildcard twice.
+abbrev pub wildcard_size : PartType → ℕ
+wildcard_size PartType.SegmentWildcard = 2
+wildcard_size PartType.FullWildcard = 1
+wildcard_size kind = 0
+
+-- The number of characters and wildcards of a part of this kind.
+abbrev pub part_size : PartType → PartView → ℕ
+part_size PartType.FixedText part = length part.value
+part_size kind part = length part.prefix + (wildcard_size kind + length part.suffix)
+
+-- The number of characters and wildcards of the parts, with 1 added.
+abbrev pub parts_size : List PartView → ℕ
+parts_size [] = 1
+parts_size (part ∷ parts) = parts_size parts + part_size part.kind part
+
+-- The size of the parts of a component.
+abbrev pub component_size : ComponentParts → ℕ
+component_size component = parts_size (parts_view component.parts.items)
+
+-- To find whether a component covers another, or whether the two overlap, does not take too much
+-- work if the size of each, times 2 to the power of the other's, is at most `MOST_PAIRS`.
+abbrev pub SmallAreCompared : Type 0
+SmallAreCompared =
+    (component other : ComponentParts)
+    → component_size component * 2 ^ component_size other ≤ MOST_PAIRS
+    → component_size other * 2 ^ component_size component ≤ MOST_PAIRS
+    → (¬ IsReasonFor component other TooMany) × ¬ IsReasonToShare component other TooMany

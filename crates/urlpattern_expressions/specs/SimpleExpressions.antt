@@ -1,0 +1,68 @@
+-- Simple custom expressions: what they match does not depend on the text around them, and they have
+-- no groups that capture. Whether an expression is simple is decided at run time.
+use Rattle.std.specs.Prelude.{◌≡◌, ℕ, Bool, true, false, not, ◌&&◌, nat_le, All, List, [], ◌∷◌, codes, IsTrue, if◌then◌else◌}
+use Rattle.std.specs.Char.{is_ascii}
+use Rattle.regex_hir.specs.Text.{is_some_and}
+use Rattle.regex_syntax.specs.Grammar.{read}
+use Rattle.regex_syntax.specs.Verdict.{default_config}
+use Rattle.urlpattern_syntax.specs.{ComponentParts.kept_options, ComponentParts.kept_parts, Options.OptionsView, Parts.PartView}
+use Rattle.urlpattern_syntax.specs.declared.parser.PartType.{PartType}
+use Rattle.urlpattern_syntax.specs.declared.parts.ComponentParts.{ComponentParts}
+use Rattle.urlpattern_syntax.specs.Text.{is_among, line_feed}
+
+-- ---- expressions
+
+-- Whether the text begins with `?:`, as a group does that captures nothing.
+abbrev pub begins_uncaptured : List ℕ → Bool
+begins_uncaptured (c ∷ d ∷ rest) = is_among (codes "?") c && is_among (codes ":") d
+begins_uncaptured rest = false
+
+-- Whether `c` may stand after a backslash: a letter that stands for a class of characters, or a
+-- sign that stands for itself.
+abbrev pub is_escapable : ℕ → Bool
+is_escapable c = is_among (codes "dDsSwW!\"$%&'()*+,-./:;=?@]^_`{|}~") c
+
+-- Whether `c`, after which `rest` follows, may stand after the character `before`. A caret stands
+-- only at the start of a class in brackets, and a parenthesis only opens a group that captures
+-- nothing. Neither a dollar sign nor a number sign stands without a backslash.
+abbrev pub may_follow : (before c : ℕ) → (rest : List ℕ) → Bool
+may_follow before c rest =
+    if is_among (codes "\\") before then is_escapable c
+    else if is_among (codes "^") c then is_among (codes "[") before
+    else if is_among (codes "(") c then begins_uncaptured rest
+    else is_ascii c && not (is_among (codes "$#") c)
+
+-- Whether each character of the text may stand after the one before it. `before` is the character
+-- before the text.
+abbrev pub has_simple_signs : (before : ℕ) → List ℕ → Bool
+has_simple_signs before [] = true
+has_simple_signs before (c ∷ rest) = may_follow before c rest && has_simple_signs c rest
+
+-- Whether the expression is simple: the grammar of `regex` reads it, nested no deeper than its
+-- limit, and it has no assertion, no flag and no group that captures. A line feed before the text
+-- stands for no sign.
+unfoldable pub is_simple : (expression : List ℕ) → Bool
+is_simple expression =
+    has_simple_signs (line_feed) expression
+    && is_some_and (read default_config expression) (λ (pattern, names).
+    nat_le pattern.depth default_config.nest_limit)
+
+-- ---- parts
+
+-- The expression of a custom part is simple. Parts of other kinds meet this.
+abbrev pub HasSimpleExpression : PartType → (value : List ℕ) → Type 0
+HasSimpleExpression PartType.Regexp value = IsTrue (is_simple value)
+HasSimpleExpression kind value = Unit {0}
+
+-- The expressions of all custom parts are simple.
+abbrev pub AreSimple : List PartView → Type 0
+AreSimple parts = All (λ part. HasSimpleExpression part.kind part.value) parts
+
+-- Parts with these options have a meaning: custom expressions are simple, and case is kept.
+pub record HaveMeaning (options : OptionsView) (parts : List PartView) : Type 0 where
+  pub simple : AreSimple parts
+  pub case_kept : options.ignore_case ≡ false
+
+-- The parts of a component have a meaning.
+abbrev pub KeepsMeaning : ComponentParts → Type 0
+KeepsMeaning kept = HaveMeaning (kept_options kept) (kept_parts kept)

@@ -1,0 +1,12 @@
+use Rattle.std.proofs.Common.{rules}
+use Rattle.serde_json.specs.View.{view}
+use Rattle.urlpattern_ffi.proofs.ResultDepth.{result-shallow}
+use Rattle.urlpattern_ffi.proofs.ResultFloats.{result-none}
+use Rattle.urlpattern_ffi.proofs.exec_calls.json_text.Goals as goal
+
+pub returns : goal.returns
+returns c =
+    let tree = view c.in_ok-tree.tree in
+    let is_tree = c.in_ok-tree.ensures.tree in
+    let none = result-none _ tree is_tree in
+    (tree, is_tree, search (rules, none), c.in_ok-text.ensures.reads_back (result-shallow _ tree is_tree))

@@ -1,0 +1,49 @@
+//! Whether the parts of a pattern say which texts it matches.
+ghost use Rattle.std.specs.Prelude.{◌↔◌, IfOk, IsTrue};
+ghost use Rattle.urlpattern_components.specs.declared.eight.ComponentName.{ComponentName};
+ghost use Rattle.urlpattern_pattern.specs.KeptMeanings.{HasMeaningIn};
+
+use super::UrlPattern;
+use std::alloc::Global;
+use urlpattern_components::ComponentName;
+use urlpattern_expressions::has_meaning;
+use urlpattern_matcher::regexp::RegExp;
+use urlpattern_syntax::error::OutOfMemory;
+
+impl<R: RegExp> UrlPattern<R> {
+    /// Whether each component has a meaning, as `component_has_meaning` says.
+    ///
+    /// The only error is that memory ran out.
+    pub fn has_meaning(&self, alloc: Global) -> Result<bool, OutOfMemory>
+        ensures { IfOk result (λ has_meaning.
+            IsTrue has_meaning ↔ ((name : ComponentName) → HasMeaningIn self.now name)) }
+    {
+        for name in ComponentName::all() {
+            if !self.component_has_meaning(alloc, name)? {
+                return Ok(false);
+            }
+        }
+        Ok(true)
+    }
+
+    /// Whether a component has a meaning: its case is kept, and each of its custom regular
+    /// expressions is simple, as `\d+`, `en|fr` and `[^/]+` are (`is_simple`). Over `PatternRegexp`
+    /// and `regex::Regex`, the pattern text then says which texts without line feed the component
+    /// matches, with which captures.
+    ///
+    /// `false` for a pattern that was put together by hand, which has no parts. The only error is
+    /// that memory ran out.
+    pub fn component_has_meaning(
+        &self,
+        alloc: Global,
+        component: ComponentName,
+    ) -> Result<bool, OutOfMemory>
+        ensures { IfOk result (λ has_meaning.
+            IsTrue has_meaning ↔ HasMeaningIn self.now component) }
+    {
+        match self.parts() {
+            Some(parts) => has_meaning(alloc, parts.components.get(component)),
+            None => Ok(false),
+        }
+    }
+}
