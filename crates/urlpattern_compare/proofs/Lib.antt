@@ -1,5 +1,10 @@
 pub mod StateSets
 pub mod CharacterClasses
+pub mod ConditionClasses
+pub mod ConditionLemmas
+pub mod PlaceLemmas
+pub mod CandidateLemmas
+pub mod OpenLemmas
 pub mod PairLemmas
 pub mod MadeStates
 pub mod CellTexts
@@ -15,5 +20,7 @@ pub mod PatternPartLemmas
 pub mod NamelessParts
 pub mod SameParts
 pub mod DecidedLemmas
+pub mod CommonLemmas
+pub mod TakenLemmas
 pub mod WorkLemmas
 pub mod WorkExamples

@@ -4,8 +4,10 @@
 ghost use Rattle.std.specs.Prelude.{◌≡◌, ◌<◌, ◌≤◌, ℕ, false, true, IfOk, IfNone, IfSome, OnOk, ◌∷◌, []};
 ghost use Rattle.std.specs.Char.{IsScalar};
 ghost use Rattle.urlpattern_compare.specs.Searching.{AreClasses, with_named};
+ghost use Rattle.urlpattern_compare.specs.TextSearch.{AreClassesFor};
 ghost use Rattle.urlpattern_syntax.specs.Text.{is_among, line_feed};
 
+use crate::condition::Condition;
 use crate::parts_automaton::Edge;
 use std::alloc::{AllocError, Global};
 
@@ -21,6 +23,28 @@ pub(crate) fn classes(
     let mut marks = line_feed(alloc)?;
     add_named(&mut marks, edges)?;
     add_named(&mut marks, others)?;
+    match other_than(&marks) {
+        Some(c) => {
+            marks.push(c)?;
+            Ok(marks)
+        }
+        None => Ok(marks),
+    }
+}
+
+/// Returns at least one character of each class that the automata of `conditions` tell apart: a
+/// line feed, the characters that the tests of their edges name, and a further character, if one is
+/// left.
+pub(crate) fn classes_for(
+    alloc: Global,
+    conditions: &[Condition<'_>],
+) -> Result<Vec<char>, AllocError>
+    ensures { IfOk result (λ classes. AreClassesFor conditions.now classes.items) }
+{
+    let mut marks = line_feed(alloc)?;
+    for condition in conditions {
+        add_named(&mut marks, &condition.automaton.edges)?;
+    }
     match other_than(&marks) {
         Some(c) => {
             marks.push(c)?;

@@ -10,11 +10,16 @@
 //! automata accepts, and the other accepts or rejects.
 #![tactic(auto)]
 
+mod accepting;
+mod candidates;
 mod cells;
 mod classes;
+mod common_texts;
 pub mod comparing_laws;
 mod component_coverage;
+mod condition;
 mod coverage;
+mod joint_states;
 mod order;
 pub mod order_laws;
 mod parts_automaton;
@@ -22,7 +27,10 @@ mod pattern_parts;
 mod search;
 mod shadowed;
 mod states;
+mod text_search;
 
+pub use candidates::Limits;
+pub use common_texts::{Common, Doubt, Lack, PatternAutomata, find_common};
 pub use coverage::{Covering, Overlap, Reason, covers, overlaps};
 pub use order::compare_parts;
 pub use parts_automaton::{Edge, MOST_STATES, PartsAutomaton, Test};

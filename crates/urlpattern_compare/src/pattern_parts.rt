@@ -402,7 +402,7 @@ fn overlap_of(found: Eight<CommonOrDoubtful>) -> PatternOverlap
 }
 
 /// Returns the text of these characters.
-fn string_of(alloc: Global, characters: &[char]) -> Result<String, AllocError>
+pub(crate) fn string_of(alloc: Global, characters: &[char]) -> Result<String, AllocError>
     ensures { IfOk result (λ text. text_of text ≡ characters.now) }
 {
     let mut text = String::new(alloc);
