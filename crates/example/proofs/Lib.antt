@@ -1,3 +1,0 @@
-pub mod Captured
-pub mod ExampleCopies
-pub mod UserUrls

@@ -1,9 +1,0 @@
-use Rattle.std.proofs.Common.{sym}
-use Rattle.urlpattern_engine.proofs.BoundedSearchLemmas.{none_of_both}
-use Rattle.urlpattern_engine.proofs.bounded_search.BoundedSearch.fails.Goals as goal
-
-pub returns-else-not-stops : goal.returns-else-not-stops
-returns-else-not-stops c stops =
-    c.after_writes-seen.ensures.none c.args.at
-    (none_of_both c.args.self.now c.after_writes-seen.result c.args.at c.in-Split.first c.in-Split.second (sym c.in-Split.ensures.is)
-    (c.stops.ensures c.if-not-stops.false) (c.stops-in-Split.ensures stops))
