@@ -1,5 +1,8 @@
 pub use Rattle.urlpattern_laws.proofs.ReadTexts
 pub use Rattle.urlpattern_laws.proofs.UsersExample
+pub use Rattle.urlpattern_laws.proofs.SiteRoutes
+pub use Rattle.urlpattern_laws.proofs.OrdersExample
+pub use Rattle.urlpattern_laws.proofs.DocsExample
 pub mod FixedLemmas
 pub mod ListLemmas
 pub mod NextLemmas

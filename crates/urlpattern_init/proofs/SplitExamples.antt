@@ -39,7 +39,7 @@ nowhere section tokens from depth place (suc count) h other after before may =
     ]
 
 -- A section ends `count` tokens after its beginning.
-ends : (section : Section) (tokens : List TokenView) (from depth count place : ℕ) → place ≡ from + count → place < length tokens → IsTrue (may_end section tokens from depth place || ends_at tokens place) → may_not section tokens from depth from count ≡ true → EndsAt section tokens from depth place
+pub ends : (section : Section) (tokens : List TokenView) (from depth count place : ℕ) → place ≡ from + count → place < length tokens → IsTrue (may_end section tokens from depth place || ends_at tokens place) → may_not section tokens from depth from count ≡ true → EndsAt section tokens from depth place
 ends section tokens from depth count place e within stops none = record {
   after = omega arith;
   within = within;
@@ -48,7 +48,7 @@ ends section tokens from depth count place e within stops none = record {
 }
 
 -- The text between two tokens.
-between : (tokens : List TokenView) (from until : ℕ) (front text rest : List ℕ) → IsSomeAnd (slice_get tokens from) (λ token. token.index ≡ length front) → IsSomeAnd (slice_get tokens until) (λ token. token.index ≡ length front + length text) → byte_len front ≡ length front → byte_len text ≡ length text → IsSplitTextBetween (front ++ text ++ rest) tokens from until (record { text = text; start = Some (length front) })
+pub between : (tokens : List TokenView) (from until : ℕ) (front text rest : List ℕ) → IsSomeAnd (slice_get tokens from) (λ token. token.index ≡ length front) → IsSomeAnd (slice_get tokens until) (λ token. token.index ≡ length front + length text) → byte_len front ≡ length front → byte_len text ≡ length text → IsSplitTextBetween (front ++ text ++ rest) tokens from until (record { text = text; start = Some (length front) })
 between tokens from until front text rest begins stops same_front same_text = (
   record {
     front = front;
@@ -61,7 +61,7 @@ between tokens from until front text rest begins stops same_front same_text = (
 )
 
 -- The text of a component, which the constructor string has at `start`.
-abbrev found : (start : ℕ) → (text : List ℕ) → Option SplitTextView
+abbrev pub found : (start : ℕ) → (text : List ℕ) → Option SplitTextView
 found start text = Some (record { text = text; start = Some start })
 
 -- ---- https://a]
@@ -345,7 +345,7 @@ users_absolute special = record {
 users_splits : (special : Bool) → SplitsAs users_text special users_texts
 users_splits special = (users_tokens, are_users_tokens, inr (5, special, users_absolute special, refl))
 
-answered : {A : Type 0} (special : Bool) (found : Option A) (Is : A → Type 0) → IsSomeAnd found Is → IsSomeAnd found (λ one. special ≡ special)
+pub answered : {A : Type 0} (special : Bool) (found : Option A) (Is : A → Type 0) → IsSomeAnd found Is → IsSomeAnd found (λ one. special ≡ special)
 answered special (Some one) Is is = refl
 answered special None Is is = absurd is
 

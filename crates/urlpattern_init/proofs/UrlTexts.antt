@@ -113,6 +113,10 @@ chars-scheme url valid = chars_of url.scheme (own_scheme_line url valid.head)
 pub chars-path : (url : Parts) → IsValid url → chars url.path ≡ url.path
 chars-path url valid = chars_of url.path (path_line url valid)
 
+-- The characters of a path are ASCII.
+pub path_ascii : (url : Parts) → IsValid url → All (λ b. b < 128) url.path
+path_ascii url valid = All-weaker (Passes is_line_byte) (λ b. b < 128) ascii_byte url.path (path_line url valid)
+
 -- The host of a special URL is the host that its text parses to.
 special_host : (url : Parts) (host : Option (Host (List ℕ))) (text : List ℕ) (parsed : Host (List ℕ)) → MatchOption host (is_special SpecialNotFile ≡ false) (IsHostOf SpecialNotFile)
     → chars (host_text (unwrap_or host (Domain []))) ≡ text → parse_special_host text ≡ Ok parsed → host ≡ Some parsed

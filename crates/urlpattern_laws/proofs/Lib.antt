@@ -54,6 +54,9 @@ pub mod CustomLaws
 pub mod ExpressionExamples
 pub mod FirstWayExamples
 pub mod CustomRouteExamples
+pub mod SiteRoutes
+pub mod OrdersExample
+pub mod DocsExample
 pub mod SameMatchers
 pub mod MatchingLemmas
 pub mod EngineParts
