@@ -62,7 +62,7 @@ static bool are_linked(void) {
         && is(urlpattern_component(&patterns, 0, URLPATTERN_PATHNAME, text, ROOM, &needed), URLPATTERN_DONE)
         && is(urlpattern_has_regexp_groups(&patterns, 0), URLPATTERN_DONE)
         && is(urlpattern_has_meaning(&patterns, 0), URLPATTERN_DONE)
-        && is(urlpattern_has_meaning(&patterns, 1), URLPATTERN_NO_MATCH);
+        && is(urlpattern_has_meaning(&patterns, 1), URLPATTERN_DONE);
 }
 
 static bool are_compared(void) {

@@ -1,25 +1,30 @@
-"""Tests of the module, beside the rows and the session of docs/C.md. `.ci/bindings` runs them."""
+"""Tests of the package, beside the rows, and the sessions of docs/PYTHON.md. `.ci/bindings` runs
+them."""
 import copy
 import ctypes
 import gc
 import importlib.util
+import os
 import pickle
 import resource
+import signal
 import sys
 import threading
 import unittest
 from unittest import mock
 
 import urlpattern
-from urlpattern import URLPattern, URLPatternError, URLPatternList
+from urlpattern import Match, URLPattern, URLPatternError, URLPatternList, _library
 
-THREADS, CALLS = 8, 200_000
+# Threads, and how many calls they make together of each method.
+THREADS, CALLS = 8, int(os.environ.get("CALLS", 20_000))
 
 # A URL for each number, by three routes in turn.
 FOLDERS = ("users", "posts", "files")
 SOURCES = [f"https://example.com/{path}" for path in ("users/:id", "posts/:id", "*")]
 DATED = "https://example.com/:year(\\d+)/:month/:day/:hour"
-TEXTS = dict.fromkeys(urlpattern.COMPONENTS, "*")
+COMPONENTS = _library.COMPONENTS
+TEXTS = dict.fromkeys(COMPONENTS, "*")
 TEXTS.update(protocol="https", hostname="example.com", port="", pathname="/users/:id")
 REPR = f"URLPattern({ {name: text for name, text in TEXTS.items() if text != '*'} })"
 NAMES = ("year", "month", "day", "hour")
@@ -48,9 +53,9 @@ def asked(module):
     """What threads ask of shared objects, by a number, and what the answer is: of each call."""
     pattern, dated, wide = map(module.URLPattern, (SOURCES[0], DATED, SOURCES[2]))
     routes = module.URLPatternList(SOURCES)
-    folded = module.URLPattern(SOURCES[0], ignore_case=True)
+    folded = module.URLPattern(DATED, ignore_case=True)
     is_user = lambda n: route(n) == 0
-    name_of = lambda n: urlpattern.COMPONENTS[n % len(urlpattern.COMPONENTS)]
+    name_of = lambda n: COMPONENTS[n % len(COMPONENTS)]
     missing = lambda n: NAMES[n % len(NAMES)]
     given = lambda n: [("pathname", name, str(n)) for name in NAMES if name != missing(n)]
     return {
@@ -67,6 +72,10 @@ def asked(module):
             lambda n: pattern.captures(url(n)),
             lambda n: groups(n) if is_user(n) else None,
         ),
+        "match": (
+            lambda n: pattern.match(path=f"/{FOLDERS[route(n)]}/{n}", base="https://example.com"),
+            lambda n: module.Match(0, groups(n)) if is_user(n) else None,
+        ),
         "link": (
             lambda n: pattern.link([("pathname", "id", f"{n}")]),
             lambda n: f"https://example.com/users/{n}",
@@ -82,10 +91,10 @@ def asked(module):
             lambda n: n % 2 == 0,
         ),
         "repr": (lambda n: repr(pattern), lambda n: REPR),
-        "first": (lambda n: routes.first(url(n)).index, route),
-        "first_captures": (
-            lambda n: routes.first_captures(url(n)),
-            lambda n: (route(n), groups(n)),
+        "first": (lambda n: routes.first(url(n)), lambda n: module.Match(route(n), groups(n))),
+        "match of a route": (
+            lambda n: routes[route(n)].match(url(n)),
+            lambda n: module.Match(route(n), groups(n)),
         ),
         "test of a list": (lambda n: routes.test(route(n), url(n)), lambda n: True),
         "captures of a list": (lambda n: routes.captures(route(n), url(n)), groups),
@@ -142,9 +151,9 @@ def wrong_answers(call, answer, calls=CALLS):
 
 
 def module_without_lock():
-    """The module as it is where the interpreter has no lock: functions of a CDLL run without it."""
+    """The package where the interpreter has no lock: functions of a CDLL run without it."""
     spec = importlib.util.spec_from_file_location("without_lock", urlpattern.__file__)
-    made = importlib.util.module_from_spec(spec)
+    made = sys.modules["without_lock"] = importlib.util.module_from_spec(spec)
     has_none = mock.patch.object(sys, "_is_gil_enabled", lambda: False, create=True)
     with has_none, mock.patch.object(ctypes, "PyDLL", ctypes.CDLL):
         spec.loader.exec_module(made)
@@ -160,7 +169,7 @@ class Threads(unittest.TestCase):
     def test_an_interpreter_without_a_lock(self):
         for name, (call, answer) in asked(module_without_lock()).items():
             with self.subTest(name):
-                self.assertEqual(wrong_answers(call, answer, CALLS // 100), 0)
+                self.assertEqual(wrong_answers(call, answer, CALLS // 10), 0)
 
     def test_patterns_are_appended_while_others_are_read(self):
         routes, added = URLPatternList(SOURCES), 200 * THREADS
@@ -168,14 +177,15 @@ class Threads(unittest.TestCase):
         def call(n):
             if n < added:
                 routes.append(f"https://example.com/more/{n}/:id")
-            return routes.first_captures(url(n))
+            return routes.first(url(n))
 
-        answer = lambda n: (route(n), groups(n))
+        answer = lambda n: Match(route(n), groups(n))
         self.assertEqual(wrong_answers(call, answer, 4 * added), 0)
         self.assertEqual(len(routes), len(SOURCES) + added)
         for index in range(len(routes)):
             source = "https://example.com" + routes.component(index, "pathname")
-            self.assertTrue(URLPattern(source).covers(URLPattern(routes._sources[index][0])))
+            self.assertTrue(URLPattern(source).covers(routes[index]))
+            self.assertEqual(copy.copy(routes[index]).pathname, routes[index].pathname)
 
     def test_each_refused_pattern_has_its_own_place(self):
         def call(n):
@@ -185,7 +195,7 @@ class Threads(unittest.TestCase):
                 return error.place
 
         place = lambda n: (20 + n % 7, 21 + n % 7)
-        self.assertEqual(wrong_answers(call, place, CALLS // 100), 0)
+        self.assertEqual(wrong_answers(call, place, CALLS // 10), 0)
 
 
 def pickled(protocol):
@@ -210,15 +220,19 @@ class Copies(unittest.TestCase):
             del made
             gc.collect()
             self.assertTrue(denied.test(0, "https://example.com/ADMIN/users"))
+            self.assertEqual(way(denied[1]), denied[1])
+            match = denied.first("http://a.example.com/")
+            self.assertEqual((way(match), match.index), (match, 1))
 
     def test_a_copy_outlives_its_list(self):
         for way in self.WAYS:
             pattern, routes = URLPattern(SOURCES[0]), URLPatternList(SOURCES)
-            made = way(pattern), way(routes)
+            made, last = (way(pattern), way(routes)), routes[-1]
             del pattern, routes
             gc.collect()
             self.assertTrue(made[0].test(url(0)))
             self.assertEqual(made[1].first(url(1)).index, 1)
+            self.assertTrue(last.test(url(2)))
 
     def test_a_subclass_keeps_its_attributes(self):
         for way in self.WAYS:
@@ -226,6 +240,40 @@ class Copies(unittest.TestCase):
             self.assertEqual((type(way(named)), way(named).name), (Named, "users"))
             self.assertEqual((type(way(allowed)), way(allowed).users), (Allowed, ["a"]))
             self.assertTrue(way(named).test(url(0)) and way(allowed).test(0, url(0)))
+
+
+class Forks(unittest.TestCase):
+    def test_a_child_uses_what_threads_used_when_it_was_made(self):
+        routes, over = URLPatternList(SOURCES), threading.Event()
+
+        def work():
+            while not over.is_set():
+                routes.first(url(len(URLPatternList(SOURCES))))
+
+        threads = [threading.Thread(target=work) for _ in range(THREADS)]
+        for thread in threads:
+            thread.start()
+        try:
+            for _ in range(50):
+                self.assertEqual(self.end_of_child(routes), 0)
+        finally:
+            over.set()
+            for thread in threads:
+                thread.join()
+
+    def end_of_child(self, routes):
+        """How a child ends that finds, appends and frees: with 0 if all is right."""
+        child = os.fork()
+        if child == 0:
+            signal.alarm(20)
+            try:
+                routes.append("https://example.org/:id")
+                right = all(routes.first(url(n)) == Match(route(n), groups(n)) for n in range(9))
+                right = right and routes[-1].test("https://example.org/7")
+                os._exit(not right)
+            finally:
+                os._exit(2)
+        return os.waitstatus_to_exitcode(os.waitpid(child, 0)[1])
 
 
 class Memory(unittest.TestCase):
@@ -261,8 +309,8 @@ class Arguments(unittest.TestCase):
 
     def test_what_is_no_url(self):
         pattern, routes, none = URLPattern(SOURCES[0]), URLPatternList(SOURCES), URLPatternList()
-        calls = [pattern.test, pattern.mismatch, pattern.exec, pattern.captures]
-        calls += [routes.first, routes.first_captures, none.first, none.first_captures]
+        calls = [pattern.test, pattern.mismatch, pattern.exec, pattern.captures, pattern.match]
+        calls += [routes.first, routes.first_captures, none.first]
         for call in (routes.test, routes.mismatch, routes.exec, routes.captures):
             calls.append(lambda *texts, call=call: call(0, *texts))
         for call in calls:
@@ -278,9 +326,10 @@ class Arguments(unittest.TestCase):
         for wrong, name in self.WRONG:
             for call in (URLPattern, routes.append, lambda it: URLPatternList([it])):
                 self.refuses(TypeError, f"a pattern is a str or a dict, not {name}", call, wrong)
-            for key in (*urlpattern.COMPONENTS, "baseURL"):
+            for key in (*COMPONENTS, "baseURL"):
                 words = f"{key!r} of a pattern is a str, not {name}"
-                self.refuses(TypeError, words, URLPattern, {"pathname": "/", key: wrong})
+                if (key, name) != ("port", "int"):
+                    self.refuses(TypeError, words, URLPattern, {"pathname": "/", key: wrong})
             self.refuses(TypeError, f"not {name}", pattern.covers, wrong)
             if wrong is not None:
                 words = f"a base URL is a str, not {name}"
@@ -289,6 +338,15 @@ class Arguments(unittest.TestCase):
         for one in (SOURCES[0], {"pathname": "/"}):
             self.refuses(TypeError, f"not a {type(one).__name__}", URLPatternList, one)
         self.assertEqual(len(routes), len(SOURCES))
+        self.refuses(TypeError, "as it was made", URLPattern, pattern, SOURCES[0])
+
+    def test_a_port_is_a_number_or_a_text(self):
+        self.assertEqual(URLPattern({"port": 8080}), URLPattern({"port": "8080"}))
+        self.assertTrue(URLPattern({"port": 8080}).test("http://example.com:8080/"))
+        words = "'port' of a pattern is a str, not bool"
+        self.refuses(TypeError, words, URLPattern, {"port": True})
+        for port in (-1, 1 << 16):
+            self.refuses(URLPatternError, "port", URLPattern, {"port": port})
 
     def test_what_is_no_component_or_group(self):
         pattern, routes = URLPattern(SOURCES[0]), URLPatternList(SOURCES)
@@ -341,20 +399,54 @@ class Arguments(unittest.TestCase):
                 self.refuses(IndexError, "no such pattern", ask, index)
             for index in (None, "0", 0.5):
                 self.refuses(TypeError, "cannot be interpreted as an integer", ask, index)
+        for index in (end, -end - 1, 1 << 64):
+            self.refuses(IndexError, "out of range", routes.__getitem__, index)
 
 
 class Answers(unittest.TestCase):
     def test_a_first_match_is_true(self):
         routes = URLPatternList(SOURCES)
-        self.assertTrue(routes.first(url(0)) and routes.first_captures(url(0)))
+        self.assertTrue(routes.first(url(0)))
         self.assertEqual([routes.first(url(n)).index for n in range(3)], [0, 1, 2])
-        found = routes.first_captures(url(1))
-        self.assertEqual((found.index, found.groups), (1, groups(1)))
+        index, found = routes.first_captures(url(1))
+        self.assertEqual((index, found), (1, groups(1)))
         for missed in ("https://example.org/", "no URL"):
             self.assertIs(routes.first(missed), None)
-            self.assertIs(routes.first_captures(missed), None)
             self.assertIs(URLPatternList().first(missed), None)
-            self.assertIs(URLPatternList().first_captures(missed), None)
+
+    def test_the_groups_of_a_match(self):
+        pattern = URLPattern("https://:id.example.com/:id/:page?/*")
+        match = pattern.match("https://a.example.com/b/")
+        self.assertEqual(match.hostname, {"id": "a"})
+        self.assertEqual(match.pathname, {"id": "b", "page": None, "0": ""})
+        self.assertEqual((match.protocol, match.search), ({}, {"0": ""}))
+        self.assertEqual(match["page"], None)
+        self.assertEqual(match.groups, pattern.captures("https://a.example.com/b/"))
+        for call in (lambda: [*match], lambda: "page" in match):
+            self.assertRaisesRegex(TypeError, "itera", call)
+        for call in (match.groupdict, lambda: match["id"], lambda: match.group("0")):
+            self.assertRaisesRegex(IndexError, "ask one, as `match.\\w+\\['(id|0)'\\]`", call)
+        self.assertRaisesRegex(IndexError, "no such group: 'none'", match.group, "none")
+        match = URLPattern("https://example.com/:a/:b?").match("https://example.com/1")
+        self.assertEqual(match.groupdict(), {"a": "1", "b": None})
+        self.assertEqual(match.groupdict(""), {"a": "1", "b": ""})
+        self.assertEqual(match, Match(0, match.groups))
+
+    def test_a_list_is_a_sequence(self):
+        routes = URLPatternList(SOURCES)
+        patterns = [URLPattern(source) for source in SOURCES]
+        self.assertEqual([*routes], patterns)
+        self.assertEqual([*reversed(routes)], patterns[::-1])
+        self.assertEqual((routes[-1], routes[1:]), (patterns[-1], patterns[1:]))
+        self.assertEqual((routes.index(patterns[1]), routes.count(patterns[2])), (1, 1))
+        self.assertIn(patterns[0], routes)
+        self.assertNotIn(URLPattern(SOURCES[0], ignore_case=True), routes)
+        self.assertEqual(set(URLPatternList(routes)), set(patterns))
+        self.assertEqual(repr(routes[:1]), f"[{REPR}]")
+        self.assertEqual(eval(repr(routes))[0].pathname, "/users/:id")
+        self.assertTrue(routes[2].covers(routes[0]) and routes[2].covers(patterns[0]))
+        self.assertEqual(routes[1].link([("pathname", "id", "7")]), "https://example.com/posts/7")
+        self.assertEqual(routes[2].pathname, "/*")
 
     def test_a_place_is_one_of_characters(self):
         """Each text has characters of one to four bytes before its fault, which is `(`."""
@@ -389,7 +481,7 @@ class Answers(unittest.TestCase):
             found = wide.captures("https://example.com" + "/a" * many)
             named = [name for component, name, _ in found if component == "pathname"]
             self.assertEqual(named, [f"name{number}" for number in range(many)])
-        self.assertLessEqual(max(len(it.text) for it in urlpattern._FREE), urlpattern.KEPT)
+        self.assertLessEqual(max(len(it.text) for it in _library.FREE), _library.KEPT)
 
     def test_a_base_does_not_tie_a_url_to_its_host(self):
         pattern = URLPattern("https://example.com/*")
@@ -397,6 +489,39 @@ class Answers(unittest.TestCase):
         for left in ("//other.com/x", "\\\\other.com\\x", "https://other.com/x"):
             self.assertFalse(pattern.test(left, "https://example.com"))
             self.assertEqual(pattern.mismatch(left, "https://example.com"), "hostname")
+
+    def test_a_path_has_the_host_of_its_base(self):
+        """However slashes, dots and what a URL is read without begin the path, also of schemes that
+        are not special."""
+        starts = ("/", "//", "/\\", "/\t/", "/\n\\", "///", "/./", "/.//", "/..//", "/%2e//")
+        starts += ("//@", "//:1", "//[::1]", "/?", "/#", "/\\\\")
+        bases = ("https://u:p@a.example:8080/x/y?z#w", "http://[::1]/", "foo://a.example/x")
+        bases += ("file://a.example/C:/x", "ws://a.example")
+        wide = URLPattern({})
+        for base in bases:
+            host = {name: it["input"] for name, it in wide.exec(base).items()}
+            for start in starts:
+                found = wide.exec(path=f"{start}evil.example/users/9", base=base)
+                for name in ("protocol", "username", "password", "hostname", "port"):
+                    self.assertEqual(found[name]["input"], host[name], (base, start))
+        pattern, base = URLPattern("https://example.com/users/:id"), "https://example.com"
+        calls = [pattern.test, pattern.match, pattern.exec, pattern.captures]
+        for call in (*calls, URLPatternList([pattern]).first):
+            self.assertTrue(call(path="/users/9?q#f", base=f"{base}/x"))
+            for start in ("//evil.example", "/\\evil.example", "//example.com"):
+                self.assertFalse(call(path=f"{start}/users/9", base=base))
+            self.assertFalse(call(path="/users/9", base="mailto:x"))
+            for wrong in (f"{base}/users/9", "users/9", "", " /users/9", "\\users\\9", "?/"):
+                with self.assertRaisesRegex(ValueError, "a path begins with `/`"):
+                    call(path=wrong, base=base)
+            for error, wrong in (
+                ("a path needs a base URL and no other", {"path": "/x"}),
+                ("a path needs a base URL and no other", {"path": "/x", "url": "/", "base": base}),
+                ("a path is a str, not bytes", {"path": b"/", "base": base}),
+                ("a base URL is a str, not bytes", {"path": "/", "base": b"/"}),
+            ):
+                self.assertRaisesRegex(TypeError, error, call, **wrong)
+        self.assertEqual(pattern.mismatch(path="//evil.example/users/9", base=base), "pathname")
 
     def test_patterns_are_compared_however_they_were_given(self):
         user, wide = URLPattern(SOURCES[0]), URLPattern(SOURCES[2])
@@ -438,8 +563,9 @@ class Answers(unittest.TestCase):
             self.assertIs(URLPattern(text, "https://example.com").has_meaning, answer)
         found = [plain.has_meaning(index) for index in range(len(plain))]
         self.assertEqual(found, list(cases.values()))
-        self.assertFalse(any(folded.has_meaning(index) for index in range(len(folded))))
-        self.assertFalse(URLPattern({"protocol": "https"}, ignore_case=True).has_meaning)
+        found = [folded.has_meaning(index) for index in range(len(folded))]
+        self.assertEqual(found, ["(" not in text for text in cases])
+        self.assertTrue(URLPattern({"protocol": "(https?)"}, ignore_case=True).has_meaning)
 
     def test_no_url_and_no_match(self):
         pattern = URLPattern("https://example.com/*")

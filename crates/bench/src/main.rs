@@ -4,6 +4,7 @@
 
 mod calls;
 mod case;
+mod common;
 mod compiled;
 mod components;
 mod constructors;

@@ -102,12 +102,31 @@ pub fn are_lacking<R: RegExp>(
 ) -> Result<bool, Fault> {
     let mut is_same = pattern.has_meaning(alloc)? == lacking.is_empty();
     for name in ComponentName::all() {
-        let is_lacking = lacking.iter().any(|value| value.as_str() == Some(name.as_str()));
-        if pattern.component_has_meaning(alloc, name)? == is_lacking {
+        if pattern.component_has_meaning(alloc, name)? == is_named(lacking, name) {
             is_same = false;
         }
     }
     Ok(is_same)
+}
+
+/// Whether the components without a meaning over `PatternRegexp` are the recorded ones.
+pub fn are_lacking_by_case<R: RegExp>(
+    alloc: Global,
+    pattern: &UrlPattern<R>,
+    lacking: &[Value],
+) -> Result<bool, Fault> {
+    let mut is_same = pattern.has_meaning_by_case(alloc)? == lacking.is_empty();
+    for name in ComponentName::all() {
+        if pattern.component_has_meaning_by_case(alloc, name)? == is_named(lacking, name) {
+            is_same = false;
+        }
+    }
+    Ok(is_same)
+}
+
+/// Whether the component is among the named ones.
+fn is_named(names: &[Value], name: ComponentName) -> bool {
+    names.iter().any(|value| value.as_str() == Some(name.as_str()))
 }
 
 /// Whether the outcome for each input of a question is the recorded one, by the call that the

@@ -92,6 +92,10 @@ pub enum Operation {
     Covers,
     /// Finds the patterns of a list that an earlier one covers.
     Unreachable,
+    /// Finds texts that some patterns match, and others do not.
+    Common,
+    /// Finds the patterns of a list that cover another one together.
+    Together,
     /// Decides which components of a pattern have a meaning.
     Meaning,
     /// Writes a plain value as JSON that was parsed from JSON.
@@ -123,6 +127,8 @@ pub const OPERATIONS: &[(&str, Operation)] = &[
     ("compare", Operation::Compare),
     ("covers", Operation::Covers),
     ("unreachable", Operation::Unreachable),
+    ("common", Operation::Common),
+    ("together", Operation::Together),
     ("meaning", Operation::Meaning),
     ("json", Operation::Json),
     ("equal", Operation::Equal),

@@ -7,7 +7,7 @@ use crate::{generated, links, patterns, rules};
 use crate::recorded::{
     Answer, Fault, OPERATIONS, Operation, field, is_set, named, optional_text, text,
 };
-use crate::{Case, compiled, components, engines, matchers, tokens, values};
+use crate::{Case, common, compiled, components, engines, matchers, tokens, values};
 use regex::Regex;
 use serde_json::Value;
 use std::alloc::Global;
@@ -112,6 +112,8 @@ fn is_same_over<R: RegExp>(operation: Operation, case: &Case<'_>) -> Result<bool
         Operation::Compare => rules::is_same_order(case),
         Operation::Covers => rules::is_same_covering(case),
         Operation::Unreachable => rules::is_same_unreachable(case),
+        Operation::Common => common::is_same_common(case),
+        Operation::Together => common::is_same_together(case),
         Operation::Meaning => rules::is_same_meaning(case),
         Operation::Json => trees::is_same(case),
         Operation::Equal => trees::is_same_equality(case),

@@ -1,6 +1,6 @@
 //! Compares patterns, and lists and maps of them.
 
-use crate::patterns::are_lacking;
+use crate::patterns::{are_lacking, are_lacking_by_case};
 use crate::recorded::{Answer, Fault, field, has_text, list, named, optional_text, text};
 use crate::{Case, given};
 use serde_json::Value;
@@ -19,7 +19,7 @@ use urlpattern_quirks::process_construct_pattern_input;
 use urlpattern_syntax::Error;
 
 /// The names of the reasons.
-const REASONS: &[(&str, Reason)] = &[
+pub const REASONS: &[(&str, Reason)] = &[
     ("custom expression", Reason::CustomExpression),
     ("ignored case", Reason::IgnoredCase),
     ("too many", Reason::TooMany),
@@ -80,10 +80,15 @@ pub fn is_same_meaning(case: &Case<'_>) -> Result<bool, Fault> {
         return Ok(false);
     };
     let lacking = list(recorded, "lacking")?;
+    let by_case = match list(recorded, "lackingByCase") {
+        Ok(by_case) => by_case,
+        Err(_) => lacking,
+    };
     let pattern = pattern(case.alloc, field(case.question, "pattern")?)?;
     let is_same = are_lacking(case.alloc, &pattern, lacking);
+    let is_same_by_case = are_lacking_by_case(case.alloc, &pattern, by_case);
     drop(pattern);
-    is_same
+    Ok(is_same? && is_same_by_case?)
 }
 
 /// The list of patterns.

@@ -1,3 +1,5 @@
 pub mod Captured
 pub mod ExampleCopies
 pub mod UserUrls
+pub mod OrderUrls
+pub mod DocsUrls

@@ -8,16 +8,14 @@ use Rattle.std.specs.List.{list_any}
 use Rattle.std.specs.Str.{chars}
 use Rattle.example.specs.NamedUsers.{NamesNone, NamesUser}
 use Rattle.example.specs.Users.{IsNoUser, IsPatternOfUsers, IsUrlOfUser, IsUser, default_asked, users_text}
-use Rattle.url.proofs.OnLiterals.{url_on_literals}
-use Rattle.url.specs.Host.{host_text, parse_special_host}
+use Rattle.url.specs.Host.{host_text}
 use Rattle.url.specs.Parts.{IsValid, Parts, host_or_empty, text_between}
-use Rattle.url.specs.Scheme.{scheme_type}
 use Rattle.url.specs.declared.host.Host.{Host}
 use Rattle.url.specs.declared.host.Host.TheVariants.{Domain}
-use Rattle.url.specs.declared.scheme.SchemeType.TheVariants.{SpecialNotFile}
 use Rattle.url.specs.declared.slicing.Position.TheVariants.{AfterPort, BeforePort}
 use Rattle.urlpattern.proofs.ReadTexts.{IsTextAndSegment, anything_means, literal_means, text_and_segment_mean}
-use Rattle.urlpattern.proofs.UsersExample.{chars-path, chars-scheme, host_by_text, no_port, users_alone, users_of_parts, users_options, users_parts, users_path}
+use Rattle.urlpattern.proofs.SiteRoutes.{on_site}
+use Rattle.urlpattern.proofs.UsersExample.{chars-path, users_alone, users_of_parts, users_options, users_parts, users_path}
 use Rattle.urlpattern.specs.Match.{CallsAnEngine, HasMatch, HasNoMatch, IsMatch}
 use Rattle.urlpattern.specs.ResultViews.{ResultView, group_of}
 use Rattle.urlpattern.specs.MatchInput.{input_texts}
@@ -44,23 +42,15 @@ use Rattle.urlpattern.specs.ComponentName.TheVariants.{Protocol, Username, Passw
 
 -- ---- texts and parts
 
-parsed_host : parse_special_host (codes "example.com") ≡ Ok (Domain (codes "example.com"))
-unfolding url_on_literals
-parsed_host = refl
-
-https_is_special : scheme_type (codes "https") ≡ SpecialNotFile
-unfolding url_on_literals
-https_is_special = refl
-
 -- The texts are those of a user's URL.
 user_of_texts : (url : Parts) (captures : Captures) → IsValid url → chars url.scheme ≡ codes "https" → chars (host_text (host_or_empty url)) ≡ codes "example.com" →
     chars (text_between url BeforePort AfterPort) ≡ [] → (path : IsTextAndSegment pathname_options (codes "/users") (codes "/") (chars url.path) captures) → IsUser url path.0
 user_of_texts url captures valid is_scheme is_host is_port (id, is_path, segment, captured) =
-    let scheme : url.scheme ≡ codes "https" = sym (chars-scheme url valid) ∙ is_scheme in
+    let site = on_site url valid is_scheme is_host is_port in
     record {
-      scheme = scheme;
-      host = host_by_text url (codes "example.com") (Domain (codes "example.com")) valid (ap scheme_type scheme ∙ https_is_special) is_host parsed_host;
-      port = no_port url valid is_port;
+      scheme = site.0;
+      host = site.1;
+      port = site.2;
       path = sym (chars-path url valid) ∙ is_path;
       not_empty = segment.0;
       no_slash = segment.1;

@@ -4,3 +4,6 @@ pub mod Grants
 pub mod Routes
 pub mod Same
 pub mod Users
+pub mod Sites
+pub mod Orders
+pub mod Docs

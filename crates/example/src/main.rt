@@ -1,8 +1,9 @@
 //! Small programs that use the library, each with a contract in the library's words: a router, a
 //! router for paths alone, a router with values, a permission check, a store of permissions, rules
-//! for a cache, a pattern that is printed and read again, and users by their URLs. And small uses
-//! of each call, without contracts: matching, comparing, generating, diagnosing, components by
-//! themselves, and calls for browsers.
+//! for a cache, a pattern that is printed and read again, and users, orders and pages of
+//! documentation by their URLs. And small uses of each call, without contracts: matching,
+//! comparing, generating, diagnosing, components by themselves, the responses of a server, and
+//! calls for browsers.
 #![tactic(auto)]
 
 ghost use Rattle.std.specs.Prelude.{◌≡◌, ◌+◌, length, OnOk};
@@ -12,17 +13,22 @@ mod cache;
 mod comparing;
 mod components;
 mod diagnosing;
+mod docs;
 mod generating;
 mod grants;
 mod matching;
+mod orders;
 mod path;
 mod permission;
 mod printed;
 mod router;
 mod routes;
+mod server;
 mod users;
 
+use docs::Docs;
 use grants::Grants;
+use orders::Orders;
 // docs: imports
 use std::alloc::Global;
 use std::io;
@@ -89,6 +95,29 @@ fn path_line(alloc: Global, path: &str) -> Result<String, Error> {
     match id? {
         Some(id) => Ok(format!(in alloc; "{path}: user {id}")?),
         None => Ok(format!(in alloc; "{path}: no user")?),
+    }
+}
+
+/// The order that a URL names, as a sentence.
+fn order_line(alloc: Global, url: &Url) -> Result<String, Error> {
+    let orders = Orders::new(alloc)?;
+    let id = orders.id(alloc, url);
+    drop(orders);
+    match id? {
+        Some(id) => Ok(format!(in alloc; "order {id}")?),
+        None => text(alloc, "no order"),
+    }
+}
+
+/// The language of the page of documentation with a URL, as a sentence.
+fn docs_line(alloc: Global, url: &Url) -> Result<String, Error> {
+    let docs = Docs::new(alloc)?;
+    let language = docs.language(alloc, url);
+    drop(docs);
+    match language? {
+        Some(Some(language)) => Ok(format!(in alloc; "documentation in {language}")?),
+        Some(None) => text(alloc, "documentation"),
+        None => text(alloc, "no documentation"),
     }
 }
 
@@ -235,8 +264,17 @@ fn lines(alloc: Global, url: &str) -> Result<String, Error> {
     Ok(format!(in alloc; "{url}: {user}, {page}, {permission}, {cached}")?)
 }
 
-/// Writes the lines of the modules that show small uses of the calls.
+/// Writes the lines about custom expressions, and those of the modules that show small uses of the
+/// calls.
 fn calls<W: Write>(alloc: Global, out: &mut W) -> io::Result<()> {
+    for url in [
+        "https://example.com/orders/17",
+        "https://example.com/orders/x",
+        "https://example.com/fr/docs",
+        "https://example.com/docs?q",
+    ] {
+        write_line(out, custom_line(alloc, url))?;
+    }
     write_line(out, matching::test_line(alloc))?;
     write_line(out, matching::exec_line(alloc))?;
     write_line(out, matching::groups_line(alloc))?;
@@ -257,9 +295,24 @@ fn calls<W: Write>(alloc: Global, out: &mut W) -> io::Result<()> {
     write_line(out, components::path_line(alloc))?;
     write_line(out, components::matcher_line(alloc))?;
     write_line(out, components::canonical_line(alloc))?;
+    for (method, path) in [
+        ("HEAD", "/users/123"),
+        ("POST", "/users/123"),
+        ("GET", "/files"),
+    ] {
+        write_line(out, server::response_line(alloc, method, path))?;
+    }
     write_line(out, browser::plain_line(alloc))?;
     write_line(out, browser::texts_line(alloc))?;
     write_line(out, browser::init_line(alloc))
+}
+
+/// A line about a URL, by patterns with custom expressions: its order, and its language.
+fn custom_line(alloc: Global, url: &str) -> Result<String, Error> {
+    let url = Url::parse(alloc, url)?;
+    let order = order_line(alloc, &url)?;
+    let docs = docs_line(alloc, &url)?;
+    Ok(format!(in alloc; "{url}: {order}, {docs}")?)
 }
 
 // docs: main

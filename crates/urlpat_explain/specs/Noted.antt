@@ -8,7 +8,7 @@ use Rattle.urlpat_explain.specs.declared.noted.Noted.{Noted}
 use Rattle.urlpattern_components.specs.Eight.{at}
 use Rattle.urlpattern_components.specs.declared.eight.{ComponentName.ComponentName, Eight.Eight}
 use Rattle.urlpattern_engine.specs.declared.pattern_regexp.PatternRegexp.{PatternRegexp}
-use Rattle.urlpattern_pattern.specs.KeptMeanings.{HasMeaningIn}
+use Rattle.urlpattern_pattern.specs.KeptMeanings.{HasMeaningByCaseIn}
 use Rattle.urlpattern_pattern.specs.UrlPatterns.{UrlPattern}
 use Rattle.urlpattern_syntax.specs.ComponentParts.{kept_parts}
 use Rattle.urlpattern_syntax.specs.Parts.{PartView}
@@ -40,7 +40,7 @@ HasOwnGroups pattern name =
 -- groups of its own.
 pub record IsNoted {E : Type 0} (pattern : UrlPattern E) (name : ComponentName) (noted : Noted)
     : Type 0 where
-  pub meaning : IsTrue noted.has_meaning ↔ HasMeaningIn pattern name
+  pub meaning : IsTrue noted.has_meaning ↔ HasMeaningByCaseIn pattern name
   pub groups : IsTrue noted.has_own_groups ↔ HasOwnGroups pattern name
 
 -- `noted` says this of each component of the pattern.

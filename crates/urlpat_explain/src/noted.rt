@@ -17,7 +17,8 @@ use urlpattern_syntax::parser::{Part, PartType};
 /// What is noted of a component.
 #[derive(Clone, Copy)]
 pub struct Noted {
-    /// Whether the component has a meaning: case is kept, and each custom expression is simple.
+    /// Whether the component has a meaning: each custom expression is simple, and if there is one,
+    /// case is kept.
     pub has_meaning: bool,
     /// Whether a custom expression of the component has groups of its own, which shift the names
     /// after it.
@@ -47,7 +48,7 @@ fn component_noted(
 ) -> Result<Noted, OutOfMemory>
     ensures { IfOk result (IsNoted pattern.now name) }
 {
-    let has_meaning = pattern.component_has_meaning(alloc, name)?;
+    let has_meaning = pattern.component_has_meaning_by_case(alloc, name)?;
     let has_own_groups = has_own_groups(alloc, pattern, name)?;
     Ok(Noted {
         has_meaning,

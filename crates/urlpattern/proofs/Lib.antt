@@ -1,8 +1,13 @@
 pub use Rattle.urlpattern_laws.proofs.ReadTexts
 pub use Rattle.urlpattern_laws.proofs.UsersExample
+pub use Rattle.urlpattern_laws.proofs.SiteRoutes
+pub use Rattle.urlpattern_laws.proofs.OrdersExample
+pub use Rattle.urlpattern_laws.proofs.DocsExample
 pub mod FixedLemmas
 pub mod ListLemmas
 pub mod NextLemmas
 pub mod PatternMapLemmas
+pub mod MapFinding
+pub mod RouteLemmas
 pub mod UnreachedLemmas
 pub mod NeverFirst

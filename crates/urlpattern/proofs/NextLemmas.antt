@@ -15,7 +15,8 @@ use Rattle.urlpattern_pattern.specs.Patterns.{PatternView, pattern_view}
 use Rattle.urlpattern_pattern.specs.UrlPatterns.{UrlPattern}
 use Rattle.urlpattern_components.specs.Eight.{Texts}
 
-some-mapped : {X Y : Type 0} (f : X → Y) (found : Option X) (y : Y) → option_map f found ≡ Some y → (x : X) × (found ≡ Some x) × (f x ≡ y)
+-- What a mapped option has.
+pub some-mapped : {X Y : Type 0} (f : X → Y) (found : Option X) (y : Y) → option_map f found ≡ Some y → (x : X) × (found ≡ Some x) × (f x ≡ y)
 some-mapped f None y is = absurd cc
 some-mapped f (Some x) y is = (x, refl, same_Some (f x) y is)
 

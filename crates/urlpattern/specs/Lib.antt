@@ -21,7 +21,7 @@ pub use Rattle.urlpattern_init.specs.SpecialProtocol
 pub use Rattle.urlpattern_constructor.specs.Split
 pub use Rattle.urlpattern_constructor.specs.Splitting
 pub use Rattle.urlpattern_init.specs.UrlTexts
-pub use Rattle.urlpattern_laws.specs.Folded
+pub use Rattle.urlpattern_laws.specs.ByCase
 pub use Rattle.urlpattern_laws.specs.Outcomes
 pub use Rattle.urlpattern_laws.specs.PatternLaws
 pub use Rattle.urlpattern_meaning.specs.Dialect
@@ -102,7 +102,9 @@ pub use Rattle.urlpattern_syntax.specs.declared.parser.Part
 pub use Rattle.urlpattern_syntax.specs.declared.parser.RegexSyntax
 pub mod FirstMatch
 pub mod NextMatch
+pub mod Paths
 pub mod PatternKeys
 pub mod PatternMaps
+pub mod Routes
 pub mod Theorem
 pub mod Unreached

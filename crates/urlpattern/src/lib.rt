@@ -1,20 +1,27 @@
 //! URL patterns: texts such as `/users/:id` that say which URLs match, and name parts of them.
 //!
-//! `UrlPatternList` and `UrlPatternMap` return the first pattern that matches. The module `quirks`
-//! is for browsers. This crate re-exports what users need of the crates below it.
+//! `UrlPatternList` and `UrlPatternMap` return the first pattern that matches, and
+//! `UrlPatternRouter` the first route for a method. The module `quirks` is for browsers. This crate
+//! re-exports what users need of the crates below it.
 //!
 //! <https://urlpattern.spec.whatwg.org/>
 #![tactic(auto)]
 
 mod list;
 mod map;
+mod path;
+mod path_error;
 pub mod quirks;
 pub mod regexp;
+mod router;
 pub mod rules;
 pub mod theorem;
 
 pub use list::{UrlPatternList, UrlPatternMatches};
 pub use map::{UrlPatternMap, UrlPatternMapIter};
+pub use path::is_path;
+pub use path_error::PathError;
+pub use router::{AllowedMethods, Route, RouteError, Routed, UrlPatternRouter};
 pub use urlpattern_canonical::canonicalize_and_process;
 pub use urlpattern_components::{ComponentName, Eight};
 pub use urlpattern_diagnosis::{Diagnosis, Fault, Span, Subject};

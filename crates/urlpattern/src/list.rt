@@ -10,18 +10,18 @@ ghost use Rattle.std.specs.Prelude.{◌≡◌, ◌==◌, ◌++◌, ◌<◌, [], 
 ghost use Rattle.std.specs.Slice.Iter.{iter_rest};
 ghost use Rattle.urlpattern_init.specs.Inheritance.{texts_of_url};
 ghost use Rattle.urlpattern_init.specs.declared.init.UrlPatternMatchInput.TheVariants as inputs;
-ghost use Rattle.urlpattern.specs.FirstMatch.{first_captures_view, first_view, patterns_view, CopiesFirstMatch, HasGroupsInOrder, IsFirstCaptured, IsFirstMatch, CallsEngineBeforeMatch};
+ghost use Rattle.urlpattern.specs.FirstMatch.{first_captures_view, first_view, patterns_view, CopiesFirstMatch, HasGroupsInOrder, IsFirstMatch, CallsEngineBeforeMatch};
 ghost use Rattle.urlpattern.specs.PatternKeys.{address_of};
 ghost use Rattle.urlpattern_index.specs.FixedTexts.{address_texts};
 ghost use Rattle.urlpattern_index.specs.Keys.{hashes_of, hashes_view};
 ghost use Rattle.urlpattern.specs.NextMatch.{matches_left, CallsEngineBeforeMatchFrom, IsFirstCapturedFrom};
 ghost use Rattle.urlpattern_pattern.specs.Match.{IfUrl};
-ghost use Rattle.urlpattern_matches.specs.MatchInput.{texts_view};
 ghost use Rattle.urlpattern_pattern.specs.UrlPatterns.{UrlPattern};
 ghost use Rattle.urlpattern_syntax.specs.Errors.{OnlyOutOfMemory};
 
 mod finding;
 mod matches;
+mod other_inputs;
 mod pattern_fixed;
 mod unreached;
 
@@ -34,7 +34,6 @@ pub use unreached::unreachable_patterns_are_never_first;
 use url::{Url, quirks};
 use urlpattern_index::{Address, AddressHashes, Index};
 use urlpattern_init::UrlPatternMatchInput;
-use urlpattern_inputs::MatchInput;
 use urlpattern_matcher::regexp::RegExp;
 use urlpattern_matches::{
     UrlPatternCaptures, UrlPatternResult, input_texts, parse_match_input, url_texts,
@@ -278,26 +277,6 @@ impl<R: RegExp> UrlPatternList<R> {
             index) }
     {
         Ok(self.first_from_candidate(alloc, &url_texts(url), hashes, index)?)
-    }
-
-    /// Returns the least index whose pattern matches an input that is parsed into its eight texts,
-    /// and the match, which borrows from the pattern and the input. `None`: no pattern matches.
-    ///
-    /// Only an engine allocates.
-    pub fn first_captures_of_input<'p, 'u>(
-        &'p self,
-        alloc: Global,
-        input: &'u MatchInput,
-    ) -> Result<Option<(usize, UrlPatternCaptures<'p, 'u>)>, Error>
-        ensures first { IfOk result
-            (IsFirstCaptured R.answer (patterns_view self.now) (texts_view input.now)) }
-        ensures groups { IfOk result
-            (HasGroupsInOrder R.answer (patterns_view self.now) (texts_view input.now)) }
-        ensures memory { OnlyOutOfMemory result }
-        ensures asked { IfErr result (λ _.
-            CallsEngineBeforeMatch R.answer (patterns_view self.now) (texts_view input.now)) }
-    {
-        Ok(self.first(alloc, input_texts(input))?)
     }
 
     /// Iterates over all matches of a URL, in the order of the patterns, each with the index of its

@@ -14,6 +14,7 @@ ghost use Rattle.urlpattern.specs.Unreached.{AreUnreached, LacksParts};
 ghost use Rattle.urlpattern_pattern.specs.UrlPatterns.{UrlPattern};
 ghost use Rattle.urlpattern_syntax.specs.Errors.{OnlyOutOfMemory};
 
+mod finding;
 mod iter;
 
 use crate::list::UrlPatternList;
@@ -180,10 +181,7 @@ impl<T, R: RegExp> UrlPatternMap<T, R> {
         ensures asked { IfErr result (λ _.
             CallsEngineBeforeMatch R.answer (entry_patterns self.now) (texts_of_url url.now)) }
     {
-        match self.patterns.first_captures(alloc, url)? {
-            Some((index, captures)) => Ok(Some((index, &self.values[index], captures))),
-            None => Ok(None),
-        }
+        Ok(self.with_value(self.patterns.first_captures(alloc, url)?))
     }
 
     /// Lists each pattern that an earlier one is known to cover, with the first such pattern, as

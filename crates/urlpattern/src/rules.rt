@@ -1,17 +1,20 @@
 //! Patterns compared by their parts: which one is more specific, whether one covers another,
-//! whether two overlap, and which of a list an earlier one covers.
+//! whether two overlap, which of a list an earlier one covers, and whether a URL exists that some
+//! patterns match and others do not.
 //!
 //! A compiled pattern keeps its parts: `UrlPattern::parts` borrows them, `UrlPattern::into_parts`
 //! moves them out. No URL is needed.
 
 pub use crate::list::unreachable_patterns_are_never_first;
+pub use urlpattern_compare::common_laws::{meanings_exist, small_questions_have_results};
 pub use urlpattern_compare::comparing_laws::{
     decided_comparisons_are_known, small_components_are_compared,
 };
 pub use urlpattern_compare::order_laws::parts_are_in_order;
 pub use urlpattern_compare::{
-    Parting, PatternCovering, PatternOverlap, PatternParts, Reason, Shadowed, compare_parts,
-    first_covering, unreachable,
+    Common, Doubt, Lack, Limits, Parting, PatternAutomata, PatternCovering, PatternOverlap,
+    PatternParts, Reason, Shadowed, compare_parts, covering_together, find_common, first_covering,
+    unreachable,
 };
 pub use urlpattern_laws::parts::{
     covered_patterns_by_these_engines_match, covered_patterns_match, overlapping_patterns_match,

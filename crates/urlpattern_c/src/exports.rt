@@ -280,9 +280,9 @@ pub extern "C" fn urlpattern_has_regexp_groups(
     status.number()
 }
 
-/// Whether each component of the pattern at an index has a meaning: its case is kept, and its
-/// custom regular expressions are simple. 0 if each has one, 1 if not, 5 if there is no such
-/// pattern.
+/// Whether each component of the pattern at an index has a meaning: its custom regular expressions
+/// are simple, and if it has one, its case is kept. 0 if each has one, 1 if not, 5 if there is no
+/// such pattern.
 #[unsafe(no_mangle)]
 pub extern "C" fn urlpattern_has_meaning(
     alloc: Global,

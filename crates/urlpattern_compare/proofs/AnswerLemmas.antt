@@ -1,19 +1,14 @@
--- The result of a comparison, by what a search found.
-use Rattle.std.proofs.Common.{◌≡◌, ◌≢◌, ℕ, Bool, true, false, List, [], ◌∷◌, refl, sym, subst, ap, ◌↔◌, inr, Option, Some, None, Result, Ok, Err, IfOk, IfSome}
+-- Whether parts are custom, and what their automata accept.
+use Rattle.std.proofs.Common.{◌≡◌, ◌≢◌, ℕ, Bool, true, false, List, [], ◌∷◌, refl, ap, ◌↔◌, Option, Some, None, Result, Ok, Err, IfOk, IfSome}
 use Rattle.std.specs.declared.alloc.{AllocError.AllocError}
 use Rattle.std.proofs.lemmas.List.Elements.{All-cons, All-head, All-nil, All-tail}
 use Rattle.std.specs.List.{list_any}
-use Rattle.std.specs.Prelude.{◌||◌, not}
-use Rattle.urlpattern_compare.specs.Answers.{IsSought, answer_of, is_custom_part, is_custom_kind}
+use Rattle.std.specs.Prelude.{◌||◌}
+use Rattle.urlpattern_compare.specs.Answers.{is_custom_part, is_custom_kind}
 use Rattle.urlpattern_compare.specs.Automata.{AcceptsText, IsWithin}
-use Rattle.urlpattern_compare.specs.Searching.{IsFoundBy}
 use Rattle.urlpattern_compare.specs.MeantTexts.{MeansText}
 use Rattle.urlpattern_compare.specs.Making.{made, made_view}
 use Rattle.urlpattern_compare.specs.declared.parts_automaton.PartsAutomaton.{PartsAutomaton}
-use Rattle.urlpattern_compare.specs.declared.coverage.Answer.{Answer}
-use Rattle.urlpattern_compare.specs.declared.search.Found.{Found}
-use Rattle.urlpattern_compare.specs.declared.search.Found.TheVariants.{Text, Nothing, TooMany}
-use Rattle.urlpattern_compare.proofs.PairLemmas.{whether_by}
 use Rattle.urlpattern_compare.proofs.PartsRead.{parts_accepted, parts_within}
 use Rattle.urlpattern_meaning.specs.PartMeaning.{AreGenerated}
 use Rattle.urlpattern_syntax.specs.declared.parser.PartType.{PartType}
@@ -47,21 +42,6 @@ pub custom : (parts : List Part) → list_any is_custom_part parts ≡ true → 
 custom [] some are = absurd cc
 custom (part ∷ parts) some are = custom_cases part parts (is_custom_part part) refl some (custom parts) are
 
--- ---- results
-
-pub found_answer : (options : OptionsView) (parts : List PartView) (other_options : OptionsView) (others : List PartView) (is_meant : Bool) (one other : PartsAutomaton) (found : Found) →
-    AreGenerated parts → AreGenerated others → made_view one ≡ made options parts → made_view other ≡ made other_options others → IsFoundBy one other is_meant found →
-    IsSought options parts other_options others is_meant (answer_of found)
-found_answer options parts other_options others is_meant one other (Text text) gen other_gen same other_same is =
-    let here = parts_accepted options parts one gen same text.items in
-    let there = parts_accepted other_options others other other_gen other_same text.items in
-    (here.0 is.0, whether_by is_meant (AcceptsText other text.items) (MeansText other_options others text.items) there is.1, is.2)
-found_answer options parts other_options others is_meant one other Nothing gen other_gen same other_same is = λ text fine plain meant.
-    let here = parts_accepted options parts one gen same text in
-    let there = parts_accepted other_options others other other_gen other_same text in
-    whether_by (not is_meant) (AcceptsText other text) (MeansText other_options others text) there (is text fine plain (here.1 meant))
-found_answer options parts other_options others is_meant one other TooMany gen other_gen same other_same is = inr (one, other, same, other_same, is)
-
 -- ---- automata
 
 pub made_within : (options : OptionsView) (parts : List PartView) (result : Result (Option PartsAutomaton) AllocError) →
@@ -76,9 +56,3 @@ pub made_accepts : (options : OptionsView) (parts : List PartView) (result : Res
 made_accepts options parts (Err e) gen is = is
 made_accepts options parts (Ok None) gen is = is
 made_accepts options parts (Ok (Some automaton)) gen is = parts_accepted options parts automaton gen is
-
-pub found_parts : (options : OptionsView) (parts : List PartView) (other_options : OptionsView) (others : List PartView) (is_meant : Bool) (one other : PartsAutomaton) (found : Found) (answer : Answer) →
-    answer ≡ answer_of found → AreGenerated parts → AreGenerated others → made_view one ≡ made options parts → made_view other ≡ made other_options others → IsFoundBy one other is_meant found →
-    IsSought options parts other_options others is_meant answer
-found_parts options parts other_options others is_meant one other found answer e gen other_gen same other_same is =
-    subst (IsSought options parts other_options others is_meant) (sym e) (found_answer options parts other_options others is_meant one other found gen other_gen same other_same is)

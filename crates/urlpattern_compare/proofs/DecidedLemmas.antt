@@ -29,7 +29,7 @@ uncovered component asked text fine only (inl each) = only.not_meant (each.takes
 uncovered component asked text fine only (inr (inl within)) = only.not_meant (within.within text fine only.meant.line only.meant.means)
 uncovered component asked text fine only (inr (inr same)) = only.not_meant ((same_within component asked same only.known).within text fine only.meant.line only.meant.means)
 
-fine_text : (text : String Global) → IsTrue (all_scalars (text_of text))
+pub fine_text : (text : String Global) → IsTrue (all_scalars (text_of text))
 fine_text text = scalars-chars (string_bytes text) (IsUtf8-string_bytes text)
 
 unparted : (component asked : ComponentParts) (found : Option (String Global)) → AreSame component asked → ¬ IsSomeAnd found (λ text. IsOnlyIn component asked (text_of text))

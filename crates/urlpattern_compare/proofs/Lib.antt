@@ -1,6 +1,10 @@
 pub mod StateSets
 pub mod CharacterClasses
-pub mod PairLemmas
+pub mod ConditionClasses
+pub mod ConditionLemmas
+pub mod PlaceLemmas
+pub mod CandidateLemmas
+pub mod OpenLemmas
 pub mod MadeStates
 pub mod CellTexts
 pub mod Blocks
@@ -15,5 +19,15 @@ pub mod PatternPartLemmas
 pub mod NamelessParts
 pub mod SameParts
 pub mod DecidedLemmas
+pub mod CommonLemmas
+pub mod CoverageLemmas
+pub mod SameDecided
+pub mod DependsLemmas
+pub mod TakenLemmas
+pub mod Numbers
 pub mod WorkLemmas
+pub mod BoundLemmas
+pub mod SmallLemmas
+pub mod CommonExamples
 pub mod WorkExamples
+pub mod TogetherLemmas

@@ -9,8 +9,8 @@ use Rattle.urlpattern_compare.specs.declared.coverage.Covering.TheVariants as co
 use Rattle.urlpattern_compare.specs.declared.coverage.Reason.{Reason}
 use Rattle.urlpattern_compare.specs.Comparing.{IsComponentCovered, IsComponentCovering, IsOnlyIn, IsOverlapReason, IsReasonToDoubt, IsReasonToPart, MayCover, MayOverlap}
 use Rattle.urlpattern_compare.specs.ComparingSteps.{AreCommonOrDoubtful, IsCommonOrDoubtful, IsExampleIn, IsFirstUncovered, IsTextWith, first_or}
-use Rattle.urlpattern_compare.specs.declared.pattern_parts.FirstUncovered.{FirstUncovered}
-use Rattle.urlpattern_compare.specs.declared.pattern_parts.FirstUncovered.TheVariants as firsts
+use Rattle.urlpattern_compare.specs.declared.first_uncovered.FirstUncovered.{FirstUncovered}
+use Rattle.urlpattern_compare.specs.declared.first_uncovered.FirstUncovered.TheVariants as firsts
 use Rattle.urlpattern_compare.specs.declared.pattern_parts.NoText.{NoText}
 use Rattle.urlpattern_compare.specs.declared.pattern_parts.PatternParts.{PatternParts}
 use Rattle.urlpattern_components.proofs.EightLemmas.{of_each}

@@ -1,7 +1,7 @@
 -- Sets of states, with a flag for each state.
-use Rattle.std.proofs.Common.{◌≡◌, ℕ, zero, suc, ◌<◌, Bool, true, false, List, [], ◌∷◌, length, replicate, refl, sym, subst, ap, ◌∙◌, ◌⊎◌, inl, inr, ◌↔◌, arith, length-set, if◌then◌else◌}
-use Rattle.std.proofs.lemmas.List.{length-replicate}
-use Rattle.std.proofs.lemmas.List.Elements.{All-head, All-tail}
+use Rattle.std.proofs.Common.{◌≡◌, ℕ, zero, suc, ◌+◌, ◌<◌, ◌≤◌, Bool, true, false, List, [], ◌∷◌, get_or, length, replicate, refl, sym, subst, ap, ◌∙◌, ◌⊎◌, inl, inr, ◌↔◌, arith, length-set, if◌then◌else◌, take, take_all}
+use Rattle.std.proofs.lemmas.List.{length-replicate, take_more}
+use Rattle.std.proofs.lemmas.List.Elements.{All-head, All-tail, Contains-push_cases}
 use Rattle.std.specs.List.{All, Contains}
 use Rattle.std.specs.Prelude.{◌&&◌, IsTrue, slice_set}
 use Rattle.urlpattern_compare.specs.Automata.{AcceptsText, IsWithin, Leads, passes}
@@ -20,6 +20,14 @@ contains_tail y x xs (k, lt, e) = (suc k, omega arith, e)
 pub contains_cons : {X : Type 0} (y x : X) (xs : List X) → Contains (y ∷ xs) x → (y ≡ x) ⊎ Contains xs x
 contains_cons y x xs (zero, lt, e) = inl e
 contains_cons y x xs (suc k, lt, e) = inr (k, omega arith, e)
+
+-- A further element.
+pub contains_more : {X : Type 0} (xs : List X) (i : ℕ) (d x : X) → i < length xs → Contains (take (i + 1) xs) x → Contains (take i xs) x ⊎ (get_or xs i d ≡ x)
+contains_more xs i d x lt has = Contains-push_cases (take i xs) (get_or xs i d) x (subst (λ l. Contains l x) (take_more xs i d lt) has)
+
+-- All elements.
+pub contains_all : {X : Type 0} (xs : List X) (i : ℕ) (x : X) → length xs ≤ i → Contains xs x → Contains (take i xs) x
+contains_all xs i x le has = subst (λ l. Contains l x) (sym (take_all i xs le)) has
 
 -- ---- a further state
 

@@ -1,11 +1,13 @@
 -- The results of comparing which texts two lists of parts match. Parts *mean* a text if they can
 -- match it, one after the other.
-use Rattle.std.specs.Prelude.{◌≡◌, ◌↔◌, ℕ, Bool, true, false, not, ◌⊎◌, IfOk, IfSome, List, IsTrue, Option, Result}
+use Rattle.std.specs.Prelude.{◌≡◌, ◌↔◌, ◌<◌, ℕ, Bool, true, false, not, ◌⊎◌, IfOk, IfSome, List, IsTrue, Option, Result, length}
 use Rattle.std.specs.Str.{all_scalars}
 use Rattle.urlpattern_compare.specs.Automata.{AcceptsText, IsWhether}
 use Rattle.urlpattern_compare.specs.Making.{HasManyStates, made, made_view}
 use Rattle.urlpattern_compare.specs.MeantTexts.{MeansText}
-use Rattle.urlpattern_compare.specs.Searching.{HasManyPairs}
+use Rattle.urlpattern_compare.specs.Conditions.{accepts, states_after}
+use Rattle.urlpattern_compare.specs.Searching.{IsMostSets}
+use Rattle.urlpattern_compare.specs.TextSearch.{AreApart, IsLine}
 use Rattle.urlpattern_compare.specs.declared.parts_automaton.PartsAutomaton.{PartsAutomaton}
 use Rattle.urlpattern_compare.specs.declared.coverage.Answer.{Answer}
 use Rattle.urlpattern_compare.specs.declared.coverage.Answer.TheVariants as answers
@@ -24,18 +26,31 @@ use Rattle.urlpattern_syntax.specs.declared.parser.Part.{Part}
 use Rattle.urlpattern_syntax.specs.declared.parser.PartType.{PartType}
 use Rattle.urlpattern_syntax.specs.Text.{lacks, line_feed}
 
+-- The texts lead each of the two automata to the same states.
+abbrev pub LeadBothAlike : (one other : PartsAutomaton) → (text another : List ℕ) → Type 0
+LeadBothAlike one other text another =
+    (states_after one text ≡ states_after one another)
+    × (states_after other text ≡ states_after other another)
+
+-- Two automata have more sets of states than a search reaches before it is given up: so many texts
+-- exist no two of which lead each of the two to the same states.
+abbrev pub HaveManySets : (one other : PartsAutomaton) → Type 0
+HaveManySets one other =
+    (most : ℕ) × IsMostSets one.states other.states most
+    × (texts : List (List ℕ)) × (most < length texts)
+    × AreApart (LeadBothAlike one other) texts
+
 -- The search for a text that the first list of parts matches, and that the second matches or does
--- not, reaches more pairs than `MOST_PAIRS`: pairs of a state of the first automaton and a set of
--- states of the second.
+-- not, reaches too many sets of states.
 abbrev pub IsSearchLong : OptionsView → List PartView → OptionsView → List PartView → Type 0
 IsSearchLong options parts other_options others =
     (one other : PartsAutomaton) × (made_view one ≡ made options parts)
     × (made_view other ≡ made other_options others)
-    × HasManyPairs one other
+    × HaveManySets one other
 
 -- The work of the search for a text that the first list of parts matches, and that the second
 -- matches or does not, is too much: one of the two needs too many states, or the search reaches too
--- many pairs.
+-- many sets of states.
 abbrev pub IsTooMuch : OptionsView → List PartView → OptionsView → List PartView → Type 0
 IsTooMuch options parts other_options others =
     (HasManyStates options parts ⊎ HasManyStates other_options others)
@@ -129,6 +144,19 @@ abbrev pub IsSoughtOf : Options → List Part → Options → List Part → (is_
 IsSoughtOf options parts other_options others =
     IsSought (options_view options) (parts_view parts) (options_view other_options)
     (parts_view others)
+
+-- What each result of `find_by` says. Text: the text has no line feed, the first automaton accepts
+-- it, and the second accepts it if `is_accepted` is true, and rejects it if false. Nothing: no text
+-- of characters is of this kind. TooMany: the automata have too many sets of states.
+abbrev pub IsFoundBy : (one other : PartsAutomaton) → (is_accepted : Bool) → Found → Type 0
+IsFoundBy one other is_accepted (founds.Text text) =
+    IsTrue (accepts one text.items)
+    × (accepts other text.items ≡ is_accepted)
+    × IsTrue (lacks line_feed text.items)
+IsFoundBy one other is_accepted founds.Nothing =
+    (text : List ℕ) → IsLine text → IsTrue (accepts one text)
+    → accepts other text ≡ not is_accepted
+IsFoundBy one other is_accepted founds.TooMany = HaveManySets one other
 
 -- What a search found, as an `Answer`. A search that exceeded its bound is `Unknown`, for the
 -- reason `TooMany`.

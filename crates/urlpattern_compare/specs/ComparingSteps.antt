@@ -5,8 +5,8 @@ use Rattle.urlpattern_compare.specs.Comparing.{AreApart, IsCommonText, IsCompone
 use Rattle.urlpattern_compare.specs.declared.coverage.Covering.{Covering}
 use Rattle.urlpattern_compare.specs.declared.coverage.Covering.TheVariants as coverings
 use Rattle.urlpattern_compare.specs.declared.coverage.Reason.{Reason}
-use Rattle.urlpattern_compare.specs.declared.pattern_parts.FirstUncovered.{FirstUncovered}
-use Rattle.urlpattern_compare.specs.declared.pattern_parts.FirstUncovered.TheVariants as firsts
+use Rattle.urlpattern_compare.specs.declared.first_uncovered.FirstUncovered.{FirstUncovered}
+use Rattle.urlpattern_compare.specs.declared.first_uncovered.FirstUncovered.TheVariants as firsts
 use Rattle.urlpattern_compare.specs.declared.pattern_parts.NoText.{NoText}
 use Rattle.urlpattern_compare.specs.declared.pattern_parts.NoText.TheVariants as lacking
 use Rattle.urlpattern_compare.specs.declared.pattern_parts.PatternParts.{PatternParts}

@@ -9,3 +9,9 @@ pub mod ComparingSteps
 pub mod Order
 pub mod DecidedComparisons
 pub mod WorkBounds
+pub mod Conditions
+pub mod TextSearch
+pub mod Candidates
+pub mod CommonTexts
+pub mod CommonLaws
+pub mod CoveringTogether

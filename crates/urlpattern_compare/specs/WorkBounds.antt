@@ -1,8 +1,8 @@
 -- How much work comparing two lists of parts takes at most.
-use Rattle.std.specs.Prelude.{◌+◌, ◌*◌, ◌^◌, ◌≤◌, ℕ, List, [], ◌∷◌, length}
+use Rattle.std.specs.Prelude.{◌+◌, ◌≤◌, ℕ, List, [], ◌∷◌, length}
 use Rattle.urlpattern_compare.specs.Comparing.{IsReasonFor, IsReasonToShare}
 use Rattle.urlpattern_compare.specs.declared.coverage.Reason.TheVariants.{TooMany}
-use Rattle.urlpattern_compare.specs.declared.search.TheConstants.{MOST_PAIRS}
+use Rattle.urlpattern_compare.specs.declared.search.TheConstants.{FEW_STATES}
 use Rattle.urlpattern_syntax.specs.Parts.{PartView, parts_view}
 use Rattle.urlpattern_syntax.specs.declared.parser.PartType.{PartType}
 use Rattle.urlpattern_syntax.specs.declared.parts.ComponentParts.{ComponentParts}
@@ -28,10 +28,9 @@ abbrev pub component_size : ComponentParts → ℕ
 component_size component = parts_size (parts_view component.parts.items)
 
 -- To find whether a component covers another, or whether the two overlap, does not take too much
--- work if the size of each, times 2 to the power of the other's, is at most `MOST_PAIRS`.
+-- work if the sizes of both are at most `FEW_STATES` together.
 abbrev pub SmallAreCompared : Type 0
 SmallAreCompared =
     (component other : ComponentParts)
-    → component_size component * 2 ^ component_size other ≤ MOST_PAIRS
-    → component_size other * 2 ^ component_size component ≤ MOST_PAIRS
+    → component_size component + component_size other ≤ FEW_STATES
     → (¬ IsReasonFor component other TooMany) × ¬ IsReasonToShare component other TooMany

@@ -1,26 +1,33 @@
-//! Classes of characters: two characters are of one class if they pass the same tests of two
-//! automata.
+//! Classes of characters: two characters are of one class if they pass the same tests of automata.
 
 ghost use Rattle.std.specs.Prelude.{◌≡◌, ◌<◌, ◌≤◌, ℕ, false, true, IfOk, IfNone, IfSome, OnOk, ◌∷◌, []};
 ghost use Rattle.std.specs.Char.{IsScalar};
-ghost use Rattle.urlpattern_compare.specs.Searching.{AreClasses, with_named};
+ghost use Rattle.urlpattern_compare.specs.TextSearch.{AreClassesAt, with_named_from};
 ghost use Rattle.urlpattern_syntax.specs.Text.{is_among, line_feed};
 
+use crate::condition::Condition;
+use crate::joint_states::split;
 use crate::parts_automaton::Edge;
+use crate::states::is_in;
 use std::alloc::{AllocError, Global};
 
-/// Returns at least one character of each class: a line feed, the characters that the tests of the
-/// edges name, and a further character, if one is left.
-pub(crate) fn classes(
+/// Returns at least one character of each class that the automata of `conditions` tell apart in the
+/// sets of states `flags`: a line feed, the characters that the tests of the edges name that leave
+/// a state of these sets, and a further character, if one is left.
+pub(crate) fn classes_at(
     alloc: Global,
-    edges: &[Edge],
-    others: &[Edge],
+    conditions: &[Condition<'_>],
+    flags: &[bool],
 ) -> Result<Vec<char>, AllocError>
-    ensures { IfOk result (λ classes. AreClasses edges.now others.now classes.items) }
+    ensures { IfOk result (λ classes. AreClassesAt conditions.now flags.now classes.items) }
 {
     let mut marks = line_feed(alloc)?;
-    add_named(&mut marks, edges)?;
-    add_named(&mut marks, others)?;
+    let mut left = flags;
+    for condition in conditions {
+        let (own, others) = split(left, condition.automaton.states);
+        add_named_from(&mut marks, &condition.automaton.edges, own)?;
+        left = others;
+    }
     match other_than(&marks) {
         Some(c) => {
             marks.push(c)?;
@@ -39,14 +46,14 @@ fn line_feed(alloc: Global) -> Result<Vec<char>, AllocError>
     Ok(marks)
 }
 
-/// Adds to `marks` the characters that the tests of `edges` name, each once.
-fn add_named(marks: &mut Vec<char>, edges: &[Edge]) -> Result<(), AllocError>
-    ensures { OnOk result (marks.new.items ≡ with_named marks.old.items edges.now) }
+/// Adds to `marks` the characters that the tests of those of `edges` name that leave a state of the
+/// set `from`, each once.
+fn add_named_from(marks: &mut Vec<char>, edges: &[Edge], from: &[bool]) -> Result<(), AllocError>
+    ensures { OnOk result (marks.new.items ≡ with_named_from marks.old.items from.now edges.now) }
 {
     for edge in edges {
-        let c = edge.test.character();
-        if !is_among(marks, c) {
-            marks.push(c)?;
+        if is_in(from, edge.from) && !is_among(marks, edge.test.character()) {
+            marks.push(edge.test.character())?;
         }
     }
     Ok(())

@@ -4,7 +4,7 @@ ghost use Rattle.std.specs.Prelude.{◌≡◌};
 ghost use Rattle.urlpattern_compare.specs.DecidedComparisons.{ApartAreKnown, EqualAreCovered, PartedAreKnown};
 ghost use Rattle.urlpattern_compare.specs.WorkBounds.{SmallAreCompared};
 ghost use Rattle.urlpattern_compare.specs.declared.parts_automaton.TheConstants.{MOST_STATES};
-ghost use Rattle.urlpattern_compare.specs.declared.search.TheConstants.{MOST_PAIRS};
+ghost use Rattle.urlpattern_compare.specs.declared.search.TheConstants.{FEW_STATES, MOST_SETS};
 
 /// A component that decides is not left aside for one of which nothing is known.
 ///
@@ -18,14 +18,15 @@ pub fn decided_comparisons_are_known()
     ensures apart { ApartAreKnown }
 {}
 
-/// To compare two components does not take too much work if the number of characters and wildcards
-/// of each, a segment wildcard counted twice, with 1 added, times 2 to the power of the other's, is
-/// at most [`MOST_PAIRS`](crate::MOST_PAIRS).
+/// To compare two components does not take too much work if the numbers of characters and wildcards
+/// of both, a segment wildcard counted twice, with 1 added to each, are at most
+/// [`FEW_STATES`](crate::FEW_STATES) together.
 ///
-/// Few components are that small: two with at most eight characters and wildcards are. `MOST_PAIRS`
-/// and [`MOST_STATES`](crate::MOST_STATES) are 10,000.
+/// Few components are that small: two with at most eight characters and wildcards are. `FEW_STATES`
+/// is 19; [`MOST_SETS`](crate::MOST_SETS) and [`MOST_STATES`](crate::MOST_STATES) are 10,000.
 pub fn small_components_are_compared()
     ensures compared { SmallAreCompared }
-    ensures pairs { MOST_PAIRS ≡ 10000 }
+    ensures few { FEW_STATES ≡ 19 }
+    ensures sets { MOST_SETS ≡ 10000 }
     ensures states { MOST_STATES ≡ 10000 }
 {}

@@ -35,7 +35,7 @@ fn anything(alloc: Global) -> Result<ComponentParts, AllocError>
 
 /// Returns why the parts of `component` do not tell which texts it matches: case is ignored, or a
 /// part is a custom regular expression. `None`: the parts tell.
-fn unknown(component: &ComponentParts) -> Option<Reason>
+pub(crate) fn unknown(component: &ComponentParts) -> Option<Reason>
     ensures known { IfNone result (IsKnown component.now) }
     ensures reason { IfSome result (IsUnknownBy component.now) }
 {

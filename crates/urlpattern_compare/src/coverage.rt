@@ -2,11 +2,14 @@
 
 ghost use Rattle.std.specs.Prelude.{◌≡◌, IfOk, false, true};
 ghost use Rattle.std.specs.List.{list_any};
-ghost use Rattle.urlpattern_compare.specs.Answers.{IsCoveringOf, IsOverlapOf, IsSoughtOf, answer_of, is_custom_part};
+ghost use Rattle.urlpattern_compare.specs.Answers.{IsCoveringOf, IsFoundBy, IsOverlapOf, IsSoughtOf, answer_of, is_custom_part};
 
-use crate::parts_automaton::make;
-use crate::search::Found;
+use crate::condition::Condition;
+use crate::parts_automaton::{PartsAutomaton, make};
+use crate::search::{Found, most_sets};
+use crate::text_search::find_text;
 use std::alloc::{AllocError, Global};
+use urlpattern_components::ComponentName;
 use urlpattern_syntax::parser::{Options, Part, PartType};
 
 /// Whether parts match each text without line feed that other parts, the asked ones, match.
@@ -39,8 +42,8 @@ pub enum Reason {
     /// Case is ignored.
     IgnoredCase,
     /// The parts need more than [`MOST_STATES`](crate::MOST_STATES) states, or the search for a
-    /// text that decides reaches more than [`MOST_PAIRS`](crate::MOST_PAIRS) pairs. Of two small
-    /// components it is never the reason, as
+    /// text that decides reaches more than [`MOST_SETS`](crate::MOST_SETS) sets of states. Of two
+    /// small components it is never the reason, as
     /// [`small_components_are_compared`](crate::comparing_laws) says.
     TooMany,
 }
@@ -126,8 +129,39 @@ fn find_meant(
     let Some(other) = make(alloc, other_options, others)? else {
         return Ok(Answer::Unknown(Reason::TooMany));
     };
-    let found = one.find(alloc, &other, is_meant)?;
+    let found = find_by(alloc, &one, &other, is_meant)?;
     Ok(answer_of(found))
+}
+
+/// Finds a text without line feed that `one` accepts, and that `other` accepts if `is_accepted`,
+/// and rejects otherwise.
+fn find_by(
+    alloc: Global,
+    one: &PartsAutomaton,
+    other: &PartsAutomaton,
+    is_accepted: bool,
+) -> Result<Found, AllocError>
+    ensures { IfOk result (IsFoundBy one.now other.now is_accepted) }
+{
+    let mut conditions = Vec::new(alloc);
+    conditions.push(condition(one, true))?;
+    conditions.push(condition(other, is_accepted))?;
+    let most = most_sets(one.states, other.states);
+    let found = find_text(alloc, &conditions, most)?;
+    Ok(found)
+}
+
+/// Returns the condition that the automaton accepts a text, or rejects it. Which component the text
+/// is of is not looked at.
+fn condition<'a>(automaton: &'a PartsAutomaton, is_accepted: bool) -> Condition<'a>
+    ensures automaton { result.automaton.now ≡ automaton.now }
+    ensures accepted { result.is_accepted ≡ is_accepted }
+{
+    Condition {
+        component: ComponentName::Protocol,
+        automaton,
+        is_accepted,
+    }
 }
 
 /// Returns what a search found, as an `Answer`. A search that exceeded its bound is `Unknown`, for

@@ -6,15 +6,24 @@
 //! [`unreachable`] search a list, and [`compare_parts`] orders parts by how specific they are.
 //!
 //! [`covers`] and [`overlaps`] compare the parts of one component. Each list of parts is turned
-//! into a [`PartsAutomaton`], and [`PartsAutomaton::find`] searches for a text that one of two
-//! automata accepts, and the other accepts or rejects.
+//! into a [`PartsAutomaton`], and a text is searched for that one of two automata accepts, and the
+//! other accepts or rejects. [`find_common`] finds eight texts that each of some patterns matches,
+//! and none of others.
 #![tactic(auto)]
 
+mod accepting;
+mod candidates;
 mod cells;
 mod classes;
+pub mod common_laws;
+mod common_texts;
 pub mod comparing_laws;
 mod component_coverage;
+mod condition;
 mod coverage;
+mod first_uncovered;
+mod joint_states;
+mod lacks;
 mod order;
 pub mod order_laws;
 mod parts_automaton;
@@ -22,10 +31,15 @@ mod pattern_parts;
 mod search;
 mod shadowed;
 mod states;
+mod text_search;
+mod together;
 
+pub use candidates::Limits;
+pub use common_texts::{Common, Doubt, Lack, PatternAutomata, find_common};
 pub use coverage::{Covering, Overlap, Reason, covers, overlaps};
 pub use order::compare_parts;
 pub use parts_automaton::{Edge, MOST_STATES, PartsAutomaton, Test};
 pub use pattern_parts::{Parting, PatternCovering, PatternOverlap, PatternParts};
-pub use search::{Found, MOST_PAIRS};
+pub use search::{FEW_STATES, Found, MOST_SETS};
 pub use shadowed::{Shadowed, first_covering, unreachable};
+pub use together::covering_together;

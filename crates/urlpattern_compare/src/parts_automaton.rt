@@ -1,18 +1,13 @@
-//! Automata that read texts character by character: made of parts, from the last part to the first,
-//! and compared.
+//! Automata that read texts character by character: made of parts, from the last part to the first.
 
 ghost use Rattle.std.specs.Prelude.{◌≡◌, ◌≤◌, ◌<◌, ◌+◌, ◌++◌, [], IfNone, IfOk, OnOk, length};
 ghost use Rattle.urlpattern_compare.specs.{Answers.AcceptsMeaning, Answers.IfMade};
 ghost use Rattle.urlpattern_compare.specs.Automata.{IsWithin, named, passes};
 ghost use Rattle.urlpattern_compare.specs.Making.{HasManyStates, edges_to, made, made_view, may_miss, new_starts, repeats, with_cell, with_cells, with_copies, with_repeat_starts};
-ghost use Rattle.urlpattern_compare.specs.Searching.{IsFoundBy};
 ghost use Rattle.urlpattern_meaning.specs.PartMeaning.{AreGenerated};
 ghost use Rattle.urlpattern_syntax.specs.{Options.options_view, Parts.parts_view};
 
 use crate::cells::{Cell, cells_of, has_one};
-use crate::classes::classes;
-use crate::search::{Found, MOST_PAIRS, copy_of, first_pairs, follow};
-use crate::states::is_in;
 use std::alloc::{AllocError, Global};
 use urlpattern_syntax::parser::{Options, Part, PartModifier};
 
@@ -92,38 +87,6 @@ impl PartsAutomaton {
             → IfMade result (AcceptsMeaning (options_view options.now) (parts_view parts.now)) }
     {
         make(alloc, options, parts)
-    }
-
-    /// Finds a text without line feed that this automaton accepts, and that `other` accepts if
-    /// `is_accepted`, and rejects otherwise.
-    ///
-    /// The text is one of the shortest. The search is given up when it reaches more than
-    /// [`MOST_PAIRS`] pairs of a state and a set of states.
-    pub fn find(
-        &self,
-        alloc: Global,
-        other: &PartsAutomaton,
-        is_accepted: bool,
-    ) -> Result<Found, AllocError>
-        requires one { IsWithin self.now }
-        requires two { IsWithin other.now }
-        ensures { IfOk result (IsFoundBy self.now other.now is_accepted) }
-    {
-        let classes = classes(alloc, &self.edges, &other.edges)?;
-        let mut pairs = first_pairs(alloc, self, other)?;
-        let mut next = 0;
-        while next < pairs.len() && pairs.len() <= MOST_PAIRS {
-            let pair = copy_of(alloc, &pairs[next])?;
-            if pair.state == 0 && is_in(&pair.states, 0) == is_accepted {
-                return Ok(Found::Text(pair.text));
-            }
-            follow(alloc, self, other, &classes, &pair, &mut pairs)?;
-            next += 1;
-        }
-        if next < pairs.len() {
-            return Ok(Found::TooMany);
-        }
-        Ok(Found::Nothing)
     }
 
     /// Prepends `cells`, which are in reverse order, so that they are read as many times as

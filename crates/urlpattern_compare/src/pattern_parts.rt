@@ -8,7 +8,8 @@ ghost use Rattle.urlpattern_components.specs.Eight.{at};
 ghost use Rattle.urlpattern_syntax.specs.Text.{text_of};
 
 use crate::component_coverage::{component_covers, component_example, component_overlaps, is_same};
-use crate::coverage::{Covering, Overlap, Reason};
+use crate::coverage::{Overlap, Reason};
+use crate::first_uncovered::FirstUncovered;
 use crate::order::compare_parts;
 use std::alloc::{AllocError, Global};
 use std::cmp::Ordering;
@@ -116,18 +117,6 @@ pub enum PatternOverlap {
     Unknown(ComponentName, Reason),
 }
 
-/// The first component of a pattern that is known not to cover that of the asked pattern.
-#[derive(Debug, Drop)]
-pub(crate) enum FirstUncovered {
-    /// Every component is known to cover that of the asked pattern.
-    Nowhere,
-    /// The component, and the characters of a text that only the asked pattern's component matches.
-    At(ComponentName, Vec<char>),
-    /// No component is known not to cover that of the asked pattern. Whether this component does is
-    /// not known, for this reason.
-    Unknown(ComponentName, Reason),
-}
-
 /// Why no text of a component is returned.
 #[derive(Debug, Drop)]
 pub(crate) enum NoText {
@@ -148,24 +137,6 @@ impl From<AllocError> for NoText {
 
     fn from(_error: AllocError) -> NoText {
         NoText::OutOfMemory
-    }
-}
-
-impl FirstUncovered {
-    ghost use Rattle.urlpattern_compare.specs.ComparingSteps.{first_or};
-
-    /// Adds the component `name` to what was found so far; `covering` says whether that component
-    /// covers the asked pattern's. The first component that is known not to cover is kept; without
-    /// one, the last of which it is not known whether it covers.
-    fn or(self, name: ComponentName, covering: Covering) -> FirstUncovered
-        ensures { result ≡ first_or self name covering }
-    {
-        match (self, covering) {
-            (FirstUncovered::At(earlier, text), _) => FirstUncovered::At(earlier, text),
-            (_, Covering::NotCovered(text)) => FirstUncovered::At(name, text),
-            (_, Covering::Unknown(reason)) => FirstUncovered::Unknown(name, reason),
-            (first, Covering::Covered) => first,
-        }
     }
 }
 
@@ -402,7 +373,7 @@ fn overlap_of(found: Eight<CommonOrDoubtful>) -> PatternOverlap
 }
 
 /// Returns the text of these characters.
-fn string_of(alloc: Global, characters: &[char]) -> Result<String, AllocError>
+pub(crate) fn string_of(alloc: Global, characters: &[char]) -> Result<String, AllocError>
     ensures { IfOk result (λ text. text_of text ≡ characters.now) }
 {
     let mut text = String::new(alloc);

@@ -5,7 +5,7 @@ use Rattle.std.specs.{List.AllByRecursion, List.list_any, Str.chars}
 use Rattle.urlpattern_canonical.specs.Canonical.{Reports}
 use Rattle.urlpattern_matcher.specs.Components.{ComponentView}
 use Rattle.urlpattern_matcher.specs.declared.regexp.RegExp.{Ghosts as Engine}
-use Rattle.urlpattern_diagnosis.specs.Faults.{EachExpression, IsExpressionFault, IsFaultIn, IsFaultOf, IsRunFault, IsSingleSpan, IsUrlFault, is_path_sign, lacks_colon}
+use Rattle.urlpattern_diagnosis.specs.Faults.{EachExpression, EachRun, IsExpressionFault, IsFaultIn, IsFaultOf, IsRunFault, IsSingleSpan, IsUrlFault, is_path_sign, lacks_colon}
 use Rattle.urlpattern_diagnosis.specs.PatternOffsets.{IsFaultMoved}
 use Rattle.urlpattern_diagnosis.specs.declared.diagnosis.{Diagnosis.Diagnosis, Subject.Subject}
 use Rattle.urlpattern_diagnosis.specs.declared.diagnosis.Subject.TheVariants as subjects
@@ -145,6 +145,12 @@ abbrev pub IsRejectedByUrl : ParseSettings → (bytes : List ℕ) → Type 0
 IsRejectedByUrl settings bytes =
     (error : ErrorView) × Reports (settings.canonical (chars bytes)) (length bytes) error
 
+-- `url` accepts the text by itself, as a fixed text of a component that is parsed as `settings`
+-- say.
+abbrev pub IsAcceptedByUrl : ParseSettings → (bytes : List ℕ) → Type 0
+IsAcceptedByUrl settings bytes =
+    (made : List ℕ) × (settings.canonical (chars bytes) ≡ Ok made)
+
 -- The engine may reject the expression by itself.
 abbrev pub IsRejectedByEngine : {E : Type 0} → Engine E → (bytes : List ℕ) → Type 0
 IsRejectedByEngine engine bytes = engine.MayReject (chars bytes) (codes "u") true
@@ -159,10 +165,19 @@ AcceptsExpressions engine pattern =
     (tokens : List Token) × AreTokens (chars pattern) (map token_view tokens)
     × EachExpression (λ value. IsAcceptedByEngine engine value.now) tokens
 
--- If an engine reported the error, it may accept each custom expression of the pattern by itself.
-abbrev pub AcceptsParts : {E : Type 0} → Engine E → (pattern : List ℕ) → Error → Type 0
-AcceptsParts engine pattern (errors.RegExp reason) = AcceptsExpressions engine pattern
-AcceptsParts engine pattern other = ⊤
+-- `url` accepts each run of characters of the pattern by itself.
+abbrev pub AcceptsRuns : ParseSettings → (pattern : List ℕ) → Type 0
+AcceptsRuns settings pattern =
+    (tokens : List Token) × AreTokens (chars pattern) (map token_view tokens)
+    × EachRun (IsAcceptedByUrl settings) pattern tokens
+
+-- Each part of the pattern may be accepted by itself: each run of characters if `url` reported the
+-- error, each custom expression if an engine did.
+abbrev pub AcceptsParts : {E : Type 0} → Engine E → ParseSettings → (pattern : List ℕ) → Error
+    → Type 0
+AcceptsParts engine settings pattern (errors.Url reason) = AcceptsRuns settings pattern
+AcceptsParts engine settings pattern (errors.RegExp reason) = AcceptsExpressions engine pattern
+AcceptsParts engine settings pattern other = ⊤
 
 -- The fault is in a part of the pattern that is rejected also by itself: in a run of characters if
 -- `url` reported the error, in a custom expression if an engine did.
@@ -216,13 +231,13 @@ IsTextOfSubject written values subject text = text ≡ whole_text written.string
 -- ---- faults
 
 -- The fault is that of a component's `pattern`, parsed as `settings` say and rejected with this
--- error: by its syntax, or in a part that is rejected also by itself. If an engine reported the
--- error, the fault is the whole pattern only if the engine may accept each custom expression.
+-- error: by its syntax, or in a part that is rejected also by itself. If `url` or an engine
+-- reported the error, the fault is the whole pattern only if each part may be accepted by itself.
 abbrev pub IsFaultOfPattern : {E : Type 0} → Engine E → ComponentName → ParseSettings
     → (pattern : List ℕ) → Error → Fault → Type 0
 IsFaultOfPattern engine component settings pattern error fault =
     (IsFaultOf (Some component) pattern settings.options.prefix error fault
-    × AcceptsParts engine pattern error)
+    × AcceptsParts engine settings pattern error)
     ⊎ IsFaultOfRejectedPart engine settings pattern error fault
 
 -- The diagnosis has a fault of the component's `pattern` for which `Is` holds, moved to its text,

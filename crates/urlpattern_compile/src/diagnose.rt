@@ -8,7 +8,7 @@ ghost use Rattle.urlpattern_init.specs.Inheritance.{values_view};
 ghost use Rattle.urlpattern_compile.specs.Compiled.{RejectsInit, RejectsValues, pattern_of};
 ghost use Rattle.urlpattern_compile.specs.CompilerSteps.{compiled_values, settings_by};
 ghost use Rattle.urlpattern_diagnosis.specs.Faults.{IsExpressionFault, IsFaultIn, IsRunFault};
-ghost use Rattle.urlpattern_compile.specs.Diagnoses.{AcceptsExpressions, AcceptsInit, AcceptsParts, AcceptsPatternOfText, AcceptsValues, HasErrorOf, IfAccepted, IfRejected, IsFaultOfRejectedPart, IsAcceptedByEngine, IsRejectedByEngine, IsRejectedByUrl, IsWithinText, ShowsGiven, ShowsInit, ShowsPattern, ShowsProtocol, ShowsRejectedProtocol, ShowsValues, ShowsWritten, is_misread, span_in};
+ghost use Rattle.urlpattern_compile.specs.Diagnoses.{AcceptsExpressions, AcceptsInit, AcceptsParts, AcceptsPatternOfText, AcceptsRuns, AcceptsValues, HasErrorOf, IfAccepted, IfRejected, IsFaultOfRejectedPart, IsAcceptedByEngine, IsAcceptedByUrl, IsRejectedByEngine, IsRejectedByUrl, IsWithinText, ShowsGiven, ShowsInit, ShowsPattern, ShowsProtocol, ShowsRejectedProtocol, ShowsValues, ShowsWritten, is_misread, span_in};
 ghost use Rattle.urlpattern_compile.specs.FromString.{RejectsPatternOfText};
 ghost use Rattle.urlpattern_compile.specs.Sources.{IsSource, IsSplitFrom, IsTextOf, string_written, written};
 ghost use Rattle.urlpattern_syntax.specs.Errors.{error_view};
@@ -294,8 +294,8 @@ impl Compiler<'_> {
     ) -> Result<Option<Fault>, OutOfMemory>
         ensures part { IfOk result (λ found. IfSome found (IsFaultOfRejectedPart R.RegExp
             (settings_by self.now hierarchical component) pattern.now error.now)) }
-        ensures accepted { IfOk result (λ found.
-            IfNone found (AcceptsParts R.RegExp pattern.now error.now)) }
+        ensures accepted { IfOk result (λ found. IfNone found (AcceptsParts R.RegExp
+            (settings_by self.now hierarchical component) pattern.now error.now)) }
         ensures within { IfOk result (λ found. IfSome found (IsFaultIn pattern.now)) }
     {
         match error {
@@ -344,13 +344,17 @@ impl Compiler<'_> {
     ) -> Result<Option<Fault>, OutOfMemory>
         ensures part { IfOk result (λ found. IfSome found (IsRunFault
             (IsRejectedByUrl (settings_by self.now hierarchical component)) pattern.now)) }
+        ensures accepted { IfOk result (λ found. IfNone found
+            (AcceptsRuns (settings_by self.now hierarchical component) pattern.now)) }
         ensures within { IfOk result (λ found. IfSome found (IsFaultIn pattern.now)) }
     {
         let Ok(tokens) = tokenize(self.alloc, pattern, TokenizePolicy::Strict) else {
             return Err(OutOfMemory);
         };
         let refuses = |text: &str| -> Result<bool, OutOfMemory>
-            ensures { result ≡ Ok true → IsRejectedByUrl
+            ensures refused { result ≡ Ok true → IsRejectedByUrl
+                (settings_by self.entry.now hierarchical component) text.now }
+            ensures accepted { result ≡ Ok false → IsAcceptedByUrl
                 (settings_by self.entry.now hierarchical component) text.now }
         {
             match self.canonical(component, hierarchical, text) {

@@ -27,6 +27,7 @@ run_of_two = record {
   after = name;
   behind = end ∷ [];
   cut = refl;
+  begins = tt;
   is_row = refl;
   ends = refl;
   is_value = refl;

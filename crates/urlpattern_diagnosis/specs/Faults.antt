@@ -3,7 +3,7 @@
 -- token that begins no piece.
 use Rattle.std.specs.Prelude.{◌≡◌, ℕ, ◌+◌, ◌-◌, ◌⊎◌, ◌&&◌, ◌==◌, Bool, true, false, List, [], ◌∷◌, length, map, filter, take, drop, min, bytes_eq, Option, is_some, Some, None, IsSomeAnd, IfSome, MatchBool, string_bytes, ◌++◌, ◌||◌, MatchOption, codes, nat_eq, option_map, All, Contains, flat_map}
 use Rattle.std.specs.Borrow.{Bor}
-use Rattle.std.specs.List.{find, list_all, list_any, starts_with}
+use Rattle.std.specs.List.{find, last_or, list_all, list_any, starts_with}
 use Rattle.std.specs.Str.{chars}
 use Rattle.urlpattern_diagnosis.specs.Spans.{IsPartOf, IsSpanAt, IsSpanIn, whole_span}
 use Rattle.urlpattern_components.specs.declared.eight.ComponentName.{ComponentName}
@@ -287,8 +287,9 @@ are_characters tokens = list_all (λ token. is_character token.kind) tokens
 abbrev pub values_of : List Token → List ℕ
 values_of tokens = flat_map (λ token. token.value.now) tokens
 
--- `value` is a run of characters among the tokens of the text, without the backslashes of escapes,
--- and `run` is where the text has it: from the first of these tokens to the next other token.
+-- `value` is a run of characters among the tokens of the text, as long as possible and without the
+-- backslashes of escapes, and `run` is where the text has it: from the first of these tokens to the
+-- next other token.
 pub record IsRunAt (bytes : List ℕ) (tokens : List Token) (value : List ℕ) (run : Span)
     : Type 0 where
   pub before : List Token
@@ -297,10 +298,16 @@ pub record IsRunAt (bytes : List ℕ) (tokens : List Token) (value : List ℕ) (
   pub after : Token
   pub behind : List Token
   pub cut : tokens ≡ (before ++ first ∷ row) ++ after ∷ behind
+  pub begins : IfSome (last_or None before) (λ token. is_character token.kind ≡ false)
   pub is_row : are_characters (first ∷ row) ≡ true
   pub ends : is_character after.kind ≡ false
   pub is_value : value ≡ values_of (first ∷ row)
   pub there : IsSpanAt bytes first.index (after.index - first.index) run
+
+-- `Is` holds of the value of each run of characters among the tokens of the text.
+abbrev pub EachRun : (Is : List ℕ → Type 0) → (bytes : List ℕ) → List Token → Type 0
+EachRun Is bytes tokens =
+    (value : List ℕ) → (run : Span) → IsRunAt bytes tokens value run → Is value
 
 -- The fault is the custom expression `body`, or a part of it with the expression as the earlier
 -- part.

@@ -2,7 +2,7 @@
 //! characters.
 ghost use Rattle.std.specs.Prelude.{◌≡◌, ℕ, false, IfNone, IfOk, IfSome, List, Ok, true};
 ghost use Rattle.std.specs.Borrow.{Bor};
-ghost use Rattle.urlpattern_diagnosis.specs.Faults.{EachExpression, IsExpressionAt, IsRunAt, IsSpanOfBody, is_character};
+ghost use Rattle.urlpattern_diagnosis.specs.Faults.{EachExpression, EachRun, IsExpressionAt, IsRunAt, IsSpanOfBody, is_character};
 ghost use Rattle.urlpattern_diagnosis.specs.Spans.{IsSpanIn};
 
 use crate::span::Span;
@@ -61,21 +61,23 @@ pub fn rejected_run<F: Fn(&str) -> Result<bool, OutOfMemory>>(
     ensures refused { IfOk result (λ found. IfSome found (λ span.
         (value : Bor (List ℕ)) × F.post refuses value (Ok true)
         × IsRunAt text.now tokens.now value.now span)) }
+    ensures accepted { IfOk result (λ found. IfNone found (EachRun
+        (λ run. (value : Bor (List ℕ)) × (value.now ≡ run) × F.post refuses value (Ok false))
+        text.now tokens.now)) }
     ensures within { IfOk result (λ found. IfSome found (IsSpanIn text.now)) }
 {
     let mut row = String::new(alloc);
-    let mut start = 0;
+    let mut start = None;
     for token in tokens {
         if is_character(token.kind) {
-            if row.is_empty() {
-                start = token.index;
-            }
+            start = start.or(Some(token.index));
             row.push_str(token.value)?;
-        } else if !row.is_empty() {
+        } else if let Some(first) = start {
             if refuses(&row)? {
-                let len = token.index.saturating_sub(start);
-                return Ok(Some(Span::at(text, start, len)));
+                let len = token.index.saturating_sub(first);
+                return Ok(Some(Span::at(text, first, len)));
             }
+            start = None;
             row.clear();
         }
     }

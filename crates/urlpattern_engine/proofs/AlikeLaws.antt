@@ -8,7 +8,7 @@ use Rattle.urlpattern_matcher.specs.Components.{engine_flags}
 use Rattle.urlpattern_matcher.specs.Regexes.{regex_engine}
 use Rattle.urlpattern_engine.proofs.EngineLaws.{expression_as_read, expression_first, form_of, values_by_flags}
 use Rattle.urlpattern_engine.proofs.GrammarResults.{read_by_default, regex_as_read}
-use Rattle.urlpattern_engine.specs.Automatons.{config_for}
+use Rattle.urlpattern_expressions.specs.Expressions.{config_for}
 use Rattle.urlpattern_engine.specs.PatternRegexps.{IsExpressionOf, expression_result, pattern_result, pattern_engine}
 use Rattle.urlpattern_engine.specs.GrammarReadings.{ExpressionsReturnAlike}
 use Rattle.urlpattern_engine.specs.declared.strategy.Strategy.{Strategy}

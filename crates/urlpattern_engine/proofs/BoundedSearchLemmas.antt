@@ -1,5 +1,5 @@
 -- What a backtracking search finds from a state, by what it finds from the next one.
-use Rattle.std.proofs.Common.{All, ◌≡◌, ℕ, zero, suc, ◌+◌, ◌<◌, ◌≤◌, ◌∷◌, Bool, true, false, cond, List, length, Option, Some, None, inl, inr, nat_lt, not, is_some, slice_get, slice_index, slice_index_or, slice_range, replicate, refl, sym, ap, ◌∙◌, subst, arith, le-leb, lt-ltb, le-ltb, true≢false}
+use Rattle.std.proofs.Common.{◌≡◌, ℕ, zero, suc, ◌+◌, ◌<◌, ◌≤◌, ◌∷◌, Bool, true, false, cond, List, length, Option, Some, None, inl, inr, nat_lt, not, is_some, slice_get, slice_index, slice_index_or, slice_range, replicate, refl, sym, ap, ◌∙◌, subst, arith, le-leb, lt-ltb, le-ltb, true≢false}
 use Rattle.std.proofs.lemmas.Bool.{and_from, cases_Bool, cases_lt, cond-true, cond-false}
 use Rattle.std.proofs.lemmas.Option.{none-some, same_Some, slice_get-get_or, slice_get_past}
 use Rattle.std.specs.Option.{option_or}
@@ -10,23 +10,22 @@ use Rattle.regex_hir.specs.Re.{Trace, write}
 use Rattle.regex_hir.specs.declared.look.Look as look
 use Rattle.regex_hir.specs.declared.look.Look.TheVariants.{End, Start}
 use Rattle.regex_hir.proofs.FindLemmas.{first_between_here, first_between_next, first_between_past}
-use Rattle.regex_hir.proofs.OptionLemmas.{none_of_no_value, option_or-None}
+use Rattle.regex_hir.proofs.OptionLemmas.{option_or-None}
 use Rattle.regex_hir.specs.Find as find
 use Rattle.regex_nfa.specs.Run.{run}
 use Rattle.regex_nfa.specs.declared.nfa.Nfa.{Nfa}
-use Rattle.regex_nfa.specs.States.{IsSparseRange, covers, next_on, target_in}
+use Rattle.regex_nfa.specs.States.{covers, next_on, target_in}
 use Rattle.regex_nfa.specs.declared.state.State.{State}
 use Rattle.regex_nfa.specs.declared.state.State.TheVariants.{ByteRange, Fail, Look, Match, Save, Sparse, Split}
 use Rattle.regex_nfa.specs.declared.state.Transition.{Transition}
-use Rattle.regex_nfa.proofs.RunLemmas.{byte_below_inside, byte_below_past, covers_parts, run_at, slice_range_step, sparse_target, target_in_hit, target_in_miss}
+use Rattle.regex_nfa.proofs.RunLemmas.{byte_below_inside, byte_below_past, covers_parts, run_at, slice_range_step, target_in_hit, target_in_miss}
 use Rattle.regex_vm.specs.Found.{Found, apply, found_from_trace, group_cells, put}
 use Rattle.regex_vm.specs.Pike.{IsResting}
 use Rattle.urlpattern_engine.specs.Automatons.{match_at_start}
 use Rattle.regex_vm.proofs.FoundLemmas.{apply_zeros, none_of_found_from_trace}
 use Rattle.regex_vm.proofs.NfaLemmas.{run_reads}
-use Rattle.urlpattern_engine.specs.BoundedSearches.{Chooses, GoesOn, GoesRound, HasByte, HasFirst, IsInSpan, IsTextPlace, IsState, NeedsByte, NeedsFirst, found_from, next_in, run_in, state_in}
+use Rattle.urlpattern_engine.specs.BoundedSearches.{Chooses, GoesOn, GoesRound, HasByte, IsInSpan, IsTextPlace, IsState, NeedsByte, found_from, next_in, run_in, state_in}
 use Rattle.urlpattern_engine.specs.declared.ahead.ByteBounds.{ByteBounds}
-use Rattle.urlpattern_engine.specs.declared.ahead.FirstBytes.{FirstBytes}
 use Rattle.urlpattern_engine.specs.declared.bounded_search.BoundedSearch.{BoundedSearch}
 
 -- ---- of one trace
@@ -248,46 +247,14 @@ module _ (trial : BoundedSearch) (q i : ℕ) where
       run_by_byte trial q i (Sparse from to) is tt (sparse_is_no_match from to) (next_in trial (Sparse from to) i) refl other
       (next_inside trial (Sparse from to) i inside ∙ leads)
 
-  pub none_in_sparse : (from to : ℕ) → Sparse from to ≡ state_in trial q → i < length trial.bytes.now
-      → target_in (slice_range trial.nfa.now.transitions.items from to) (slice_index trial.bytes.now i) ≡ None → run_in trial q i ≡ None
-  unfolding next_on
-  none_in_sparse from to is inside none =
-      none_by_byte trial q i (Sparse from to) is tt (sparse_is_no_match from to) (next_in trial (Sparse from to) i) refl
-      (next_inside trial (Sparse from to) i inside ∙ none)
-
--- A byte that is in neither of the first two transitions, and below the third, is in none.
-pub none_of_two : (ts : List Transition) (from to b : ℕ) (one other : Transition) → IsSparseRange ts from to → All (λ t. t.start ≤ t.end) ts
-    → slice_index_or ts from one ≡ one → slice_index_or ts (from + 1) one ≡ other → (from + 2 < to → b < (slice_index_or ts (from + 2) one).start)
-    → ¬ HasByte (record { low = one.start; high = one.end }) b → ¬ HasByte (record { low = other.start; high = other.end }) b → target_in (slice_range ts from to) b ≡ None
-none_of_two ts from to b one other sorted ordered is_one is_other third outside_one outside_other =
-    none_of_no_value _ (λ r e.
-    let found = sparse_target ts from to b r e in
-    let at = found.0 in
-    let hit = covers_parts (slice_index_or ts at one) b (found.4 one).0 in
-    let here = λ (k : ℕ) (t : Transition) (same : at ≡ k) (is : slice_index_or ts k one ≡ t).
-    subst (λ (x : Transition). (x.start ≤ b) × (b ≤ x.end)) (ap (λ (n : ℕ). slice_index_or ts n one) same ∙ is) hit in
-    elim (cases_lt at (from + 1)) [
-      | inl before ↦ outside_one (here from one (omega (arith, found.1)) is_one)
-      | inr after ↦ elim (cases_lt at (from + 2)) [
-        | inl before ↦ outside_other (here (from + 1) other (omega arith) is_other)
-        | inr past ↦
-            (let under = third (omega (arith, found.2)) in
-            elim (cases_lt (from + 2) at) [
-              | inl beyond ↦
-                  omega (arith, hit.0, under, sorted.2 (from + 2) at one (omega arith) beyond found.2, ordered (from + 2) one (omega (arith, sorted.1)))
-              | inr there ↦ omega (arith, under, (here (from + 2) (slice_index_or ts (from + 2) one) (omega arith) refl).0)
-            ])
-      ]
-    ])
-
--- A choice begins with a byte of the spans of both states.
-pub needs_either : (trial : BoundedSearch) (q first second : ℕ) (among one other : ByteBounds) (both : FirstBytes) → state_in trial q ≡ Split first second
+-- A choice needs a byte of a span that contains the spans of both states.
+pub needs_either : (trial : BoundedSearch) (q first second : ℕ) (one other both : ByteBounds) → state_in trial q ≡ Split first second
     → NeedsByte trial first one → NeedsByte trial second other
-    → ((b : ℕ) → HasByte one b → HasFirst both b) → ((b : ℕ) → HasByte other b → HasFirst both b) → NeedsFirst trial q among both
-needs_either trial q first second among one other both is by_one by_other of_one of_other at inside outside =
+    → ((b : ℕ) → HasByte one b → HasByte both b) → ((b : ℕ) → HasByte other b → HasByte both b) → NeedsByte trial q both
+needs_either trial q first second one other both is by_one by_other of_one of_other at inside outside =
     none_of_both trial q at first second is
-    (by_one at inside.inside (λ within. outside (of_one _ within.has)))
-    (by_other at inside.inside (λ within. outside (of_other _ within.has)))
+    (by_one at inside (λ within. outside (record { inside = inside; has = of_one _ within.has })))
+    (by_other at inside (λ within. outside (record { inside = inside; has = of_other _ within.has })))
 
 -- The body of a loop has no match, if it reads all remaining bytes and the exit has no match after
 -- them.
@@ -309,16 +276,6 @@ pub run_in_spans : (trial : BoundedSearch) (q from to other : ℕ) (found : Opti
     → IfSome found (GoesRound trial q other)
 run_in_spans trial q from to other None is leads = tt
 run_in_spans trial q from to other (Some span) is leads = λ i within. run_in_sparse trial q i from to other is within.inside (leads _ within.has.0 within.has.1)
-
--- A match from `id` begins with a byte that was found for a `Sparse` state, if `id` has no match
--- where that state has none.
-pub needs_spans : (trial : BoundedSearch) (id q from to : ℕ) (among : ByteBounds) (found : Option FirstBytes) → Sparse from to ≡ state_in trial q
-    → ((at : ℕ) → run_in trial q at ≡ None → run_in trial id at ≡ None)
-    → IfSome found (λ first. (b : ℕ) → HasByte among b → ¬ HasFirst first b → target_in (slice_range trial.nfa.now.transitions.items from to) b ≡ None)
-    → IfSome found (NeedsFirst trial id among)
-needs_spans trial id q from to among None is falls none = tt
-needs_spans trial id q from to among (Some first) is falls none = λ i inside outside.
-    falls i (none_in_sparse trial q i from to is inside.inside (none _ inside.has outside))
 
 -- ---- the whole search
 

@@ -30,7 +30,8 @@ use Rattle.urlpattern_engine.specs.declared.strategy.Strategy.{Strategy}
 use Rattle.urlpattern_engine.specs.declared.strategy.Strategy.TheVariants.{Steps, LazySteps, Automaton, Regex, LazyRegex}
 use Rattle.urlpattern_engine.specs.declared.pattern_regexp.PatternRegexp.{PatternRegexp}
 use Rattle.urlpattern_engine.specs.PatternRegexps.{IsExpressionOf, IsPatternRegexpOf, expression_result, pattern_result, pattern_engine}
-use Rattle.urlpattern_engine.specs.Automatons.{config_for, read_result}
+use Rattle.urlpattern_engine.specs.Automatons.{read_result}
+use Rattle.urlpattern_expressions.specs.Expressions.{config_for}
 use Rattle.urlpattern_engine.specs.GrammarReadings.{ValuesReturnAsRead}
 use Rattle.urlpattern_meaning.proofs.FirstResults.{first_agrees, took_all}
 use Rattle.urlpattern_engine.proofs.AutomatonLemmas.{automaton_as_read}

@@ -29,7 +29,8 @@ use Rattle.urlpattern_engine.proofs.TreesRead.{re_of, scalars_parts}
 use Rattle.urlpattern_meaning.specs.Dialect.{IsTreeOf, Items, group_count, items_text}
 use Rattle.urlpattern_meaning.specs.PartMeaning.{Captures}
 use Rattle.urlpattern_meaning.specs.Ways.{first_way}
-use Rattle.urlpattern_engine.specs.Automatons.{IsRegexReadAs, config_for, read_result}
+use Rattle.urlpattern_engine.specs.Automatons.{IsRegexReadAs, read_result}
+use Rattle.urlpattern_expressions.specs.Expressions.{config_for}
 use Rattle.urlpattern_engine.specs.GrammarReadings.{re_result}
 
 -- The captures of the first match of a tree with these names of groups.

@@ -5,7 +5,7 @@ use Rattle.std.specs.Str.{chars}
 use Rattle.regex_syntax.specs.Verdict.{Refuses}
 use Rattle.regex_syntax.specs.declared.error.ErrorKind.{ErrorKind}
 use Rattle.regex_syntax.specs.declared.error.ErrorKind.TheVariants.{OutOfMemory}
-use Rattle.urlpattern_engine.specs.Automatons.{config_for}
+use Rattle.urlpattern_expressions.specs.Expressions.{config_for}
 use Rattle.urlpattern_engine.specs.ExpressionFaults.{IsUnreadable}
 
 -- An expression is unreadable that the grammar rejects for another reason than memory.

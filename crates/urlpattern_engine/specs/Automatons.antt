@@ -13,10 +13,10 @@ use Rattle.regex_hir.specs.Meaning.{meaning}
 use Rattle.regex_hir.specs.declared.hir.Hir.{Hir}
 use Rattle.regex_nfa.specs.declared.nfa.Nfa.{Nfa}
 use Rattle.regex_syntax.specs.Grammar.{Names, read}
-use Rattle.regex_syntax.specs.Verdict.{Reads, default_config, default_flags}
-use Rattle.regex_syntax.specs.declared.Config.{Config}
+use Rattle.regex_syntax.specs.Verdict.{Reads}
 use Rattle.regex_syntax.specs.WellFormed.{IsWellFormed}
 use Rattle.regex_vm.specs.Found.{first_match}
+use Rattle.urlpattern_expressions.specs.Expressions.{config_for}
 use Rattle.urlpattern_matcher.specs.Regexes.{regex_text, text_between}
 use Rattle.urlpattern_engine.specs.GrammarReadings.{re_result}
 use Rattle.urlpattern_meaning.specs.PartMeaning.{Captures}
@@ -43,15 +43,6 @@ unfoldable pub automaton_result : Nfa → List ℕ → Option Captures
 automaton_result nfa text =
     let bytes = encode_utf8_all text in
     option_map (match_captures bytes (nfa.slot_count / 2 - 1)) (match_at_start nfa bytes)
-
--- The default options of the grammar, with case ignored or not.
-abbrev pub config_for : (ignore_case : Bool) → Config
-config_for ignore_case = record default_config {
-  flags = record default_flags {
-    case_insensitive =
-        ignore_case;
-  };
-}
 
 -- The `Regex` was built from the text with the default options, and with case ignored or not.
 pub record IsRegexReadAs (ignore_case : Bool) (regexp : List ℕ) (regex : Regex) : Type 0 where

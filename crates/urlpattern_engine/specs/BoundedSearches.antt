@@ -9,7 +9,6 @@ use Rattle.regex_vm.specs.Found.{Found, found_from_span, found_from_trace}
 use Rattle.urlpattern_engine.specs.declared.bounded_search.StateMove.{StateMove}
 use Rattle.urlpattern_engine.specs.declared.bounded_search.StateMove.TheVariants.{Choice, Ends, Fails, Continue, ContinueByRest}
 use Rattle.urlpattern_engine.specs.declared.ahead.ByteBounds.{ByteBounds}
-use Rattle.urlpattern_engine.specs.declared.ahead.FirstBytes.{FirstBytes}
 use Rattle.urlpattern_engine.specs.declared.bounded_search.BoundedSearch.{BoundedSearch}
 
 -- The automaton that is searched has a state with this number.
@@ -93,16 +92,6 @@ pub record IsInSpan (trial : BoundedSearch) (span : ByteBounds) (at : ℕ) : Typ
 abbrev pub NeedsByte : BoundedSearch → ℕ → ByteBounds → Type 0
 NeedsByte trial id span =
     (at : ℕ) → at < length trial.bytes.now → ¬ IsInSpan trial span at → run_in trial id at ≡ None
-
--- The byte is one of these: it is in the span, and not in the gap.
-abbrev pub HasFirst : FirstBytes → ℕ → Type 0
-HasFirst first b = HasByte first.bounds b × (first.low_end < b → first.high_start ≤ b)
-
--- A match from state `id`, at a position before a byte of `among`, begins with one of these bytes.
-abbrev pub NeedsFirst : BoundedSearch → ℕ → (among : ByteBounds) → FirstBytes → Type 0
-NeedsFirst trial id among first =
-    (at : ℕ) → IsInSpan trial among at → ¬ HasFirst first (slice_index trial.bytes.now at)
-    → run_in trial id at ≡ None
 
 -- At each byte of the span, the preferred match from state `id` is the one from state `other` after
 -- the byte.

@@ -2,7 +2,7 @@
 use Rattle.std.specs.Prelude.{◌⊎◌, ℕ, ◌+◌, ◌*◌, ◌^◌, ◌<◌, ◌==◌, Bool, List, [], ◌∷◌, map, max, sum, IfSome, if◌then◌else◌, codes}
 use Rattle.std.specs.Char.{digit_value, is_digit}
 use Rattle.regex_syntax.specs.Grammar.{read}
-use Rattle.urlpattern_engine.specs.Automatons.{config_for}
+use Rattle.urlpattern_expressions.specs.Expressions.{config_for}
 use Rattle.urlpattern_syntax.specs.Text.{is_among}
 
 -- The grammar of `regex` does not read the expression, or reads a pattern that is nested too deep.

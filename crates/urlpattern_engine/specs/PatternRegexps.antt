@@ -4,7 +4,8 @@ use Rattle.regex_syntax.specs.Grammar.{read}
 use Rattle.urlpattern_matcher.specs.declared.regexp.RegExp.{Ghosts as Engine}
 use Rattle.urlpattern_matcher.specs.Components.{ignores_case}
 use Rattle.urlpattern_matcher.specs.Regexes.{regex_result, regex_text}
-use Rattle.urlpattern_engine.specs.Automatons.{IsNfaOf, IsRegexReadAs, automaton_result, config_for, read_result}
+use Rattle.urlpattern_engine.specs.Automatons.{IsNfaOf, IsRegexReadAs, automaton_result, read_result}
+use Rattle.urlpattern_expressions.specs.Expressions.{config_for}
 use Rattle.urlpattern_engine.specs.ExpressionFaults.{HasFault}
 use Rattle.urlpattern_engine.specs.declared.strategy.Strategy.{Strategy}
 use Rattle.urlpattern_engine.specs.declared.strategy.Strategy.TheVariants.{Steps, LazySteps, Automaton, Regex, LazyRegex}

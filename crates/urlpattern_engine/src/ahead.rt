@@ -3,7 +3,7 @@
 ghost use Rattle.std.specs.Prelude.{◌≡◌, ◌<◌, ◌≤◌, ◌↔◌, ℕ, Some, None, length, slice_range, IfSome, IsTrue};
 ghost use Rattle.regex_hir.specs.Looks as looks;
 ghost use Rattle.regex_nfa.specs.States.{IsSparseRange, target_in};
-ghost use Rattle.urlpattern_engine.specs.BoundedSearches.{GoesRound, HasByte, HasFirst, IsInSpan, IsReadableIn, IsState, NeedsByte, NeedsFirst, next_in, run_in};
+ghost use Rattle.urlpattern_engine.specs.BoundedSearches.{GoesRound, HasByte, IsInSpan, IsReadableIn, IsState, NeedsByte, next_in, run_in};
 
 use crate::bounded_search::BoundedSearch;
 use regex_hir::Look;
@@ -18,15 +18,6 @@ const SAVE_COUNT: usize = 4;
 pub(crate) struct ByteBounds {
     low: u8,
     high: u8,
-}
-
-/// Bytes with which a match can begin: those of a span, without those greater than `low_end` and
-/// less than `high_start`, its gap.
-#[derive(Clone, Copy)]
-pub(crate) struct FirstBytes {
-    bounds: ByteBounds,
-    low_end: u8,
-    high_start: u8,
 }
 
 impl BoundedSearch<'_> {
@@ -124,67 +115,32 @@ impl BoundedSearch<'_> {
         None
     }
 
-    /// Returns each byte of `among` with which a match from a state can begin, and maybe others,
-    /// looking into one choice. `None`: unknown.
+    /// Returns a span that contains each byte with which a match from a state can begin, looking
+    /// into one choice. `None`: unknown.
     #[inline(always)]
-    pub(crate) fn first_bytes(&self, id: StateId, among: ByteBounds) -> Option<FirstBytes>
-        requires { IsState self.now id }
-        ensures { IfSome result (NeedsFirst self.now id among) }
-    {
-        let seen = self.after_writes(id);
-        match self.nfa.state(seen) {
-            State::Split { first, second } => {
-                let one = self.own_bytes(first)?;
-                let other = self.own_bytes(second)?;
-                Some(union(one, other))
-            }
-            State::Sparse { from, to } => self.two_spans(from as usize, to as usize, among),
-            _ => {
-                let own = self.own_bytes(seen)?;
-                Some(FirstBytes::new(own, own))
-            }
-        }
-    }
-
-    /// Returns the bytes of the first two transitions with an index from `from` up to but excluding
-    /// `to`, as those of a letter in both cases. `None`: there are fewer, or the third may be for a
-    /// byte of `among`.
-    #[inline(always)]
-    fn two_spans(&self, from: usize, to: usize, among: ByteBounds) -> Option<FirstBytes>
-        requires { IsSparseRange self.now.nfa.now.transitions.items from to }
-        ensures { IfSome result (λ first.
-            (b : ℕ) → HasByte among b
-            → ¬ HasFirst first b
-            → target_in (slice_range self.now.nfa.now.transitions.items from to) b ≡ None) }
-    {
-        if to - from < 2 {
-            return None;
-        }
-        if to - from > 2 && self.nfa.transitions[from + 2].start <= among.high {
-            return None;
-        }
-        let one = self.nfa.transitions[from];
-        let other = self.nfa.transitions[from + 1];
-        let lower = ByteBounds {
-            low: one.start,
-            high: one.end,
-        };
-        let upper = ByteBounds {
-            low: other.start,
-            high: other.end,
-        };
-        Some(FirstBytes::new(lower, upper))
-    }
-
-    /// Returns a span that contains each byte with which a match from a state can begin, without
-    /// looking into a choice. `None`: unknown.
-    #[inline(always)]
-    fn own_bytes(&self, id: StateId) -> Option<ByteBounds>
+    pub(crate) fn first_bytes(&self, id: StateId) -> Option<ByteBounds>
         requires { IsState self.now id }
         ensures { IfSome result (NeedsByte self.now id) }
     {
         let seen = self.after_writes(id);
         match self.nfa.state(seen) {
+            State::Split { first, second } => {
+                let one = self.own_bytes(self.after_writes(first))?;
+                let other = self.own_bytes(self.after_writes(second))?;
+                Some(span_of_both(one, other))
+            }
+            _ => self.own_bytes(seen),
+        }
+    }
+
+    /// Returns a span that contains each byte with which a match from a state can begin, by that
+    /// state alone. `None`: unknown, as of a choice or of a state that saves a position.
+    #[inline(always)]
+    fn own_bytes(&self, id: StateId) -> Option<ByteBounds>
+        requires { IsState self.now id }
+        ensures { IfSome result (NeedsByte self.now id) }
+    {
+        match self.nfa.state(id) {
             State::ByteRange(t) => Some(ByteBounds {
                 low: t.start,
                 high: t.end,
@@ -207,24 +163,23 @@ impl BoundedSearch<'_> {
         let seen = self.after_writes(id);
         match self.nfa.state(seen) {
             State::Split { first, second } => {
-                if !self.stops(first, at) {
+                if !self.stops(self.after_writes(first), at) {
                     return false;
                 }
-                self.stops(second, at)
+                self.stops(self.after_writes(second), at)
             }
             _ => self.stops(seen, at),
         }
     }
 
     /// Whether the byte at `at`, its absence, or an assertion at `at` rules out a match from a
-    /// state, without looking into a choice. `false` decides nothing.
+    /// state, by that state alone. `false` decides nothing.
     #[inline(always)]
     fn stops(&self, id: StateId, at: usize) -> bool
         requires { IsState self.now id }
         ensures { IsTrue result → run_in self.now id at ≡ None }
     {
-        let seen = self.after_writes(id);
-        let state = self.nfa.state(seen);
+        let state = self.nfa.state(id);
         match state {
             State::Look { look, .. } => !self.holds(look, at),
             State::Split { .. } => false,
@@ -237,7 +192,7 @@ impl BoundedSearch<'_> {
     /// Passes over up to `SAVE_COUNT` states that save a position, from state `id` on, and returns
     /// the state after them.
     #[inline(always)]
-    fn after_writes(&self, id: StateId) -> StateId
+    pub(crate) fn after_writes(&self, id: StateId) -> StateId
         requires { IsState self.now id }
         ensures within { IsState self.now result }
         ensures none { (at : ℕ) → run_in self.now result at ≡ None → run_in self.now id at ≡ None }
@@ -281,22 +236,21 @@ impl BoundedSearch<'_> {
     }
 }
 
-/// The bytes of both spans.
+/// The least span that contains both spans.
 #[inline(always)]
-fn union(one: ByteBounds, other: ByteBounds) -> FirstBytes
-    ensures one { (b : ℕ) → HasByte one b → HasFirst result b }
-    ensures other { (b : ℕ) → HasByte other b → HasFirst result b }
+fn span_of_both(one: ByteBounds, other: ByteBounds) -> ByteBounds
+    ensures one { (b : ℕ) → HasByte one b → HasByte result b }
+    ensures other { (b : ℕ) → HasByte other b → HasByte result b }
 {
-    if one.high < one.low {
-        return FirstBytes::new(other, other);
-    }
     if other.high < other.low {
-        return FirstBytes::new(one, one);
+        return one;
     }
-    if one.low <= other.low {
-        FirstBytes::new(one, other)
-    } else {
-        FirstBytes::new(other, one)
+    if one.high < one.low {
+        return other;
+    }
+    ByteBounds {
+        low: one.low.min(other.low),
+        high: one.high.max(other.high),
     }
 }
 
@@ -307,40 +261,5 @@ impl ByteBounds {
         ensures { IsTrue result ↔ HasByte self byte }
     {
         self.low <= byte && byte <= self.high
-    }
-}
-
-impl FirstBytes {
-    /// The bytes of two spans, and those between them unless `lower` begins first.
-    #[inline(always)]
-    fn new(lower: ByteBounds, upper: ByteBounds) -> FirstBytes
-        ensures lower { (b : ℕ) → HasByte lower b → HasFirst result b }
-        ensures upper { (b : ℕ) → HasByte upper b → HasFirst result b }
-    {
-        FirstBytes {
-            bounds: ByteBounds {
-                low: lower.low.min(upper.low),
-                high: lower.high.max(upper.high),
-            },
-            low_end: lower.high,
-            high_start: upper.low,
-        }
-    }
-
-    /// Whether a byte is one of these.
-    #[inline(always)]
-    pub(crate) fn contains(self, byte: u8) -> bool
-        ensures { IsTrue result ↔ HasFirst self byte }
-    {
-        self.bounds.contains(byte) && (self.low_end >= self.bounds.high || self.is_beside_gap(byte))
-    }
-
-    /// Whether the gap does not contain a byte. Inlined, the comparisons would be made at each byte
-    /// of a loop, before those with the span.
-    #[inline(never)]
-    fn is_beside_gap(self, byte: u8) -> bool
-        ensures { IsTrue result ↔ (self.low_end < byte → self.high_start ≤ byte) }
-    {
-        byte <= self.low_end || self.high_start <= byte
     }
 }

@@ -2,11 +2,11 @@
 
 ghost use Rattle.std.specs.Prelude.{◌≡◌, ◌⊎◌, ℕ, None, List, IsTrue, false};
 ghost use Rattle.regex_nfa.specs.declared.state.State.TheVariants as states;
-ghost use Rattle.urlpattern_engine.specs.BoundedSearches.{FollowsMove, GoesRound, IsTextPlace, IsState, NeedsFirst, found_from, run_in, state_in};
+ghost use Rattle.urlpattern_engine.specs.BoundedSearches.{FollowsMove, GoesRound, IsTextPlace, IsState, NeedsByte, found_from, run_in, state_in};
 
-use crate::ahead::{ByteBounds, FirstBytes};
+use crate::ahead::ByteBounds;
 use crate::bounded_search::{BoundedSearch, StateMove};
-use regex_nfa::StateId;
+use regex_nfa::{State, StateId};
 
 /// How far a match runs through a loop before it has to choose between the loop and its exit.
 #[derive(Clone, Copy)]
@@ -97,8 +97,8 @@ impl BoundedSearch<'_> {
         let Some(inside) = self.loop_bytes(body, at, id) else {
             return closed(at);
         };
-        let Some(leaving) = self.first_bytes(exit, inside) else {
-            return closed(at);
+        let Some(leaving) = self.first_bytes(exit) else {
+            return closed(self.loop_end_by_state(id, body, exit, inside, at));
         };
         let place = self.loop_end(id, body, exit, inside, leaving, at);
         if !self.is_byte_of(inside, place) {
@@ -129,8 +129,8 @@ impl BoundedSearch<'_> {
         let Some(inside) = self.loop_bytes(body, at, id) else {
             return closed(at);
         };
-        let Some(leaving) = self.first_bytes(exit, inside) else {
-            return closed(at);
+        let Some(leaving) = self.first_bytes(exit) else {
+            return closed(self.loop_end_by_state(id, body, exit, inside, at));
         };
         let place = self.loop_end(id, body, exit, inside, leaving, at);
         if self.is_byte_of(inside, place) {
@@ -152,13 +152,13 @@ impl BoundedSearch<'_> {
         body: StateId,
         exit: StateId,
         inside: ByteBounds,
-        leaving: FirstBytes,
+        leaving: ByteBounds,
         at: usize,
     ) -> usize
         requires choice { (state_in self.now id ≡ states.Split body exit)
             ⊎ (state_in self.now id ≡ states.Split exit body) }
         requires goes { GoesRound self.now body id inside }
-        requires leaves { NeedsFirst self.now exit inside leaving }
+        requires leaves { NeedsByte self.now exit leaving }
         requires place { IsTextPlace self.now at }
         ensures same { run_in self.now id at ≡ run_in self.now id result }
         ensures within { IsTextPlace self.now result }
@@ -172,6 +172,39 @@ impl BoundedSearch<'_> {
             if leaving.contains(byte) {
                 return place;
             }
+            place += 1;
+        }
+        place
+    }
+
+    /// Returns the first position from `at` on whose byte the body of a loop does not consume, or
+    /// its exit may begin with, as `loop_end` does, where the exit begins with a byte of several
+    /// spans, such as a letter in both cases. `at`: the exit may begin otherwise.
+    ///
+    /// Not inlined, since most exits begin with bytes of one span.
+    #[inline(never)]
+    fn loop_end_by_state(
+        &self,
+        id: StateId,
+        body: StateId,
+        exit: StateId,
+        inside: ByteBounds,
+        at: usize,
+    ) -> usize
+        requires choice { (state_in self.now id ≡ states.Split body exit)
+            ⊎ (state_in self.now id ≡ states.Split exit body) }
+        requires state { IsState self.now exit }
+        requires goes { GoesRound self.now body id inside }
+        requires place { IsTextPlace self.now at }
+        ensures same { run_in self.now id at ≡ run_in self.now id result }
+        ensures within { IsTextPlace self.now result }
+    {
+        let state = self.nfa.state(self.after_writes(exit));
+        let State::Sparse { .. } = state else {
+            return at;
+        };
+        let mut place = at;
+        'bytes: while self.is_byte_of(inside, place) && self.next(state, place).is_none() {
             place += 1;
         }
         place

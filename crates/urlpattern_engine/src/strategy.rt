@@ -6,7 +6,7 @@
 ghost use Rattle.std.specs.Prelude.{◌≡◌, ◌≤◌, true, Err, IfOk, IsSome};
 ghost use Rattle.std.specs.Str.{chars};
 ghost use Rattle.regex_syntax.specs.Grammar.{read};
-ghost use Rattle.urlpattern_engine.specs.Automatons.{config_for};
+ghost use Rattle.urlpattern_expressions.specs.Expressions.{config_for};
 ghost use Rattle.urlpattern_engine.specs.PatternRegexps.{IsExpressionOf, expression_result, expression_text};
 ghost use Rattle.urlpattern_engine.specs.ExpressionFaults.{HasFault};
 ghost use Rattle.urlpattern_engine.specs.declared.strategy.AutomatonSearch.TheVariants.{Unmarked};

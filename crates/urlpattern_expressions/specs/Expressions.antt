@@ -8,8 +8,18 @@ use Rattle.regex_hir.specs.Re.{Re, empty, literal, byte_in, char_in, look, cat, 
 use Rattle.regex_hir.specs.Text.{char_at, is_some_and}
 use Rattle.regex_syntax.specs.Brackets.{join}
 use Rattle.regex_syntax.specs.Grammar.{branches, read}
-use Rattle.regex_syntax.specs.Verdict.{default_config}
+use Rattle.regex_syntax.specs.Verdict.{default_config, default_flags}
+use Rattle.regex_syntax.specs.declared.Config.{Config}
 use Rattle.urlpattern_syntax.specs.Text.{lacks}
+
+-- The default options of the grammar, with case ignored (the flag `i`) or not.
+abbrev pub config_for : (ignore_case : Bool) → Config
+config_for ignore_case = record default_config {
+  flags = record default_flags {
+    case_insensitive =
+        ignore_case;
+  };
+}
 
 -- The pattern, which a grammar reads in an expression, matches the text from its first byte to its
 -- last.

@@ -1,11 +1,13 @@
 -- Simple custom expressions: what they match does not depend on the text around them, and they have
 -- no groups that capture. Whether an expression is simple is decided at run time.
-use Rattle.std.specs.Prelude.{◌≡◌, ℕ, Bool, true, false, not, ◌&&◌, nat_le, All, List, [], ◌∷◌, codes, IsTrue, if◌then◌else◌}
+use Rattle.std.specs.Prelude.{◌≡◌, ◌⊎◌, ℕ, Bool, true, false, not, ◌&&◌, nat_le, All, List, [], ◌∷◌, codes, IsTrue, if◌then◌else◌}
 use Rattle.std.specs.Char.{is_ascii}
 use Rattle.regex_hir.specs.Text.{is_some_and}
 use Rattle.regex_syntax.specs.Grammar.{read}
 use Rattle.regex_syntax.specs.Verdict.{default_config}
+use Rattle.urlpattern_meaning.specs.PartMeaning.{AreGenerated}
 use Rattle.urlpattern_syntax.specs.{ComponentParts.kept_options, ComponentParts.kept_parts, Options.OptionsView, Parts.PartView}
+use Rattle.urlpattern_syntax.specs.declared.parser.Part.{Part}
 use Rattle.urlpattern_syntax.specs.declared.parser.PartType.{PartType}
 use Rattle.urlpattern_syntax.specs.declared.parts.ComponentParts.{ComponentParts}
 use Rattle.urlpattern_syntax.specs.Text.{is_among, line_feed}
@@ -49,6 +51,15 @@ is_simple expression =
 
 -- ---- parts
 
+-- Whether a part of this kind is a custom regular expression.
+abbrev pub is_custom_kind : PartType → Bool
+is_custom_kind PartType.Regexp = true
+is_custom_kind kind = false
+
+-- Whether the part is a custom regular expression.
+abbrev pub is_custom_part : Part → Bool
+is_custom_part part = is_custom_kind part.kind
+
 -- The expression of a custom part is simple. Parts of other kinds meet this.
 abbrev pub HasSimpleExpression : PartType → (value : List ℕ) → Type 0
 HasSimpleExpression PartType.Regexp value = IsTrue (is_simple value)
@@ -63,6 +74,16 @@ pub record HaveMeaning (options : OptionsView) (parts : List PartView) : Type 0 
   pub simple : AreSimple parts
   pub case_kept : options.ignore_case ≡ false
 
+-- Parts with these options have a meaning over an engine that honours the flag `i`, such as
+-- `PatternRegexp`: custom expressions are simple, and if there is one, case is kept.
+pub record HaveMeaningByCase (options : OptionsView) (parts : List PartView) : Type 0 where
+  pub simple : AreSimple parts
+  pub by_case : (options.ignore_case ≡ false) ⊎ AreGenerated parts
+
 -- The parts of a component have a meaning.
 abbrev pub KeepsMeaning : ComponentParts → Type 0
 KeepsMeaning kept = HaveMeaning (kept_options kept) (kept_parts kept)
+
+-- The parts of a component have a meaning over an engine that honours the flag `i`.
+abbrev pub KeepsMeaningByCase : ComponentParts → Type 0
+KeepsMeaningByCase kept = HaveMeaningByCase (kept_options kept) (kept_parts kept)

@@ -1,8 +1,9 @@
 //! Simple custom expressions: what they match does not depend on the text around them.
 
 ghost use Rattle.std.specs.Prelude.{◌≡◌, ◌↔◌, IfOk, IsTrue};
+ghost use Rattle.std.specs.List.{list_any};
 ghost use Rattle.std.specs.Str.{chars};
-ghost use Rattle.urlpattern_expressions.specs.SimpleExpressions.{AreSimple, HasSimpleExpression, KeepsMeaning, begins_uncaptured, has_simple_signs, is_escapable, is_simple, may_follow};
+ghost use Rattle.urlpattern_expressions.specs.SimpleExpressions.{AreSimple, HasSimpleExpression, KeepsMeaning, KeepsMeaningByCase, begins_uncaptured, has_simple_signs, is_custom_part, is_escapable, is_simple, may_follow};
 ghost use Rattle.urlpattern_syntax.specs.{Parts.part_view, Parts.parts_view, Text.line_feed};
 
 use regex_syntax::{Config, ErrorKind};
@@ -23,6 +24,36 @@ pub fn has_meaning(alloc: Global, component: &ComponentParts) -> Result<bool, Ou
         return Ok(false);
     }
     are_simple(alloc, &component.parts)
+}
+
+/// Whether the parts of a component have a meaning over an engine that honours the flag `i`, such
+/// as `PatternRegexp`: each custom regular expression is simple (`is_simple`), and if there is one,
+/// case is kept.
+///
+/// The only error is that memory ran out.
+pub fn has_meaning_by_case(alloc: Global, component: &ComponentParts) -> Result<bool, OutOfMemory>
+    ensures { IfOk result (λ has_meaning.
+        IsTrue has_meaning ↔ KeepsMeaningByCase component.now) }
+{
+    let ignores_case = component.options.ignore_case;
+    if ignores_case {
+        return Ok(!has_custom(&component.parts));
+    }
+    are_simple(alloc, &component.parts)
+}
+
+/// Whether at least one of `parts` is a custom regular expression.
+fn has_custom(parts: &[Part]) -> bool
+    ensures { result ≡ list_any is_custom_part parts.now }
+{
+    parts.iter().any(|part| is_custom(part))
+}
+
+/// Whether the part is a custom regular expression.
+fn is_custom(part: &Part) -> bool
+    ensures { result ≡ is_custom_part part.now }
+{
+    matches!(part.kind, PartType::Regexp)
 }
 
 /// Whether each custom expression of `parts` is simple.

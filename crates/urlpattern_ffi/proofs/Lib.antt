@@ -4,4 +4,3 @@ pub mod ReportedInitLemmas
 pub mod WrittenLinkLemmas
 pub mod SpanLemmas
 pub mod ResultDepth
-pub mod ResultFloats

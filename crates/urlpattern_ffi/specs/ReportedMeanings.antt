@@ -5,14 +5,15 @@ use Rattle.urlpattern_ffi.specs.declared.status.Status.{Status}
 use Rattle.urlpattern_ffi.specs.declared.status.Status.TheVariants as statuses
 use Rattle.urlpattern_components.specs.declared.eight.ComponentName.{ComponentName}
 use Rattle.urlpattern_engine.specs.declared.pattern_regexp.PatternRegexp.{PatternRegexp}
-use Rattle.urlpattern_pattern.specs.KeptMeanings.{HasMeaningIn}
+use Rattle.urlpattern_pattern.specs.KeptMeanings.{HasMeaningByCaseIn}
 use Rattle.urlpattern_pattern.specs.UrlPatterns.{UrlPattern}
 
 -- The outcome of deciding whether each component of the pattern has a meaning. `Done`: each has
 -- one. `NoMatch`: not each has one.
 abbrev pub IsMeaningDecided : UrlPattern PatternRegexp → Status → Type 0
-IsMeaningDecided pattern statuses.Done = (name : ComponentName) → HasMeaningIn pattern name
-IsMeaningDecided pattern statuses.NoMatch = ¬ ((name : ComponentName) → HasMeaningIn pattern name)
+IsMeaningDecided pattern statuses.Done = (name : ComponentName) → HasMeaningByCaseIn pattern name
+IsMeaningDecided pattern statuses.NoMatch =
+    ¬ ((name : ComponentName) → HasMeaningByCaseIn pattern name)
 IsMeaningDecided pattern statuses.OutOfMemory = Unit {0}
 IsMeaningDecided pattern status = ⊥
 

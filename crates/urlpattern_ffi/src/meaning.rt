@@ -15,7 +15,7 @@ pub fn has_meaning(alloc: Global, kept: &Option<Box<PatternBox>>, index: usize) 
         Some(pattern) => pattern,
         None => return Status::NoPattern,
     };
-    match pattern.has_meaning(alloc) {
+    match pattern.has_meaning_by_case(alloc) {
         Ok(true) => Status::Done,
         Ok(false) => Status::NoMatch,
         Err(_) => Status::OutOfMemory,

@@ -13,7 +13,7 @@ use Rattle.urlpattern_matcher.specs.Regexes.{regex_engine}
 use Rattle.urlpattern_matcher.specs.declared.regexp.RegExp.{Ghosts as Engine}
 use Rattle.urlpattern_laws.proofs.CustomGroups.{custom_inside, whole_takes}
 use Rattle.urlpattern_engine.proofs.ItemsRead.{at_text}
-use Rattle.urlpattern_laws.proofs.FirstOfTrees.{first_of_tree}
+use Rattle.urlpattern_laws.proofs.FirstOfTrees.{first_of_either_case, first_of_tree}
 use Rattle.urlpattern_laws.proofs.MatchersCapture.{matchers_capture}
 use Rattle.urlpattern_laws.proofs.MatchersFirst.{matchers_first}
 use Rattle.urlpattern_laws.proofs.MatchersTaken.{matchers_taken}
@@ -49,7 +49,7 @@ reads_in_groups expression rest steps names h = by (branches steps (at_text name
 
 -- ---- values
 
-pub ruleset first_ways = (first_captured, first_of_tree, pattern_values_first, regex_values_first)
+pub ruleset first_ways = (first_captured, first_of_tree, first_of_either_case, pattern_values_first, regex_values_first)
 
 -- ---- matchers
 

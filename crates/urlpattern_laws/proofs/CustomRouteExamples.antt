@@ -35,7 +35,13 @@ pub expression_takes : (expression : List ℕ) (pattern : Nested Re) (names : Na
     → ExpressionMatches expression text → Takes pattern.value text
 expression_takes expression pattern names e plain text good is = (whole_takes pattern.value plain text good).1 (rw e at is)
 
-digits_read : read default_config (codes "\\d+") ≡ Some (record { value = alt (cat (plus true (char_in (members is_digit_char))) empty) (byte_in []); depth = 1 }, None ∷ [])
+-- A text that the pattern of an expression matches character by character is a match of the
+-- expression.
+pub expression_matches : (expression : List ℕ) (pattern : Nested Re) (names : Names) → read default_config expression ≡ Some (pattern, names) → matches_characters pattern.value ≡ true → (text : List ℕ) → scalars text ≡ true
+    → Takes pattern.value text → ExpressionMatches expression text
+expression_matches expression pattern names e plain text good takes = rw e ((whole_takes pattern.value plain text good).0 takes)
+
+pub digits_read : read default_config (codes "\\d+") ≡ Some (record { value = alt (cat (plus true (char_in (members is_digit_char))) empty) (byte_in []); depth = 1 }, None ∷ [])
 unfolding read branches items item atom piece_meaning join_parts with_repetitions repetitions bounds repeat first skip escape one_letter negate_if one_of names_below
 digits_read = refl
 

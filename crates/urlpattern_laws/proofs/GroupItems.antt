@@ -8,7 +8,8 @@ use Rattle.urlpattern_laws.proofs.GroupsOf.{IsInside, items_inside, captured_ite
 use Rattle.urlpattern_laws.proofs.ItemsOf.{AreItemsOf, IsItemOf, append_items, same_items, quantified_items, once_items, perhaps_items, same_then, same_texts}
 use Rattle.urlpattern_laws.proofs.PieceItems.{fixed_items}
 use Rattle.urlpattern_laws.proofs.Senses.{Sense, SameSense, joined, joined_quiet, perhaps, quiet, quiet_same, whole}
-use Rattle.urlpattern_expressions.specs.PartWays.{between_ways, copies_ways, exactly, fixed_ways, followed_by, several_ways}
+use Rattle.urlpattern_laws.proofs.KeptWays.{between_ways, copies_ways, exactly, fixed_ways, several_ways}
+use Rattle.urlpattern_expressions.specs.PartWays.{followed_by}
 use Rattle.urlpattern_meaning.specs.Ways.{WaysByText, quantified_ways}
 use Rattle.urlpattern_meaning.specs.Dialect.{Optional, ZeroOrMore, OneOrMore}
 use Rattle.urlpattern_meaning.specs.PartMeaning.{Allows, Captures}

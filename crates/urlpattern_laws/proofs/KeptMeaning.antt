@@ -14,7 +14,7 @@ use Rattle.urlpattern_meaning.specs.PartMeaning.{Captures}
 use Rattle.urlpattern_pattern.proofs.MatchersDecide.{answered}
 use Rattle.urlpattern_pattern.proofs.MeaningLemmas.{read_once}
 use Rattle.urlpattern_pattern.specs.ByText.{ReturnsByText, HasMeaning}
-use Rattle.urlpattern_expressions.specs.SimpleExpressions.{AreSimple}
+use Rattle.urlpattern_expressions.specs.SimpleExpressions.{AreSimple, HaveMeaningByCase}
 use Rattle.urlpattern_pattern.specs.KeptMeanings.{KeptMeaningsAreOfTexts}
 use Rattle.urlpattern_pattern.specs.KeptParts.{AreReadBySettings}
 use Rattle.urlpattern_pattern.specs.Patterns.{pattern_view}
@@ -22,6 +22,7 @@ use Rattle.urlpattern_expressions.proofs.SimpleLemmas.{generated_simple}
 use Rattle.urlpattern_expressions.specs.PartCaptures.{IsCapturedByParts}
 use Rattle.urlpattern_laws.proofs.MatchingLemmas.{by_answer}
 use Rattle.urlpattern_laws.proofs.SimpleMatchers.{captured_agrees}
+use Rattle.urlpattern_laws.specs.ByCase.{KeptMeaningsByCaseAreOfTexts}
 use Rattle.urlpattern_laws.specs.PartReadings.{KeptPartsMean}
 use Rattle.urlpattern_compare.specs.Comparing.{IsKnown}
 use Rattle.urlpattern_syntax.specs.ComponentParts.{kept_options, kept_parts}
@@ -81,4 +82,17 @@ kept_meaning engine init asked pattern kept name =
         case_kept = sym case ∙ have.case_kept;
       },
       λ has. record { simple = has.simple (kept_parts component) are.reads; case_kept = case ∙ has.case_kept },
+    )
+
+-- The kept parts have a meaning by case exactly if the pattern text has one.
+pub kept_meaning_by_case : {E : Type 0} (engine : Engine E) → KeptMeaningsByCaseAreOfTexts engine
+kept_meaning_by_case engine init asked pattern kept name =
+    let component = at kept.parts.components name in
+    let settings = settings_of asked kept.values kept.hierarchical name in
+    let are = kept.are_read name in
+    rw (kept.has_parts) (
+      λ have parts reads.
+          subst (λ (o : OptionsView). HaveMeaningByCase o parts) are.options_are
+          (subst (λ (ps : List PartView). HaveMeaningByCase (kept_options component) ps) (read_once settings (kept_parts component) parts are.reads reads) have),
+      λ meant. subst (λ (o : OptionsView). HaveMeaningByCase o (kept_parts component)) (sym are.options_are) (meant (kept_parts component) are.reads),
     )

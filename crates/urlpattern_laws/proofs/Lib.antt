@@ -1,13 +1,10 @@
 pub mod MatchExamples
 pub mod OutcomesOne
 pub mod InitValues
-pub mod FoldedTreeLaws
 pub mod ChangedParts
-pub mod FoldedMatchers
-pub mod FoldedWays
 pub mod CanonicalAgain
 pub mod InputTexts
-pub mod FoldedPatterns
+pub mod ByCase
 pub mod EcmaMatchers
 pub mod RegexGroups
 pub mod RequestedCaptures
@@ -30,6 +27,7 @@ pub mod Choices
 pub mod Senses
 pub mod ItemsOf
 pub mod GroupsOf
+pub mod KeptWays
 pub mod CustomGroups
 pub mod PieceItems
 pub mod PartCharacters
@@ -42,6 +40,7 @@ pub mod TakenMeanings
 pub mod MatchersTaken
 pub mod MatchersCapture
 pub mod SteadyWays
+pub mod SingleCaptures
 pub mod StrippedWays
 pub mod FirstOfTrees
 pub mod MatchersFirst
@@ -54,6 +53,10 @@ pub mod CustomLaws
 pub mod ExpressionExamples
 pub mod FirstWayExamples
 pub mod CustomRouteExamples
+pub mod RouteSplits
+pub mod SiteRoutes
+pub mod OrdersExample
+pub mod DocsExample
 pub mod SameMatchers
 pub mod MatchingLemmas
 pub mod EngineParts

@@ -10,8 +10,7 @@ use Rattle.urlpattern_components.specs.declared.eight.ComponentName.TheVariants.
 use Rattle.urlpattern_init.specs.declared.init.UrlPatternMatchInput.TheVariants.{Url}
 use Rattle.urlpattern_init.specs.Inheritance.{texts_of_url}
 use Rattle.urlpattern_pattern.specs.Match.{CallsAnEngine, HasMatch, HasNoMatch, IsMatchOf}
-use Rattle.urlpattern_laws.specs.FoldedPatterns.{IsSameByCase, IsSameInLowerCase}
-use Rattle.urlpattern_matches.specs.ResultViews.{ResultView, group_of}
+use Rattle.urlpattern_matches.specs.ResultViews.{group_of}
 use Rattle.urlpattern_pattern.specs.Mismatch.{FindsMismatch}
 use Rattle.urlpattern_pattern.specs.Patterns.{PatternView}
 use Rattle.urlpattern_matcher.specs.Components.{ComponentView}
@@ -62,18 +61,6 @@ captured_and_part-determine None None flat part = refl
 captured_and_part-determine None (Some other) flat part = absurd cc
 captured_and_part-determine (Some group) None flat part = absurd cc
 captured_and_part-determine (Some group) (Some other) flat part = ap Some flat
-
--- ---- results where case is ignored
-
--- A result for the text `aA`, in which each group captured `text`.
-abbrev each_captured : (text : List ℕ) → ResultView
-each_captured text = record { input = codes "aA"; group = λ name. Some (Some text) }
-
-captures-equal_in_lower_case : IsSameInLowerCase (each_captured (codes "a")) (each_captured (codes "A"))
-captures-equal_in_lower_case = (refl, λ name. refl)
-
-case_kept-captures_equal : IsSameByCase false (each_captured (codes "a")) (each_captured (codes "a"))
-case_kept-captures_equal = (refl, λ name. refl)
 
 -- ---- matches
 

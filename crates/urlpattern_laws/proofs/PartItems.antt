@@ -11,7 +11,8 @@ use Rattle.urlpattern_laws.proofs.PieceItems.{fixed_items, piece_inside}
 use Rattle.urlpattern_laws.proofs.Senses.{Sense, joined, no_text, quiet}
 use Rattle.urlpattern_expressions.specs.PartCaptures.{PartCaptures, PartsCapture}
 use Rattle.urlpattern_expressions.specs.MatchedPartTexts.{AllCaptureNothing, AllStandAlone, CapturesNothing, IsMatchedPiece, PartMatches, PartsMatch, IsSelfContained}
-use Rattle.urlpattern_expressions.specs.PartWays.{fixed_ways, part_ways_by, parts_ways, piece_ways}
+use Rattle.urlpattern_laws.proofs.KeptWays.{fixed_ways, part_ways_by, piece_ways}
+use Rattle.urlpattern_expressions.specs.PartWays.{parts_ways}
 use Rattle.urlpattern_meaning.specs.PartMeaning.{Allows, Captures, IsCapture, capture_of_none}
 use Rattle.urlpattern_meaning.proofs.Copies.{GroupMeans, IsBetween, core_copies}
 use Rattle.urlpattern_meaning.proofs.MatchingLaws.{part_of}

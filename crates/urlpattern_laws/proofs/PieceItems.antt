@@ -1,6 +1,6 @@
 -- Fixed texts and the pieces of groups, as the grammar of `regex` reads them in the regular
 -- expression of parts.
-use Rattle.std.proofs.Common.{◌≡◌, ◌≢◌, ℕ, List, [], ◌∷◌, ◌++◌, Bool, true, false, not, ◌&&◌, ◌||◌, ◌==◌, Option, Some, None, nat_le, if◌then◌else◌, refl, sym, ap, ◌∙◌, subst, append_assoc, append-nil, codes, encode_utf8, lt-ltb, le-leb, eq-eqb, arith, length, unwrap_or}
+use Rattle.std.proofs.Common.{◌≡◌, ◌≢◌, ℕ, List, [], ◌∷◌, ◌++◌, Bool, true, false, not, ◌&&◌, ◌||◌, ◌==◌, Option, Some, None, nat_le, if◌then◌else◌, refl, sym, ap, ◌∙◌, subst, append_assoc, append-nil, codes, encode_utf8, lt-ltb, le-leb, eq-eqb, arith, length}
 use Rattle.std.proofs.lemmas.Bool.{and_parts, and_from}
 use Rattle.std.proofs.lemmas.Option.{same_Some}
 use Rattle.std.proofs.lemmas.Str.{length-encode}
@@ -24,7 +24,9 @@ use Rattle.urlpattern_laws.proofs.GroupsOf.{IsInside, items_inside}
 use Rattle.urlpattern_laws.proofs.ItemsOf.{AreItemsOf, IsItemOf, no_items, append_items, same_items, quantified_items, once_items, atom_item}
 use Rattle.urlpattern_laws.proofs.Senses.{Sense, joined_quiet, quiet, quiet_same}
 use Rattle.urlpattern_expressions.specs.MatchedPartTexts.{CapturesNothing, IsMatchedPiece, IsSelfContained}
-use Rattle.urlpattern_expressions.specs.PartWays.{exactly, piece_ways}
+use Rattle.urlpattern_laws.proofs.KeptWays.{exactly, piece_ways}
+use Rattle.urlpattern_expressions.specs.PartWays.{is_in_segment_as}
+use Rattle.urlpattern_meaning.specs.Matching.{is_same_character}
 use Rattle.urlpattern_meaning.specs.Ways.{WaysByText, one_that, quantified_ways}
 use Rattle.urlpattern_meaning.specs.Dialect.{Character, Plain, Escaped, character_of, character_text, ZeroOrMore, LazyOneOrMore, Dot, AnyBut, Literal, AtomMeans, IsCharacter, IsClassCharacter, IsOneBut, atom_text}
 use Rattle.urlpattern_meaning.specs.PartMeaning.{IsWildcardText}
@@ -169,7 +171,7 @@ class_item ch h =
 -- ---- wildcards
 
 segment_item : (options : OptionsView) (delimiter : Option ℕ) → options.delimiter ≡ delimiter
-    → IsItemOf (atom_text (segment_atom (escaped_marks options.syntax) delimiter)) (quiet (Unit {0}) (λ text. AtomMeans (segment_atom (escaped_marks options.syntax) delimiter) text []) (one_but (unwrap_or delimiter line_feed)))
+    → IsItemOf (atom_text (segment_atom (escaped_marks options.syntax) delimiter)) (quiet (Unit {0}) (λ text. AtomMeans (segment_atom (escaped_marks options.syntax) delimiter) text []) (one_that (is_in_segment_as (is_same_character false) delimiter)))
 segment_item options None e = dot_item
 segment_item options (Some c) e =
     let allowed = (wildcard_allowed options SegmentWildcard tt).allowed in
@@ -213,7 +215,7 @@ piece_inside options FixedText value h stands = absurd (h refl)
 piece_inside options Regexp value h stands = custom_inside value stands
 piece_inside options SegmentWildcard value h stands =
     let Atoms : List ℕ → Type 0 = λ text. AtomMeans (segment_atom (escaped_marks options.syntax) options.delimiter) text [] in
-    let one : WaysByText = one_but (unwrap_or options.delimiter line_feed) in
+    let one : WaysByText = one_that (is_in_segment_as (is_same_character false) options.delimiter) in
     let segment : WaysByText = quantified_ways LazyOneOrMore 0 one in
     items_inside _ _ (same_items _ (quiet (Unit {0}) (Quantified LazyOneOrMore Atoms) segment) _ (quiet_same (Unit {0}) (Unit {0}) _ _ segment (segments_same options) (λ k. k))
     (subst (λ t. AreItemsOf t (quiet (Unit {0}) (Quantified LazyOneOrMore Atoms) segment)) (segment_text options.syntax options.delimiter)

@@ -1,5 +1,5 @@
 -- Matchers made of parts whose custom expressions are simple return the first way of the parts.
-use Rattle.std.proofs.Common.{◌≡◌, ℕ, List, false, Option, Some, None, Result, refl, sym, subst, ◌∙◌}
+use Rattle.std.proofs.Common.{◌≡◌, ℕ, List, Bool, false, Option, Some, None, Result, refl, sym, ap, subst, ◌∙◌}
 use Rattle.std.proofs.lemmas.List.Elements.{All-weaker}
 use Rattle.std.specs.Prelude.{⊤, IfSome, IsTrue, Ok, Err, is_some, option_and_then}
 use Rattle.std.specs.Str.{all_scalars}
@@ -9,6 +9,7 @@ use Rattle.urlpattern_engine.specs.PatternRegexps.{pattern_engine}
 use Rattle.urlpattern_expressions.proofs.SimpleLemmas.{generated_simple}
 use Rattle.urlpattern_expressions.specs.MatchedPartTexts.{AllCaptureNothing, AllStandAlone, CapturesNothing, IsSelfContained}
 use Rattle.urlpattern_expressions.specs.PartCaptures.{IsCapturedByParts}
+use Rattle.urlpattern_expressions.specs.PartWays.{parts_first_way_by}
 use Rattle.urlpattern_expressions.specs.PartsFirst.{IsFirstOfParts, ReturnsFirstOfMiddle, ReturnsFirstOfParts}
 use Rattle.urlpattern_expressions.specs.SimpleExpressions.{AreSimple, HasSimpleExpression, HaveMeaning}
 use Rattle.urlpattern_laws.proofs.FirstOfTrees.{first_of_tree}
@@ -73,11 +74,11 @@ captured_agrees options parts text None generated never = λ captures means. nev
 module _ {E : Type 0} (answer : E → List ℕ → Option Captures) (IsEngine : List ℕ → Result E ErrorView → Type 0) (options : OptionsView) (parts : List PartView) (matcher : MatcherView E)
     (made : IsMadeOf IsEngine options parts matcher) (kept : options.ignore_case ≡ false) where
   -- A matcher without an engine has no custom part.
-  fast : IsFast matcher.inner → ReturnsFirstOfParts answer options parts matcher
+  pub fast : IsFast matcher.inner → ReturnsFirstOfParts answer options parts matcher
   fast is text result no_feed fine answers =
       let plain = all_plain parts made.front made.middle made.back made.are_stripped (fast_plain IsEngine options (end_text made.front) made.middle (end_text made.back) matcher made.is_made is) in
       record {
-        is_first = fast_first answer IsEngine options parts matcher text result made plain kept no_feed fine is answers;
+        is_first = fast_first answer IsEngine options text result parts matcher made no_feed is answers ∙ ap (λ (b : Bool). parts_first_way_by b options parts text) kept;
         is_captured = fast_captured answer options parts matcher text result plain (λ captures. fast_means answer IsEngine options parts matcher text captures made kept no_feed is) answers;
       }
 
@@ -95,7 +96,10 @@ module _ {E : Type 0} (answer : E → List ℕ → Option Captures) (IsEngine : 
           let own : (t : List ℕ) → IsTrue (all_scalars t) → IsFirstOfParts options made.middle t (answer engine t) =
           subst (λ (m : List PartView). (t : List ℕ) → IsTrue (all_scalars t) → IsFirstOfParts options m t (answer engine t)) same firsts in
           record {
-            is_first = engine_first answer options parts made.front made.middle made.back matcher engine text result made.are_stripped ends e kept (λ t good. (own t good).is_first) fine answers;
+            is_first =
+                engine_first answer IsEngine options text result parts made.front made.middle made.back matcher engine made.are_stripped ends e
+                (λ t good. (own t good).is_first ∙ ap (λ (b : Bool). parts_first_way_by b options made.middle t) (sym kept)) fine answers
+                ∙ ap (λ (b : Bool). parts_first_way_by b options parts text) kept;
             is_captured = engine_captured answer options parts made.front made.middle made.back matcher engine text result made.are_stripped ends e kept (λ t good. (own t good).is_captured) fine answers;
           }
 
@@ -174,5 +178,5 @@ generated_first engine firsts options flags parts matcher taken text result no_f
     let of = firsts options flags parts matcher taken.is_made have taken.took text result no_feed fine answers in
     let tree = tree_of options parts in
     let is_tree = is_tree_of options parts taken.generated in
-    let first : IsFirstOf options parts text result = record { tree = tree; is_tree = is_tree; is_first = of.is_first ∙ first_of_tree options parts tree text taken.generated is_tree } in
+    let first : IsFirstOf options parts text result = record { tree = tree; is_tree = is_tree; is_first = of.is_first ∙ first_of_tree false options parts tree text taken.generated is_tree } in
     (first, first_agrees options parts text result taken.generated first)

@@ -53,18 +53,18 @@ canonical_path : canonical_pathname (codes "/users") ≡ Ok (codes "/users")
 unfolding url_on_literals encode_utf8
 canonical_path = refl
 
-canonical_slash : canonical_pathname (codes "/") ≡ Ok (codes "/")
+pub canonical_slash : canonical_pathname (codes "/") ≡ Ok (codes "/")
 unfolding url_on_literals encode_utf8
 canonical_slash = refl
 
 -- ---- the parts of the pattern texts
 
-protocol_read : (parts : List PartView) → Reads (codes "https") default_options (canonical_encoding canonical_protocol) parts → parts ≡ literal (codes "https")
+pub protocol_read : (parts : List PartView) → Reads (codes "https") default_options (canonical_encoding canonical_protocol) parts → parts ≡ literal (codes "https")
 unfolding encode_utf8 chars
 protocol_read parts reads =
     literal_read canonical_protocol (codes "https") parts refl canonical_scheme (plain_parts (codes "https") default_options (canonical_encoding canonical_protocol) parts refl reads)
 
-hostname_read : (parts : List PartView) → Reads (codes "example.com") hostname_options (canonical_encoding canonical_hostname) parts → parts ≡ literal (codes "example.com")
+pub hostname_read : (parts : List PartView) → Reads (codes "example.com") hostname_options (canonical_encoding canonical_hostname) parts → parts ≡ literal (codes "example.com")
 unfolding encode_utf8 chars
 hostname_read parts reads =
     literal_read canonical_hostname (codes "example.com") parts refl canonical_host

@@ -26,10 +26,10 @@ use Rattle.urlpattern_laws.specs.LawsOfTexts.{IsSomeIfMatched, ValuesReturnIfMat
 use Rattle.urlpattern_laws.specs.LawsOfWays.{FirstWaysAreCaptured, ValuesReturnFirstOfParts}
 use Rattle.urlpattern_expressions.specs.PartCaptures.{IsCapturedByParts, PartsCapture}
 use Rattle.urlpattern_expressions.specs.MatchedPartTexts.{AllCaptureNothing, AllStandAlone, PartsMatch}
-use Rattle.urlpattern_expressions.specs.PartWays.{parts_first_way, parts_ways}
+use Rattle.urlpattern_expressions.specs.PartWays.{parts_first_way, parts_first_way_by, parts_ways}
 use Rattle.urlpattern_engine.proofs.EngineLaws.{expression_good, form_of, pattern_values_read, regex_values_read, text_good}
 use Rattle.urlpattern_engine.proofs.GrammarResults.{read_by_default, regex_some}
-use Rattle.urlpattern_engine.specs.Automatons.{config_for}
+use Rattle.urlpattern_expressions.specs.Expressions.{config_for}
 use Rattle.urlpattern_engine.specs.PatternRegexps.{HasNumbers, IsExpressionOf, pattern_engine}
 use Rattle.urlpattern_engine.specs.GrammarReadings.{re_result}
 use Rattle.urlpattern_engine.specs.declared.strategy.Strategy.{Strategy}
@@ -86,7 +86,7 @@ captured_by options parts own f silent count is text fine (Some m) e taken =
 -- The result for a text is the first way of the parts.
 answers_first : (options : OptionsView) (parts : List PartView) (answer : List ℕ → Option Captures) → AllStandAlone parts → AllCaptureNothing parts → IsReadFor (regexp_text options parts) answer
     → (text : List ℕ) → IsTrue (all_scalars text) → answer text ≡ parts_first_way options parts text
-unfolding parts_first_way
+unfolding parts_first_way_by
 answers_first options parts answer alone silent r text fine =
     let t = flat_map (part_regexp options) parts in
     let inside = scalars_parts t (codes "$") (scalars_parts (codes "^") (t ++ codes "$") r.good).1 in
@@ -102,7 +102,7 @@ answers_first options parts answer alone silent r text fine =
 
 -- The captures of the first way are captures of the parts.
 pub first_captured : FirstWaysAreCaptured
-unfolding parts_first_way
+unfolding parts_first_way_by
 first_captured options parts text alone silent good fine =
     let t = flat_map (part_regexp options) parts in
     let inside = scalars_parts t (codes "$") (scalars_parts (codes "^") (t ++ codes "$") good).1 in

@@ -1,6 +1,6 @@
 -- Statements of the laws on the captures that are returned for parts with custom expressions: the
 -- captures of the first way in which the parts match the whole text.
-use Rattle.std.specs.Prelude.{◌≡◌, ⊤, ℕ, false, List, IsTrue}
+use Rattle.std.specs.Prelude.{◌≡◌, ⊤, ℕ, Bool, true, false, List, IsTrue, option_map}
 use Rattle.std.specs.Str.{all_scalars}
 use Rattle.urlpattern_matcher.specs.Components.{ComponentView, IsComponentOf}
 use Rattle.urlpattern_matcher.specs.FirstWays.{Keeping, Acceptance}
@@ -8,21 +8,31 @@ use Rattle.urlpattern_printing.specs.Generated.{AreGenerated}
 use Rattle.urlpattern_matcher.specs.declared.regexp.RegExp.{Ghosts as Engine}
 use Rattle.urlpattern_laws.specs.LawsOfTexts.{HasMatcherPremises}
 use Rattle.urlpattern_expressions.specs.MatchedPartTexts.{AllCaptureNothing, AllStandAlone}
-use Rattle.urlpattern_expressions.specs.{PartCaptures.IsCapturedByParts, PartWays.parts_first_way}
+use Rattle.urlpattern_expressions.specs.{PartCaptures.IsCapturedByParts, PartWays.parts_first_way, PartWays.parts_first_way_by}
 use Rattle.urlpattern_meaning.specs.Dialect.{IsTreeOf, Items}
 use Rattle.urlpattern_meaning.specs.FirstResults.{AcceptedText}
-use Rattle.urlpattern_meaning.specs.Matching.{EachResultIs, MatcherView}
-use Rattle.urlpattern_meaning.specs.Ways.{first_way}
+use Rattle.urlpattern_meaning.specs.Matching.{EachResultIs, IsSame, MatcherView, folded_captures}
+use Rattle.urlpattern_meaning.specs.Ways.{first_way_by}
 use Rattle.urlpattern_syntax.specs.{Options.OptionsView, Parts.PartView, RegexpText.regexp_text}
 
 -- For parts without a custom one, the captures of their first way are those of the first way of the
--- tree of their regular expression.
+-- tree of their regular expression, with case ignored or kept.
 abbrev pub FirstWaysAreOfTrees : Type 0
 FirstWaysAreOfTrees =
-    (options : OptionsView) (parts : List PartView) (tree : Items) (text : List ℕ)
-    → AreGenerated parts
+    (ignore_case : Bool) (options : OptionsView) (parts : List PartView) (tree : Items)
+    (text : List ℕ) → AreGenerated parts
     → IsTreeOf (regexp_text options parts) tree →
-    parts_first_way options parts text ≡ first_way tree text
+    parts_first_way_by ignore_case options parts text ≡ first_way_by ignore_case tree text
+
+-- Where case is ignored and no part is custom, texts that are equal except for case have first ways
+-- whose captures are equal except for case, or no way.
+abbrev pub FirstWaysAreOfEitherCase : Type 0
+FirstWaysAreOfEitherCase =
+    (options : OptionsView) (parts : List PartView) (text other : List ℕ) → AreGenerated parts
+    → IsSame true text other
+    →
+    option_map folded_captures (parts_first_way_by true options parts text)
+    ≡ option_map folded_captures (parts_first_way_by true options parts other)
 
 -- The captures of the first way are captures that the parts have in the text, or `None` if the
 -- parts do not match it. Premises: custom expressions stand alone and capture nothing themselves.

@@ -1,6 +1,5 @@
 pub mod CanonicalLaws
-pub mod Folded
-pub mod FoldedPatterns
+pub mod ByCase
 pub mod LinkLaws
 pub mod MatchLinks
 pub mod Outcomes

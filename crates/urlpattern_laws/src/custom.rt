@@ -10,7 +10,7 @@ ghost use Rattle.std.specs.Prelude.{⊤};
 ghost use Rattle.urlpattern_matcher.specs.Regexes.{regex_engine};
 ghost use Rattle.urlpattern_matcher.specs.FirstWays.{KeepsCase};
 ghost use Rattle.urlpattern_laws.specs.LawsOfTexts.{CapturesAreAsNames, ComponentsCapture, MatchersReturnIfMatched, MatchersCapture, PartsCaptureMeanings, PartsMatchMeanings, ReadsInGroups, ValuesReturnIfMatched, ValuesCapture};
-ghost use Rattle.urlpattern_laws.specs.LawsOfWays.{ComponentsReturnFirstOfParts, FirstWaysAreCaptured, FirstWaysAreOfTrees, MatchersReturnFirstOfParts, ValuesReturnFirstOfParts};
+ghost use Rattle.urlpattern_laws.specs.LawsOfWays.{ComponentsReturnFirstOfParts, FirstWaysAreCaptured, FirstWaysAreOfEitherCase, FirstWaysAreOfTrees, MatchersReturnFirstOfParts, ValuesReturnFirstOfParts};
 ghost use Rattle.urlpattern_laws.specs.OwnGroups.{ComponentsCaptureByGroups};
 ghost use Rattle.urlpattern_engine.specs.PatternRegexps.{pattern_engine};
 ghost use Rattle.urlpattern_pattern.specs.ByText.{AcceptedAlone};
@@ -99,15 +99,19 @@ pub fn components_answer_what_parts_capture()
 
 /// A value that an engine made of the regular expression of parts returns the captures of the first
 /// way in which the parts match the whole text: an earlier choice is preferred to a later one, and
-/// inside a custom part the choices are those of its expression by itself. Without a custom part,
-/// this is the first way of the tree of the regular expression. The captures of the first way are
-/// captures that the parts have in the text (`PartsCapture`).
+/// inside a custom part the choices are those of its expression by itself. These captures are some
+/// that the parts have in the text (`PartsCapture`).
+///
+/// Without a custom part, this is the first way of the tree of the regular expression, with case
+/// ignored or kept. Where case is ignored, texts that are equal except for case then have captures
+/// that are equal except for case.
 ///
 /// Premises: each custom expression stands alone, as `expressions_are_read_in_groups` says, and
 /// captures nothing itself. For `PatternRegexp`, the flag `i` is not set.
 #[tactic(auto, using(crate::proofs::CustomLaws::first_ways))]
 pub fn values_answer_the_first_way_of_parts()
     ensures trees { FirstWaysAreOfTrees }
+    ensures either_case { FirstWaysAreOfEitherCase }
     ensures captured { FirstWaysAreCaptured }
     ensures own { ValuesReturnFirstOfParts pattern_engine KeepsCase }
     ensures regex { ValuesReturnFirstOfParts regex_engine (λ flags. ⊤) }

@@ -9,8 +9,7 @@ ghost use Rattle.urlpattern_engine.specs.EcmaRegexps.{KeepsRegex, ecma_engine};
 ghost use Rattle.urlpattern_laws.specs.PatternLaws.{EqualTextsHaveEqualResults, EqualTextsHaveEqualTests, ResultsMeanTheParts, FirstResultsAreOne, MatchesAreOne, RegexMeetsPremises, RegexResultsAreFirst, TestsAgree, TestsAreOne};
 ghost use Rattle.urlpattern_canonical.specs.Canonical.{canonical_hash, canonical_password, canonical_search, canonical_username};
 ghost use Rattle.urlpattern_laws.specs.CanonicalLaws.{AreCanonicalAgain};
-ghost use Rattle.urlpattern_laws.specs.Folded.{FoldedFirstsAreReturned, FoldedWaysAreReturned};
-ghost use Rattle.urlpattern_laws.specs.FoldedPatterns.{FindingsAreByCase, FindingsByCaseAreOne, InputFindingsAreByCase};
+ghost use Rattle.urlpattern_laws.specs.ByCase.{FindingsAreByCase, FindingsByCaseAreOne, FirstsAreReturnedByCase, FirstsAreReturnedWithoutEngine, InputFindingsAreByCase, KeptMeaningsByCaseAreOfTexts};
 ghost use Rattle.urlpattern_laws.specs.LinkLaws.{LinksAreOne, LinksDiffer, LinksOfCapturesAreTheTexts};
 ghost use Rattle.urlpattern_laws.specs.MatchLinks.{GroupsOfCapturesAreGiven, GroupsOfMatchesDiffer, GroupsOfResultsAreGiven, LinksOfCompiledMatchesAreTheTexts, LinksOfMatchesAreTheTexts};
 ghost use Rattle.urlpattern_laws.specs.Outcomes.{DecidesGenerated, FirstWaysDecide, InitRejectionsAreOne, InitsHaveValues, PatternsExcludeRejections};
@@ -178,40 +177,48 @@ pub fn inits_have_one_outcome<R: RegExp>()
     ensures pattern_regexp { DecidesGenerated pattern_engine }
 {}
 
-/// A component that ignores case, without a custom part and with a matcher that needs no engine,
-/// matches by its pattern text. For a text without line feeds it returns captures exactly if the
-/// parts, with ASCII letters in lower case, match the text in lower case. In lower case, the
-/// captures are those of the first way. As returned, they are substrings of the text, which is
-/// split into one substring for each part.
+/// A component whose matcher needs no engine matches by its pattern text, over any engine, with
+/// case ignored or kept. It has no custom part. For each text without line feeds it returns the
+/// captures of the first way in which its parts match the text.
 ///
-/// A matcher that needs an engine is left out: it compares prefix and suffix with case folded, but
-/// leaves the text between them to the engine. `PatternRegexp` folds that text too, `regex::Regex`
-/// does not.
-pub fn folded_ways_are_answered<R: RegExp>()
-    ensures { FoldedWaysAreReturned R.RegExp }
+/// Where case is ignored, an ASCII letter of a fixed text, of a prefix or suffix or of the
+/// delimiter stands for both of its cases, and captures are pieces of the text as it is.
+///
+/// A matcher that needs an engine is left out: it compares prefix and suffix with case ignored, but
+/// leaves the text between them to the engine. `PatternRegexp` ignores case there too,
+/// `regex::Regex` does not.
+pub fn first_ways_are_answered_without_an_engine<R: RegExp>()
+    ensures { FirstsAreReturnedWithoutEngine R.RegExp }
 {}
 
-/// A component over `PatternRegexp` that ignores case and has no custom part matches by its pattern
-/// text, whether or not its matcher needs an engine. For a text without line feeds it returns
-/// captures exactly if the parts, with ASCII letters in lower case, match the text in lower case.
-/// In lower case, the captures are those of the first way.
+/// A component over `PatternRegexp` matches by its pattern text, with case ignored or kept. If it
+/// has no custom regular expression, or, where case is kept, only simple ones, it returns for each
+/// text without line feeds the captures of the first way in which its parts match the text, whether
+/// or not its matcher needs an engine.
+///
+/// Where case is ignored, an ASCII letter of a fixed text, of a prefix or suffix or of the
+/// delimiter stands for both of its cases, and captures are pieces of the text as it is.
 pub fn first_ways_are_answered_where_case_is_ignored()
-    ensures { FoldedFirstsAreReturned pattern_engine }
+    ensures { FirstsAreReturnedByCase pattern_engine }
 {}
 
 /// A compiled pattern over `PatternRegexp` matches by its pattern texts, also in components that
 /// ignore case. Each component without a custom regular expression, or, where case is kept, with
 /// simple ones, has the names of the parts of its pattern text, and for a text without line feeds
-/// the captures of the first way in which the parts match it: as `patterns_answer_by_their_texts`
-/// says if case is kept, and as `first_ways_are_answered_where_case_is_ignored` says if it is
-/// ignored. There is no match only if the parts of a component do not match its text.
+/// the captures of the first way in which the parts match it, as
+/// `first_ways_are_answered_where_case_is_ignored` says. There is no match only if the parts of a
+/// component have no way to match its text.
 ///
-/// What is found is determined by the pattern texts: exactly in a component that keeps case, and in
-/// lower case in one that ignores it.
+/// What is found is determined by the pattern texts, if each component is of this kind and no text
+/// has a line feed.
+///
+/// The parts that a compiled pattern keeps for a component are of this kind, as
+/// `UrlPattern::component_has_meaning_by_case` decides, exactly if the component's pattern text is.
 pub fn patterns_answer_by_their_texts_where_case_is_ignored()
     ensures found { FindingsAreByCase pattern_engine }
     ensures executed { InputFindingsAreByCase pattern_engine }
     ensures one { FindingsByCaseAreOne }
+    ensures kept { KeptMeaningsByCaseAreOfTexts pattern_engine }
 {}
 
 /// A pattern and groups have at most one link. Two links of a pattern whose groups are to capture

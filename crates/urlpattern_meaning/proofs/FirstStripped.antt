@@ -4,7 +4,7 @@ use Rattle.std.proofs.Common.{◌≡◌, ℕ, ◌+◌, List, [], ◌∷◌, ◌+
 use Rattle.std.proofs.lemmas.Bool.{cond-false}
 use Rattle.std.specs.Prelude.{IsTrue, option_to_list}
 use Rattle.urlpattern_meaning.specs.Dialect.{Items, Nothing, AreItems, Means}
-use Rattle.urlpattern_meaning.specs.Matching.{AreStripped, IsRemoved, end_text}
+use Rattle.urlpattern_meaning.specs.Matching.{AreStripped, IsRemoved, end_text, is_same_character}
 use Rattle.urlpattern_meaning.specs.Ways.{Way, joined_way, continued, ways, first_way, first_way_by}
 use Rattle.urlpattern_syntax.specs.declared.parser.PartModifier.{PartModifier}
 use Rattle.urlpattern_syntax.specs.declared.parser.PartModifier.TheVariants as modifiers
@@ -89,7 +89,7 @@ module _ (marks s : List ℕ) (are : AreItems (put marks s Nothing)) where
   pub last_first : (tree : Items) → AreItems tree → (inner : List ℕ) → first_way (both_items tree (put marks s Nothing)) (inner ++ s) ≡ first_way tree inner
   unfolding first_way_by
   last_first tree h inner =
-      ap first_of (both_ways tree (put marks s Nothing) (inner ++ s))
+      ap first_of (both_ways (is_same_character false) tree (put marks s Nothing) (inner ++ s))
       ∙ first_cut (ways tree (inner ++ s)) (ways tree inner) (items-cut s tree h inner)
 
 -- ---- parts

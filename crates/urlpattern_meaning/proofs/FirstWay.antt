@@ -13,7 +13,7 @@ use Rattle.urlpattern_meaning.proofs.WaysSound.{IsSound, ways-sound, means-count
 use Rattle.urlpattern_meaning.proofs.WaysComplete.{way_of, ways-complete}
 use Rattle.urlpattern_meaning.proofs.WaysJoined.{takes_all}
 
-found : (text : List ℕ) (Is : List ℕ → Captures → Type 0) (all : List Way) (captures : Captures) → Every (IsSound text Is) all
+pub found : (text : List ℕ) (Is : List ℕ → Captures → Type 0) (all : List Way) (captures : Captures) → Every (IsSound text Is) all
     → option_map (λ way. way.captures) (find takes_all all) ≡ Some captures → Is text captures
 found text Is [] captures every e = absurd (none-some _ e)
 found text Is (way ∷ all) captures every e = by (takes_all way) refl e (found text Is all captures every.1)
@@ -30,7 +30,7 @@ pub first_way_means : (tree : Items) → AreItems tree → (text : List ℕ) (ca
 unfolding first_way_by
 first_way_means tree h text captures e = found text (Means tree) (ways tree text) captures (ways-sound tree h text) e
 
-not_found : (all : List Way) (taken : List ℕ) (captures : Captures) → Has (way_of taken captures []) all
+pub not_found : (all : List Way) (taken : List ℕ) (captures : Captures) → Has (way_of taken captures []) all
     → option_map (λ way. way.captures) (find takes_all all) ≡ None → ⊥
 not_found [] taken captures h e = h
 not_found (way ∷ all) taken captures (inl same) e = none-some _ (sym (subst (λ (w : Way). option_map (λ (x : Way). x.captures) (cond (takes_all w) (Some w) (find takes_all all)) ≡ None) (sym same) e))

@@ -1,11 +1,14 @@
 -- Where case is ignored, a tree matches a text as the folded tree matches the folded text.
-use Rattle.std.proofs.Common.{◌≡◌, ℕ, zero, suc, ◌+◌, Bool, true, false, List, [], ◌∷◌, ◌++◌, map, length, find, replicate, Option, Some, None, option_map, cond, not, ◌==◌, refl, sym, ap, ap₂, ◌∙◌}
+use Rattle.std.proofs.Common.{◌≡◌, ℕ, zero, suc, ◌+◌, ◌≤◌, ◌⊎◌, Bool, true, false, List, [], ◌∷◌, ◌++◌, map, length, find, replicate, Option, Some, None, option_map, cond, not, ◌==◌, refl, sym, ap, ap₂, ◌∙◌, inl, inr, arith, ne_eqb}
+use Rattle.std.proofs.lemmas.Bool.{cases_lt}
+use Rattle.std.proofs.lemmas.Str.Ascii.{lowercase_is}
 use Rattle.std.specs.Prelude.{nat_lt}
 use Rattle.std.proofs.lemmas.List.{length-map, map-append}
 use Rattle.std.specs.Char.{to_ascii_lowercase}
 use Rattle.urlpattern_meaning.specs.Dialect.{Quantifier, Once, Optional, ZeroOrMore, OneOrMore, LazyOneOrMore, Items, Nothing, Item, Atom, Literal, Dot, AnyBut, Captured, Grouped, Character, Plain, Escaped, character_of, atom_group_count, group_count}
 use Rattle.urlpattern_meaning.specs.Matching.{folded, folded_captures, folded_character, is_same_character}
 use Rattle.urlpattern_meaning.specs.Ways.{Way, WaysByText, atom_ways, atom_ways_by, capturing, continued, first_way, first_way_by, folded_atom, folded_items, folded_written, empty_way, is_shorter, joined_way, looped, more_rounds, one_that, ordered, quantified_ways, ways, ways_by}
+use Rattle.urlpattern_syntax.specs.Text.{line_feed}
 
 -- ---- trees
 
@@ -169,6 +172,26 @@ mutual
   atom_groups_folded (Grouped items) (Grouped others) is = groups_folded items others is
   atom_groups_folded atom other is = absurd is
 
+-- An upper case letter is moved, and any other character is kept.
+pub moved_or_same : (c : ℕ) → ((65 ≤ c) × (c ≤ 90) × (to_ascii_lowercase c ≡ c + 32)) ⊎ (to_ascii_lowercase c ≡ c)
+moved_or_same c = elim (cases_lt c 65) [
+  | inl before ↦ inr ((lowercase_is c).1 before)
+  | inr at_least ↦ elim (cases_lt 90 c) [
+    | inl after ↦ inr ((lowercase_is c).2 after)
+    | inr at_most ↦ inl (at_least, at_most, (lowercase_is c).0 (at_least, at_most))
+  ]
+]
+
+-- Only a line feed equals a line feed, whether case is ignored or kept.
+pub line_feed_same : (ignore_case : Bool) (c : ℕ) → is_same_character ignore_case c line_feed ≡ (c == line_feed)
+line_feed_same false c = refl
+line_feed_same true c = by (moved_or_same c)
+  where
+    by : ((65 ≤ c) × (c ≤ 90) × (to_ascii_lowercase c ≡ c + 32)) ⊎ (to_ascii_lowercase c ≡ c) → (to_ascii_lowercase c == 10) ≡ (c == 10)
+    by (inl (at_least, at_most, moved)) =
+        ne_eqb (to_ascii_lowercase c) 10 (λ e. absurd (omega (arith, moved, e, at_least))) ∙ sym (ne_eqb c 10 (λ e. absurd (omega (arith, e, at_least))))
+    by (inr same) = ap (λ d. d == 10) same
+
 character_folded : (character other : Character) → IsFoldedCharacter character other → (c : ℕ) → is_same_character true c (character_of character) ≡ (to_ascii_lowercase c == character_of other)
 character_folded character other is c = ap (λ d. to_ascii_lowercase c == d) (sym is)
 
@@ -185,7 +208,7 @@ mutual
 
   atom_ways_folded : (atom other : Atom) → IsAtomFolding atom other → Folds (atom_ways_by true atom) (atom_ways other)
   atom_ways_folded (Literal character) (Literal other) is text = one_folded _ _ (character_folded character other is) text
-  atom_ways_folded Dot Dot is text = one_folded _ _ (λ c. refl) text
+  atom_ways_folded Dot Dot is text = one_folded _ _ (λ c. ap not (sym (line_feed_same true c))) text
   atom_ways_folded (AnyBut character) (AnyBut other) is text = one_folded _ _ (λ c. ap not (character_folded character other is c)) text
   atom_ways_folded (Captured items) (Captured others) is text = all_captured (ways_by true items text) ∙ ap (map capturing) (ways_folded items others is text)
   atom_ways_folded (Grouped items) (Grouped others) is text = ways_folded items others is text

@@ -35,7 +35,7 @@ pub lacks_right : (c : ℕ) (text more : List ℕ) → IsTrue (lacks c (text ++ 
 lacks_right c text more h = and_right (lacks c text) (lacks c more) (sym (list_all-append (λ other. not (other == c)) text more) ∙ h)
 
 -- The text between two others.
-lacks_middle : (c : ℕ) (front text back : List ℕ) → IsTrue (lacks c (front ++ text ++ back)) → IsTrue (lacks c text)
+pub lacks_middle : (c : ℕ) (front text back : List ℕ) → IsTrue (lacks c (front ++ text ++ back)) → IsTrue (lacks c text)
 lacks_middle c front text back h = lacks_right c front text (lacks_left c (front ++ text) back h)
 
 pub middle_cancel : (front a b back : List ℕ) → front ++ a ++ back ≡ front ++ b ++ back → a ≡ b

@@ -74,7 +74,7 @@ module _ (atom : WaysByText) (IsA : List ℕ → Captures → Type 0) (complete 
 
 -- ---- atoms and items
 
-taken-complete : (quantifier : Quantifier) (groups : ℕ) (atom : WaysByText) (Is : List ℕ → Captures → Type 0) → AllowsGroups quantifier groups
+pub taken-complete : (quantifier : Quantifier) (groups : ℕ) (atom : WaysByText) (Is : List ℕ → Captures → Type 0) → AllowsGroups quantifier groups
     → IsComplete atom Is → IsComplete (quantified_ways quantifier groups atom) (IsQuantified quantifier groups Is)
 taken-complete Once groups atom Is allowed complete taken captures rest m = complete taken captures rest m
 taken-complete Optional groups atom Is allowed complete taken captures rest (inl m) = has-left _ (atom (taken ++ rest)) _ (complete taken captures rest m)
@@ -86,7 +86,7 @@ taken-complete ZeroOrMore groups atom Is allowed complete taken captures rest (s
 taken-complete OneOrMore groups atom Is allowed complete taken captures rest (n, e, f) = rw f (looped-complete atom Is complete true n taken rest e)
 taken-complete LazyOneOrMore groups atom Is allowed complete taken captures rest (n, e, f) = rw f (looped-complete atom Is complete false n taken rest e)
 
-one_complete : (passes : ℕ → Bool) (c : ℕ) (rest : List ℕ) → passes c ≡ true → Has (way_of (c ∷ []) [] rest) (one_that passes (c ∷ rest))
+pub one_complete : (passes : ℕ → Bool) (c : ℕ) (rest : List ℕ) → passes c ≡ true → Has (way_of (c ∷ []) [] rest) (one_that passes (c ∷ rest))
 one_complete passes c rest e = subst (Has (way_of (c ∷ []) [] rest)) (sym (cond-true (passes c) (way_of (c ∷ []) [] rest ∷ []) [] e)) (inl refl)
 
 mutual

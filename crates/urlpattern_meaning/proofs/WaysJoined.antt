@@ -5,7 +5,7 @@ use Rattle.std.proofs.lemmas.List.{map-append, map-id}
 use Rattle.std.proofs.lemmas.Simd.{map-map}
 use Rattle.urlpattern_meaning.specs.Dialect.{Items, Nothing, Item, Literal, Once, character_of, atom_group_count}
 use Rattle.urlpattern_meaning.specs.PartMeaning.{Captures}
-use Rattle.urlpattern_meaning.specs.Ways.{Way, WaysByText, empty_way, joined_way, continued, quantified_ways, ways, atom_ways, first_way, first_way_by}
+use Rattle.urlpattern_meaning.specs.Ways.{Way, WaysByText, empty_way, joined_way, continued, quantified_ways, ways, ways_as, atom_ways_as, first_way, first_way_by}
 use Rattle.urlpattern_meaning.proofs.PartTrees.{character, put}
 use Rattle.urlpattern_meaning.proofs.TreeMeaning.{character_same}
 use Rattle.urlpattern_meaning.proofs.WaysComplete.{way_of}
@@ -52,13 +52,13 @@ abbrev pub both_items : Items → Items → Items
 both_items Nothing others = others
 both_items (Item atom quantifier items) others = Item atom quantifier (both_items items others)
 
-pub both_ways : (items others : Items) (text : List ℕ) → ways (both_items items others) text ≡ continued (ways others) (ways items text)
-both_ways Nothing others text =
-    sym (append-nil (map (joined_way (empty_way 0 text)) (ways others text)) ∙ map-id (ways others text))
-both_ways (Item atom quantifier items) others text =
-    let front = quantified_ways quantifier (atom_group_count atom) (atom_ways atom) text in
-    continued-same (ways (both_items items others)) (λ t. continued (ways others) (ways items t)) front (both_ways items others)
-    ∙ continued-twice (ways items) (ways others) front
+pub both_ways : (same : (c given : ℕ) → Bool) (items others : Items) (text : List ℕ) → ways_as same (both_items items others) text ≡ continued (ways_as same others) (ways_as same items text)
+both_ways same Nothing others text =
+    sym (append-nil (map (joined_way (empty_way 0 text)) (ways_as same others text)) ∙ map-id (ways_as same others text))
+both_ways same (Item atom quantifier items) others text =
+    let front = quantified_ways quantifier (atom_group_count atom) (atom_ways_as same atom) text in
+    continued-same (ways_as same (both_items items others)) (λ t. continued (ways_as same others) (ways_as same items t)) front (both_ways same items others)
+    ∙ continued-twice (ways_as same items) (ways_as same others) front
 
 pub both_put : (marks front : List ℕ) (items others : Items) → put marks front (both_items items others) ≡ both_items (put marks front items) others
 both_put marks [] items others = refl

@@ -103,7 +103,7 @@ taken-sound ZeroOrMore groups atom Is allowed count sound text =
 taken-sound OneOrMore groups atom Is allowed count sound text = looped-sound atom Is sound (λ t c p. nil_of_zero c (count t c p ∙ allowed)) true text
 taken-sound LazyOneOrMore groups atom Is allowed count sound text = looped-sound atom Is sound (λ t c p. nil_of_zero c (count t c p ∙ allowed)) false text
 
-one_sound : (passes : ℕ → Bool) (Is : List ℕ → Captures → Type 0) → ((c : ℕ) → passes c ≡ true → Is (c ∷ []) []) → AreSound (one_that passes) Is
+pub one_sound : (passes : ℕ → Bool) (Is : List ℕ → Captures → Type 0) → ((c : ℕ) → passes c ≡ true → Is (c ∷ []) []) → AreSound (one_that passes) Is
 one_sound passes Is f [] = tt
 one_sound passes Is f (c ∷ text) = by (passes c) (f c)
   where

@@ -88,25 +88,34 @@ abbrev pub capturing : Way → Way
 capturing way = record way { captures = Some way.taken ∷ way.captures }
 
 abbrev mutual
-  -- The ways in which items, one after the other, match a beginning of a text. Where case is
-  -- ignored, an ASCII letter is compared as its lower case.
-  pub ways_by : (ignore_case : Bool) → Items → WaysByText
-  ways_by ignore_case Nothing text = empty_way 0 text ∷ []
-  ways_by ignore_case (Item atom quantifier items) text =
-      continued (ways_by ignore_case items)
-      (quantified_ways quantifier (atom_group_count atom) (atom_ways_by ignore_case atom) text)
+  -- The ways in which items, one after the other, match a beginning of a text. `same` says whether
+  -- a character of the text matches one that is given.
+  pub ways_as : (same : (c given : ℕ) → Bool) → Items → WaysByText
+  ways_as same Nothing text = empty_way 0 text ∷ []
+  ways_as same (Item atom quantifier items) text =
+      continued (ways_as same items)
+      (quantified_ways quantifier (atom_group_count atom) (atom_ways_as same atom) text)
 
-  -- The ways in which an atom matches a beginning of a text. Where case is ignored, an ASCII letter
-  -- is compared as its lower case.
-  pub atom_ways_by : (ignore_case : Bool) → Atom → WaysByText
-  atom_ways_by ignore_case (Literal character) text =
-      one_that (λ c. is_same_character ignore_case c (character_of character)) text
-  atom_ways_by ignore_case Dot text =
-      one_that (λ c. not (is_same_character ignore_case c line_feed)) text
-  atom_ways_by ignore_case (AnyBut character) text =
-      one_that (λ c. not (is_same_character ignore_case c (character_of character))) text
-  atom_ways_by ignore_case (Captured items) text = map capturing (ways_by ignore_case items text)
-  atom_ways_by ignore_case (Grouped items) text = ways_by ignore_case items text
+  -- The ways in which an atom matches a beginning of a text. `same` says whether a character of the
+  -- text matches one that is given.
+  pub atom_ways_as : (same : (c given : ℕ) → Bool) → Atom → WaysByText
+  atom_ways_as same (Literal character) text =
+      one_that (λ c. same c (character_of character)) text
+  atom_ways_as same Dot text = one_that (λ c. not (c == line_feed)) text
+  atom_ways_as same (AnyBut character) text =
+      one_that (λ c. not (same c (character_of character))) text
+  atom_ways_as same (Captured items) text = map capturing (ways_as same items text)
+  atom_ways_as same (Grouped items) text = ways_as same items text
+
+-- The ways in which items match a beginning of a text. Where case is ignored, an ASCII letter is
+-- compared as its lower case.
+abbrev pub ways_by : (ignore_case : Bool) → Items → WaysByText
+ways_by ignore_case = ways_as (is_same_character ignore_case)
+
+-- The ways in which an atom matches a beginning of a text. Where case is ignored, an ASCII letter
+-- is compared as its lower case.
+abbrev pub atom_ways_by : (ignore_case : Bool) → Atom → WaysByText
+atom_ways_by ignore_case = atom_ways_as (is_same_character ignore_case)
 
 -- The ways in which items match a beginning of a text where case counts.
 abbrev pub ways : Items → WaysByText

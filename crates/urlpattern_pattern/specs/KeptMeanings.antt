@@ -2,7 +2,7 @@
 use Rattle.std.specs.Prelude.{◌↔◌, IsSomeAnd}
 use Rattle.urlpattern_components.specs.declared.eight.ComponentName.{ComponentName}
 use Rattle.urlpattern_components.specs.Eight.{at}
-use Rattle.urlpattern_expressions.specs.SimpleExpressions.{KeepsMeaning}
+use Rattle.urlpattern_expressions.specs.SimpleExpressions.{KeepsMeaning, KeepsMeaningByCase}
 use Rattle.urlpattern_init.specs.declared.init.UrlPatternInit.{UrlPatternInit}
 use Rattle.urlpattern_inputs.specs.declared.options.UrlPatternOptions.{UrlPatternOptions}
 use Rattle.urlpattern_compile.specs.Compiled.{settings_of}
@@ -14,6 +14,12 @@ use Rattle.urlpattern_pattern.specs.UrlPatterns.{UrlPattern}
 abbrev pub HasMeaningIn : {E : Type 0} → UrlPattern E → ComponentName → Type 0
 HasMeaningIn pattern name =
     IsSomeAnd pattern.parts (λ parts. KeepsMeaning (at parts.components name))
+
+-- The pattern has parts, and those of the component have a meaning over an engine that honours the
+-- flag `i`.
+abbrev pub HasMeaningByCaseIn : {E : Type 0} → UrlPattern E → ComponentName → Type 0
+HasMeaningByCaseIn pattern name =
+    IsSomeAnd pattern.parts (λ parts. KeepsMeaningByCase (at parts.components name))
 
 -- The parts that a compiled pattern keeps for a component have a meaning exactly if the pattern
 -- text of the component has one.

@@ -16,7 +16,7 @@ use Rattle.urlpattern_steps.specs.ReadSteps.{IsAllBut, IsRunOf, AllowsEmptyRun}
 use Rattle.urlpattern_steps.specs.Walk.{Continuation, after_text, any_rounds, captured_prefix, from_first, longest, longest_run, longest_some, rounds, shortest, single_run, some_rounds, up_to_first}
 use Rattle.urlpattern_steps.proofs.Rounds.{Advances, Keeps, Takes, beyond, takes-looped, takes-looped_or_not, takes-nothing, takes-then, then, tried-then, tried_idle}
 use Rattle.urlpattern_steps.proofs.FallingLemmas.{falling, longest_falling}
-use Rattle.urlpattern_steps.proofs.Tried.{Given, Next, given, bare, before_next, one, tried, tried-append, tried-map, lazy_loop, greedy_loop}
+use Rattle.urlpattern_steps.proofs.Tried.{Given, Next, given, bare, before_next, one, one_dot, tried, tried-append, tried-map, lazy_loop, greedy_loop}
 use Rattle.urlpattern_meaning.specs.Matching.{is_same_character}
 
 -- ---- runs
@@ -75,14 +75,16 @@ pub takes-run : (ignore_case : Bool) (end : ℕ) (is_greedy : Bool) (items : Ite
 takes-run ignore_case end true items (same, is) =
     subst (λ (i : Items). Takes (ways_by ignore_case i) (longest ignore_case end)) (sym is)
     (subst (λ c. Takes (ways_by ignore_case (Item Dot ZeroOrMore Nothing)) (longest ignore_case c)) (sym same)
-    (takes-then (λ text. looped true (one ignore_case line_feed) text ++ empty_way 0 text ∷ []) (ways_by ignore_case Nothing) (longest ignore_case line_feed) (after_text ignore_case []) (takes_greedy ignore_case line_feed) (keeps-longest ignore_case line_feed) (takes-nothing ignore_case)))
+    (subst (λ (atom : WaysByText). Takes (λ text. continued (ways_by ignore_case Nothing) (looped true atom text ++ empty_way 0 text ∷ [])) (longest ignore_case line_feed)) (one_dot ignore_case)
+    (takes-then (λ text. looped true (one ignore_case line_feed) text ++ empty_way 0 text ∷ []) (ways_by ignore_case Nothing) (longest ignore_case line_feed) (after_text ignore_case []) (takes_greedy ignore_case line_feed) (keeps-longest ignore_case line_feed) (takes-nothing ignore_case))))
 takes-run ignore_case end false items (atom, but, is) = subst (λ (i : Items). Takes (ways_by ignore_case i) (shortest ignore_case end)) (sym is) (by atom but)
   where
     lazy : (c : ℕ) → Takes (λ text. continued (ways_by ignore_case Nothing) (looped false (one ignore_case c) text)) (shortest ignore_case c)
     lazy c = takes-then (looped false (one ignore_case c)) (ways_by ignore_case Nothing) (shortest ignore_case c) (after_text ignore_case []) (takes_lazy ignore_case c) (keeps-shortest ignore_case c) (takes-nothing ignore_case)
 
     by : (atom : Atom) → IsAllBut end atom → Takes (ways_by ignore_case (Item atom LazyOneOrMore Nothing)) (shortest ignore_case end)
-    by Dot but = subst (λ c. Takes (ways_by ignore_case (Item Dot LazyOneOrMore Nothing)) (shortest ignore_case c)) (sym but) (lazy line_feed)
+    by Dot but = subst (λ c. Takes (ways_by ignore_case (Item Dot LazyOneOrMore Nothing)) (shortest ignore_case c)) (sym but)
+        (subst (λ (atom : WaysByText). Takes (λ text. continued (ways_by ignore_case Nothing) (looped false atom text)) (shortest ignore_case line_feed)) (one_dot ignore_case) (lazy line_feed))
     by (AnyBut character) but = subst (λ c. Takes (ways_by ignore_case (Item (AnyBut character) LazyOneOrMore Nothing)) (shortest ignore_case c)) but (lazy (character_of character))
     by (Literal character) but = absurd but
     by (Captured inner) but = absurd but

@@ -1,11 +1,14 @@
 -- Matches that are tried in turn: the result of the first that has one.
-use Rattle.std.proofs.Common.{◌≡◌, ℕ, zero, suc, ◌≤◌, List, [], ◌∷◌, ◌++◌, map, length, Option, Some, None, option_map, Bool, true, false, cond, not, refl, sym, ap, ap₂, ◌∙◌, append_assoc, arith, lt-ltb}
+use Rattle.std.proofs.Common.{◌≡◌, ℕ, zero, suc, ◌≤◌, List, [], ◌∷◌, ◌++◌, map, length, Option, Some, None, option_map, Bool, true, false, cond, not, ◌==◌, refl, sym, ap, ap₂, ◌∙◌, append_assoc, arith, lt-ltb}
+use Rattle.std.proofs.Math.Path.{fun_ext}
 use Rattle.std.specs.Option.{option_or}
 use Rattle.urlpattern_steps.proofs.OptionLemmas.{option_or-None}
+use Rattle.urlpattern_meaning.proofs.FoldedTrees.{line_feed_same}
 use Rattle.urlpattern_meaning.specs.PartMeaning.{Captures}
 use Rattle.urlpattern_meaning.specs.Ways.{Way, WaysByText, empty_way, joined_way, continued, one_that, is_shorter, more_rounds, looped}
 use Rattle.urlpattern_steps.specs.Walk.{shortest, longest, Continuation}
 use Rattle.urlpattern_meaning.specs.Matching.{is_same_character}
+use Rattle.urlpattern_syntax.specs.Text.{line_feed}
 
 abbrev pub Next : Type 0
 Next = List ℕ → Option Captures
@@ -94,6 +97,10 @@ bare h front rest = h front [] rest
 -- The result after one more character.
 abbrev with_first : ℕ → Given → Given
 with_first c h taken captures rest = h (c ∷ taken) captures rest
+
+-- Any character but a line feed.
+abbrev pub dot : WaysByText
+dot = one_that (λ c. not (c == line_feed))
 
 module _ (ignore_case : Bool) (end : ℕ) where
   abbrev pub one : WaysByText
@@ -198,3 +205,7 @@ module _ (ignore_case : Bool) (end : ℕ) where
           ∙ ap (λ b. tried (given (with_first c h)) (cond b (more_rounds true one (length text) text) (empty_way 0 text ∷ []))) shorter
           ∙ greedy_rounds (length text) (with_first c h) text (omega arith)
           ∙ longest-first c h [] text)
+
+-- Any character but a line feed, with case ignored or kept.
+pub one_dot : (ignore_case : Bool) → one ignore_case line_feed ≡ dot
+one_dot ignore_case = ap one_that (fun_ext (λ c. ap not (line_feed_same ignore_case c)))

@@ -5,7 +5,7 @@ use Rattle.std.specs.Option.{option_or}
 use Rattle.urlpattern_steps.proofs.OptionLemmas.{option_or-None}
 use Rattle.urlpattern_meaning.specs.Dialect.{character_of, Character, Once, Optional, LazyOneOrMore, Items, Nothing, Item, Atom, Dot, AnyBut, Captured, Grouped, atom_group_count, group_count}
 use Rattle.urlpattern_meaning.specs.Dialect as dialect
-use Rattle.urlpattern_meaning.specs.Ways.{Way, empty_way, continued, one_that, looped, capturing, ways_by, atom_ways_by, first_way_by}
+use Rattle.urlpattern_meaning.specs.Ways.{Way, WaysByText, empty_way, continued, one_that, looped, capturing, ways_by, atom_ways_by, first_way_by}
 use Rattle.urlpattern_syntax.specs.Text.{line_feed}
 use Rattle.urlpattern_steps.specs.declared.step.Group.{Group}
 use Rattle.urlpattern_steps.specs.declared.step.Run.{Run}
@@ -15,7 +15,7 @@ use Rattle.urlpattern_steps.specs.ReadSteps.{AreLiterals, IsAllBut, IsStepOf}
 use Rattle.urlpattern_steps.specs.Walk.{Continuation, captured_prefix, shortest, longest, longest_run, literals, after_text, walk, walk_after, capture_count}
 use Rattle.urlpattern_steps.proofs.LongestLemmas.{captured_takes, run_uncaptured, takes-runs}
 use Rattle.urlpattern_steps.proofs.Rounds.{Takes, keeps-after, after-append, takes-nothing, takes-one, takes-then}
-use Rattle.urlpattern_steps.proofs.Tried.{Next, Given, given, tried, before_next, bare, one, tried-append, tried-map, tried-same, tried-continued, tried-behind, before_next-same, tried-empty_way, lazy_loop, greedy_loop}
+use Rattle.urlpattern_steps.proofs.Tried.{Next, Given, given, tried, before_next, bare, dot, one, one_dot, tried-append, tried-map, tried-same, tried-continued, tried-behind, before_next-same, tried-empty_way, lazy_loop, greedy_loop}
 use Rattle.urlpattern_meaning.specs.Matching.{is_same_character}
 
 -- ---- trees and atoms, and their steps
@@ -192,14 +192,22 @@ segment ignore_case end after text =
     ∙ shortest-same ignore_case end _ _ (plain_capture (walk ignore_case after)) [] text
 
 anything : (ignore_case : Bool) (after : List Step) (text : List ℕ)
-    → tried (before_next (walk ignore_case after)) (map capturing (continued (ways_by ignore_case Nothing) (looped true (one ignore_case line_feed) text ++ empty_way 0 text ∷ []))) ≡ walk ignore_case (DotStar ∷ after) text
+    → tried (before_next (walk ignore_case after)) (map capturing (continued (ways_by ignore_case Nothing) (looped true dot text ++ empty_way 0 text ∷ []))) ≡ walk ignore_case (DotStar ∷ after) text
 anything ignore_case after text =
-    captured_ways ignore_case (walk ignore_case after) (looped true (one ignore_case line_feed) text ++ empty_way 0 text ∷ [])
+    ap (λ (atom : WaysByText). tried (before_next (walk ignore_case after)) (map capturing (continued (ways_by ignore_case Nothing) (looped true atom text ++ empty_way 0 text ∷ [])))) (sym (one_dot ignore_case))
+    ∙ captured_ways ignore_case (walk ignore_case after) (looped true (one ignore_case line_feed) text ++ empty_way 0 text ∷ [])
     ∙ greedy_loop ignore_case line_feed (captured_loop (walk ignore_case after)) text
     ∙ longest-same ignore_case line_feed _ _ (plain_capture (walk ignore_case after)) [] text
 
 walks-segment : (ignore_case : Bool) (end : ℕ) (atom : Atom) → IsAllBut end atom → AtomWalks ignore_case (Captured (Item atom LazyOneOrMore Nothing)) (LazyRun end ∷ [])
-walks-segment ignore_case end Dot is = subst (λ c. AtomWalks ignore_case (Captured (Item Dot LazyOneOrMore Nothing)) (LazyRun c ∷ [])) (sym is) (record { count = refl; text = λ plain. absurd plain; walks = segment ignore_case line_feed })
+walks-segment ignore_case end Dot is = subst (λ c. AtomWalks ignore_case (Captured (Item Dot LazyOneOrMore Nothing)) (LazyRun c ∷ [])) (sym is)
+    (record {
+      count = refl;
+      text = λ plain. absurd plain;
+      walks = λ after text.
+          ap (λ (atom : WaysByText). tried (before_next (walk ignore_case after)) (map capturing (continued (ways_by ignore_case Nothing) (looped false atom text)))) (sym (one_dot ignore_case))
+          ∙ segment ignore_case line_feed after text;
+    })
 walks-segment ignore_case end (AnyBut character) is =
     subst (λ c. AtomWalks ignore_case (Captured (Item (AnyBut character) LazyOneOrMore Nothing)) (LazyRun c ∷ [])) is (record { count = refl; text = λ plain. absurd plain; walks = segment ignore_case (character_of character) })
 walks-segment ignore_case end (dialect.Literal character) is = absurd is

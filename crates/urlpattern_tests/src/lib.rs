@@ -1,7 +1,7 @@
 //! Tests that the data replayed by `bench` cannot express: components built by hand, engines that
-//! return what no engine should, the elements of lists and maps, borrowed matches, copies and
-//! comparisons of small values, calls with no or a bounded number of requests for memory, and lines
-//! that are too long. The crate has tests only.
+//! return what no engine should, the elements of lists and maps, routers, borrowed matches, copies
+//! and comparisons of small values, calls with no or a bounded number of requests for memory, and
+//! lines that are too long. The crate has tests only.
 #![tactic(auto)]
 
 #[cfg(test)]
@@ -28,6 +28,8 @@ mod plain;
 mod requests;
 #[cfg(test)]
 mod results;
+#[cfg(test)]
+mod routers;
 #[cfg(test)]
 mod stubborn;
 #[cfg(test)]

@@ -7,8 +7,11 @@ use regex::Regex;
 use std::alloc::Global;
 use std::process::Abort;
 use std::test::Fail;
+use urlpattern::quirks::parse_match_input;
 use urlpattern::regexp::RegExp;
-use urlpattern::{ComponentName, Error, UrlPattern, UrlPatternList};
+use urlpattern::{
+    ComponentName, Error, UrlPattern, UrlPatternList, UrlPatternMatches, pathname_texts,
+};
 
 /// A path that needs no engine, and matches two segments.
 const NAME: &str = "/a/:x";
@@ -175,23 +178,59 @@ fn a_pattern_is_removed(rt: HostRuntime) -> Result<(), Fail> {
     Ok(())
 }
 
-/// Compares the indices of the patterns that match a URL.
-fn expect_matches(
+/// The indices of the patterns that match, of which the path is `/a/b`.
+fn indices(
     rt: &impl Abort,
     alloc: Global,
-    list: &UrlPatternList,
-    indices: &[usize],
-) -> Result<(), Error> {
-    let url = url_of(alloc, "https://example.com/a/b")?;
+    matches: UrlPatternMatches<'_, '_, Regex>,
+) -> Result<Vec<usize>, Error> {
     let mut found = Vec::new(alloc);
-    for item in list.matches(alloc, &url) {
+    for item in matches {
         let (index, captures) = item?;
         assert_eq!(rt; captures.input(ComponentName::Pathname), "/a/b");
         drop(captures);
         found.push(index)?;
     }
+    Ok(found)
+}
+
+/// Compares the indices of the patterns that match a URL, and those that match its path.
+fn expect_matches(
+    rt: &impl Abort,
+    alloc: Global,
+    list: &UrlPatternList,
+    expected: &[usize],
+) -> Result<(), Error> {
+    let url = url_of(alloc, "https://example.com/a/b")?;
+    let found = indices(rt, alloc, list.matches(alloc, &url));
     drop(url);
-    expect_same(rt, found.as_slice(), indices, "all matches");
+    expect_same(rt, found?.as_slice(), expected, "all matches");
+    let texts = pathname_texts("/a/b");
+    let found = indices(rt, alloc, list.matches_of_texts(alloc, texts))?;
+    expect_same(rt, found.as_slice(), expected, "all matches of texts");
+    let Some(matches) = list.matches_of_path(alloc, "/a/b") else {
+        return Ok(());
+    };
+    let found = indices(rt, alloc, matches)?;
+    expect_same(rt, found.as_slice(), expected, "all matches of a path");
+    assert!(rt; list.matches_of_path(alloc, "a/b").is_none());
+    Ok(())
+}
+
+/// Compares the indices of the patterns that match an input.
+fn expect_matches_of_input(
+    rt: &impl Abort,
+    alloc: Global,
+    list: &UrlPatternList,
+    expected: &[usize],
+) -> Result<(), Error> {
+    let url = url_input(alloc, "https://example.com/a/b")?;
+    let Some(input) = parse_match_input(alloc, url)? else {
+        return Ok(());
+    };
+    let found = indices(rt, alloc, list.matches_of_input(alloc, &input));
+    drop(input);
+    expect_same(rt, found?.as_slice(), expected, "all matches of an input");
     Ok(())
 }
 
@@ -199,8 +238,10 @@ fn expect_matches(
 fn all_matches_come_in_order(rt: HostRuntime) -> Result<(), Fail> {
     let list = list_of(rt.alloc(), &SEVERAL)?;
     let outcome = expect_matches(&rt, rt.alloc(), &list, &[0, 2, 3]);
+    let of_input = expect_matches_of_input(&rt, rt.alloc(), &list, &[0, 2, 3]);
     drop(list);
     outcome?;
+    of_input?;
     Ok(())
 }
 

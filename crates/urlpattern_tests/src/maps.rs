@@ -1,10 +1,11 @@
 //! Maps of patterns: their elements, and the value of the first match.
 
-use crate::given::{expect_same, pattern_of, url_of};
+use crate::given::{expect_same, pattern_of, url_input, url_of};
 use std::alloc::Global;
 use std::process::Abort;
 use std::test::Fail;
-use urlpattern::{Error, UrlPattern, UrlPatternMap};
+use urlpattern::quirks::parse_match_input;
+use urlpattern::{Error, PathError, UrlPattern, UrlPatternMap, pathname_texts};
 
 /// Paths, each with a value.
 const ROUTES: [(&str, u32); 3] = [("/users/me", 1), ("/users/:id", 2), ("/users/*", 3)];
@@ -74,6 +75,71 @@ fn a_map_holds_its_routes_and_finds_the_first(rt: HostRuntime) -> Result<(), Fai
     let map = routes(rt.alloc())?;
     expect_held(&rt, &map);
     let outcome = expect_first(&rt, rt.alloc(), &map);
+    drop(map);
+    outcome?;
+    Ok(())
+}
+
+/// The value of the first pattern of a map that matches a path.
+fn value_of_path(
+    alloc: Global,
+    map: &UrlPatternMap<u32>,
+    path: &str,
+) -> Result<Option<u32>, PathError> {
+    let found = map.first_captures_of_path(alloc, path);
+    let value = match &found {
+        Ok(Some((_, value, _))) => Ok(Some(**value)),
+        Ok(None) => Ok(None),
+        Err(error) => Err(*error),
+    };
+    drop(found);
+    value
+}
+
+/// Compares the values of the first matches of some paths.
+fn expect_of_paths(rt: &impl Abort, alloc: Global, map: &UrlPatternMap<u32>) {
+    for (path, expected) in [
+        ("/users/me", Ok(Some(1))),
+        ("/users/you", Ok(Some(2))),
+        ("/users/you/files", Ok(Some(3))),
+        ("//example.com/users/me", Ok(None)),
+        ("users/me", Err(PathError::NotAPath)),
+        ("https://example.com/users/me", Err(PathError::NotAPath)),
+        ("/users/me?x=1", Err(PathError::NotAPath)),
+        ("/users/me#x", Err(PathError::NotAPath)),
+        ("/users/me\n", Err(PathError::NotAPath)),
+        ("", Err(PathError::NotAPath)),
+    ] {
+        expect_same(rt, value_of_path(alloc, map, path), expected, path);
+    }
+}
+
+/// Compares the values of the first matches of eight texts, and of an input.
+fn expect_of_texts(rt: &impl Abort, alloc: Global, map: &UrlPatternMap<u32>) -> Result<(), Error> {
+    let texts = pathname_texts("/users/you");
+    let found = map.first_captures_of_texts(alloc, &texts)?;
+    expect_same(rt, found.map(|(index, ..)| index), Some(1), "eight texts");
+    let url = url_input(alloc, "https://example.com/users/me")?;
+    let Some(input) = parse_match_input(alloc, url)? else {
+        return Ok(());
+    };
+    let found = map.first_captures_of_input(alloc, &input);
+    let index = match &found {
+        Ok(Some((index, ..))) => Ok(Some(*index)),
+        Ok(None) => Ok(None),
+        Err(_) => Err(Error::OutOfMemory),
+    };
+    drop(found);
+    drop(input);
+    expect_same(rt, index?, Some(0), "an input");
+    Ok(())
+}
+
+#[test]
+fn a_path_is_a_path_whatever_it_looks_like(rt: HostRuntime) -> Result<(), Fail> {
+    let map = routes(rt.alloc())?;
+    expect_of_paths(&rt, rt.alloc(), &map);
+    let outcome = expect_of_texts(&rt, rt.alloc(), &map);
     drop(map);
     outcome?;
     Ok(())

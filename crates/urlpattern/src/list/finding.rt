@@ -32,7 +32,7 @@ impl<R: RegExp> UrlPatternList<R> {
         ensures copied { IfErr result (λ _.
             CopiesFirstMatch R.answer (patterns_view self.now) (borrowed_texts texts.entry)) }
     {
-        match self.first(alloc, texts)? {
+        match self.first(alloc, &texts)? {
             Some((index, captures)) => Ok(Some((index, captures.to_result(alloc)?))),
             None => Ok(None),
         }
@@ -45,23 +45,23 @@ impl<R: RegExp> UrlPatternList<R> {
     pub(super) fn first<'p, 'u>(
         &'p self,
         alloc: Global,
-        texts: Eight<&'u str>,
+        texts: &Eight<&'u str>,
     ) -> Result<Option<(usize, UrlPatternCaptures<'p, 'u>)>, OutOfMemory>
         ensures first { IfOk result
-            (IsFirstCaptured R.answer (patterns_view self.now) (borrowed_texts texts.entry)) }
+            (IsFirstCaptured R.answer (patterns_view self.now) (borrowed_texts texts.now)) }
         ensures groups { IfOk result
-            (HasGroupsInOrder R.answer (patterns_view self.now) (borrowed_texts texts.entry)) }
+            (HasGroupsInOrder R.answer (patterns_view self.now) (borrowed_texts texts.now)) }
         ensures asked { IfErr result (λ _.
-            CallsEngineBeforeMatch R.answer (patterns_view self.now) (borrowed_texts texts.entry)) }
+            CallsEngineBeforeMatch R.answer (patterns_view self.now) (borrowed_texts texts.now)) }
     {
-        self.first_from(alloc, &texts, 0)
+        self.first_from(alloc, texts, 0)
     }
 
     /// Returns the least index, not below `from`, whose pattern matches eight texts, and the match.
     /// `None`: no such pattern matches.
     ///
     /// Only an engine allocates.
-    pub(super) fn first_from<'p, 'u>(
+    pub(crate) fn first_from<'p, 'u>(
         &'p self,
         alloc: Global,
         texts: &Eight<&'u str>,

@@ -3,8 +3,8 @@ use Rattle.std.specs.List.{list_any}
 use Rattle.urlpattern_compare.specs.Answers.{is_custom_part}
 use Rattle.urlpattern_compare.specs.Making.{made, made_view}
 use Rattle.urlpattern_compare.specs.declared.parts_automaton.PartsAutomaton.{PartsAutomaton}
-use Rattle.urlpattern_compare.proofs.AnswerLemmas.{custom, found_parts, generated}
-use Rattle.urlpattern_compare.proofs.PartsRead.{parts_within}
+use Rattle.urlpattern_compare.proofs.AnswerLemmas.{custom, generated}
+use Rattle.urlpattern_compare.proofs.CoverageLemmas.{found_parts}
 use Rattle.urlpattern_compare.proofs.coverage.find_meant.Goals as goal
 use Rattle.urlpattern_syntax.specs.{Options.OptionsView, Options.options_view, Parts.PartView, Parts.parts_view}
 
@@ -18,18 +18,6 @@ returns-then-has_custom c = λ both. custom c.args.parts.now (sym c.has_custom.e
 
 pub returns-then-has_custom-2 : goal.returns-then-has_custom-2
 returns-then-has_custom-2 c = λ both. custom c.args.others.now (sym c.has_custom-2.ensures ∙ c.if-has_custom-2.true) both.1
-
-pub find-requires-clause-one : goal.find-requires-clause-one
-find-requires-clause-one c =
-    let options = options_view c.args.options.now in
-    let parts = parts_view c.args.parts.now in
-    parts_within options parts c.in-Some.one (that_made options parts c.in_ok-one.field-0 c.in-Some.one c.in-Some.is c.in_ok-one.ensures.made)
-
-pub find-requires-clause-two : goal.find-requires-clause-two
-find-requires-clause-two c =
-    let options = options_view c.args.other_options.now in
-    let parts = parts_view c.args.others.now in
-    parts_within options parts c.in-Some-2.other (that_made options parts c.in_ok-other.field-0 c.in-Some-2.other c.in-Some-2.is c.in_ok-other.ensures.made)
 
 pub returns : goal.returns
 returns c =

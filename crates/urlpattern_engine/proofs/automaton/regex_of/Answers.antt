@@ -3,7 +3,7 @@ use Rattle.regex.specs.Views.{builder_config, builder_source}
 use Rattle.regex_syntax.specs.Verdict.{Refuses}
 use Rattle.regex_syntax.specs.declared.Config.{Config}
 use Rattle.regex_syntax.specs.declared.error.ErrorKind.TheVariants.{OutOfMemory}
-use Rattle.urlpattern_engine.specs.Automatons.{config_for}
+use Rattle.urlpattern_expressions.specs.Expressions.{config_for}
 use Rattle.urlpattern_engine.proofs.RejectionLemmas.{unreadable_of_refused}
 use Rattle.urlpattern_engine.proofs.automaton.regex_of.Goals as goal
 

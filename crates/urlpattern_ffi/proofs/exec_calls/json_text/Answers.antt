@@ -1,7 +1,7 @@
 use Rattle.std.proofs.Common.{rules}
 use Rattle.serde_json.specs.View.{view}
 use Rattle.urlpattern_ffi.proofs.ResultDepth.{result-shallow}
-use Rattle.urlpattern_ffi.proofs.ResultFloats.{result-none}
+use Rattle.urlpattern_matches.proofs.ResultFloats.{result-none}
 use Rattle.urlpattern_ffi.proofs.exec_calls.json_text.Goals as goal
 
 pub returns : goal.returns

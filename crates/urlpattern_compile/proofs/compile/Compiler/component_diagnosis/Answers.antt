@@ -31,7 +31,7 @@ returns-clause-shows g c =
       | in-None+in_ok-fault-in-None w ↦ inl (
         subst (IsFaultOf (Some component) pattern settings.options.prefix error) (sym w.fault-is)
             (subst (λ (x : List ℕ). IsFaultOf (Some component) pattern x error w.in_ok-fault-in-None.fault) same w.in_ok-fault-in-None.ensures.fault),
-        subst (λ found. IfNone found (AcceptsParts g.R.RegExp pattern error)) w.in-None.is c.in_ok-refused.ensures.accepted,
+        subst (λ found. IfNone found (AcceptsParts g.R.RegExp settings pattern error)) w.in-None.is c.in_ok-refused.ensures.accepted,
       )
     ] in
     let shown = c.text-text.result.now in

@@ -4,6 +4,8 @@ use Rattle.urlpattern_engine.proofs.bounded_search.BoundedSearch.fails.Goals as 
 
 pub returns-else-not-stops : goal.returns-else-not-stops
 returns-else-not-stops c stops =
-    c.after_writes-seen.ensures.none c.args.at
-    (none_of_both c.args.self.now c.after_writes-seen.result c.args.at c.in-Split.first c.in-Split.second (sym c.in-Split.ensures.is)
-    (c.stops.ensures c.if-not-stops.false) (c.stops-in-Split.ensures stops))
+    let at = c.args.at in
+    c.after_writes-seen.ensures.none at
+    (none_of_both c.args.self.now c.after_writes-seen.result at c.in-Split.first c.in-Split.second (sym c.in-Split.ensures.is)
+    (c.after_writes.ensures.none at (c.stops.ensures c.if-not-stops.false))
+    (c.after_writes-in-Split.ensures.none at (c.stops-in-Split.ensures stops)))

@@ -10,7 +10,7 @@ bytes-preserved c =
     let inside = c.contains.ensures.0 c.if-not-contains.false in
     let within : IsInSpan trial c.args.inside place = record { inside = c.bytes-test.true; has = inside } in
     let goes = c.requires.goes place within in
-    let left = c.requires.leaves place within (λ has. true≢false (sym (c.contains-in-bytes.ensures.1 has) ∙ c.if-contains.false)) in
+    let left = c.requires.leaves place c.bytes-test.true (λ w. true≢false (sym (c.contains-in-bytes.ensures.1 w.has) ∙ c.if-contains.false)) in
     record {
       same =
           c.bytes.invariant.same

@@ -5,13 +5,11 @@ use Rattle.urlpattern_engine.proofs.bounded_search.BoundedSearch.own_bytes.Goals
 
 pub returns-in-ByteRange : goal.returns-in-ByteRange
 returns-in-ByteRange c at inside outside =
-    c.after_writes-seen.ensures.none at
-    (none_past_range c.args.self.now c.after_writes-seen.result at c.in-ByteRange.t c.in-ByteRange.ensures.is inside outside)
+    none_past_range c.args.self.now c.args.id at c.in-ByteRange.t c.in-ByteRange.ensures.is inside outside
 
 pub returns-in-Look-End-default : goal.returns-in-Look-End-default
 returns-in-Look-End-default c at inside outside =
     let trial = c.args.self.now in
     let found = c.in-Look-End-default in
-    c.after_writes-seen.ensures.none at
-    (none_by_look trial c.after_writes-seen.result at found.look found.next (sym found.ensures.is)
-    (subst (λ l. false ≡ holds l trial.bytes.now at) (sym found.look-is) (end_is_after trial.bytes.now at inside)))
+    none_by_look trial c.args.id at found.look found.next (sym found.ensures.is)
+    (subst (λ l. false ≡ holds l trial.bytes.now at) (sym found.look-is) (end_is_after trial.bytes.now at inside))

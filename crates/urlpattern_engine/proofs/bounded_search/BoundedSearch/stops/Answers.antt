@@ -6,13 +6,11 @@ use Rattle.urlpattern_engine.proofs.bounded_search.BoundedSearch.stops.Goals as 
 
 pub returns-in-Look : goal.returns-in-Look
 returns-in-Look c failed =
-    c.after_writes-seen.ensures.none c.args.at
-    (none_by_look c.args.self.now c.after_writes-seen.result c.args.at c.in-Look.look c.in-Look.next (sym c.in-Look.ensures.is)
-    (sym (not-true _ failed) ∙ c.holds.ensures))
+    none_by_look c.args.self.now c.args.id c.args.at c.in-Look.look c.in-Look.next (sym c.in-Look.ensures.is)
+    (sym (not-true _ failed) ∙ c.holds.ensures)
 
 pub returns-in_default : goal.returns-in_default
 returns-in_default c none =
-    c.after_writes-seen.ensures.none c.args.at
-    (none_by_byte c.args.self.now c.after_writes-seen.result c.args.at c.state-state.result c.state-state.ensures.is
+    none_by_byte c.args.self.now c.args.id c.args.at c.state-state.result c.state-state.ensures.is
     (resting_unless c.state-state.result c.in_default.not-Split c.in_default.not-Save c.in_default.not-Look) c.in_default.not-Match
-    c.next.result c.next.ensures.is (none_by_test c.next.result c.is_none.result none c.is_none.ensures))
+    c.next.result c.next.ensures.is (none_by_test c.next.result c.is_none.result none c.is_none.ensures)

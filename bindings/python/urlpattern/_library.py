@@ -1,0 +1,212 @@
+"""The functions of the library by ctypes, and the memory that a call has."""
+from __future__ import annotations
+
+import ctypes
+import operator
+import os
+import struct
+import sys
+import threading
+from types import SimpleNamespace
+from typing import Any, Callable, Dict, List, Optional, Sequence, Tuple
+
+COMPONENTS = ("protocol", "username", "password", "hostname", "port", "pathname", "search", "hash")
+
+DONE, NO_MATCH, NOT_UTF8, REFUSED, OUT_OF_MEMORY, NO_PATTERN, TOO_SMALL, UNKNOWN = range(8)
+
+# How many bytes a text is first given room for, and how many spans a match.
+ROOM = 1024
+SPANS = 16
+
+# For how many bytes memory has room at most that is kept for later calls.
+KEPT = 1 << 16
+
+# A call, which returns a status or a number.
+Call = Callable[..., int]
+
+
+def _open() -> ctypes.CDLL:
+    """The shared object. The interpreter's lock is held during each call."""
+    beside = os.path.join(os.path.dirname(os.path.abspath(__file__)), "liburlpattern.so")
+    return ctypes.PyDLL(os.environ.get("URLPATTERN_LIBRARY") or beside)
+
+
+_library = _open()
+
+# What keeps calls apart where the interpreter has no lock, and what appends apart anywhere. No fork
+# comes in between: the child of one would wait for a thread that it does not have.
+LOCK = threading.RLock()
+os.register_at_fork(
+    before=LOCK.acquire, after_in_parent=LOCK.release, after_in_child=LOCK.release
+)
+
+
+def _function(
+    name: str, arguments: Optional[Sequence[Any]] = None, result: Any = ctypes.c_uint32
+) -> Call:
+    """A function of the library. Without types its arguments have to have those of C: to convert
+    them takes longer than to match."""
+    function = getattr(_library, f"urlpattern_{name}")
+    function.argtypes, function.restype = arguments, result
+    if getattr(sys, "_is_gil_enabled", lambda: True)():
+        called: Call = function
+        return called
+
+    def alone(*given: Any, lock: Any = LOCK) -> int:
+        with lock:
+            status: int = function(*given)
+            return status
+
+    return alone
+
+
+class Handle(ctypes.Structure):
+    """Patterns of the library. They are freed when nothing refers to this object any more."""
+
+    _fields_ = [("is_made", ctypes.c_bool), ("at", ctypes.c_void_p)]
+
+    def __del__(
+        self, free: Call = _function("free", result=None), address: Any = ctypes.byref
+    ) -> None:
+        free(address(self))
+
+
+class Place(ctypes.Structure):
+    """The part of a text that is at fault."""
+
+    _fields_ = [("subject", ctypes.c_uint32), ("start", ctypes.c_size_t), ("end", ctypes.c_size_t)]
+
+
+class Given(ctypes.Structure):
+    """What is given for a group."""
+
+    _fields_ = [
+        ("component", ctypes.c_uint32),
+        ("name_start", ctypes.c_size_t),
+        ("name_length", ctypes.c_size_t),
+        ("start", ctypes.c_size_t),
+        ("length", ctypes.c_size_t),
+    ]
+
+
+class _Sizes(ctypes.Structure):
+    _fields_ = [("bytes", ctypes.c_size_t), ("spans", ctypes.c_size_t)]
+
+
+# A span, as the header declares it: the component, whether the group took part, its number, and
+# where its text begins and how long it is.
+SPAN = struct.Struct("@IINNN")
+
+
+def _declared() -> Any:
+    """The functions that are called by name."""
+    handle, text, size = ctypes.POINTER(Handle), ctypes.c_char_p, ctypes.c_size_t
+    ignores, string, init = ctypes.c_bool, [text, size, text, size], [text, size]
+    reason = [text, size, ctypes.POINTER(size), ctypes.POINTER(Place)]
+    matching = ("test", "mismatch", "exec", "captures", "first_captures")
+    writing = ("link", "group_name", "component", "has_regexp_groups", "has_meaning")
+    comparing = ("covers_within", "covers_between")
+    return SimpleNamespace(
+        **{name: _function(name) for name in (*matching, *writing, *comparing)},
+        add=_function("add", [handle, *string, ignores]),
+        add_init=_function("add_init", [handle, *init, ignores]),
+        diagnose=_function("diagnose", [*string, ignores, *reason]),
+        diagnose_init=_function("diagnose_init", [*init, ignores, *reason]),
+        version=_function("version", []),
+    )
+
+
+calls: Any = _declared()
+
+
+class _Numbers(Dict[int, Any]):
+    """Numbers as arguments of C's type `size_t`, and the largest of those for any other number.
+    Those below ROOM are made once."""
+
+    LARGEST = ctypes.c_size_t(-1).value
+
+    def __missing__(self, number: int) -> Any:
+        number = operator.index(number)
+        within = number if 0 <= number <= self.LARGEST else self.LARGEST
+        made = ctypes.c_size_t.from_param(within)
+        if within < ROOM:
+            self[within] = made
+        return made
+
+
+SIZE = _Numbers()
+NONE = SIZE[0]
+NO_TEXT = ctypes.c_char_p.from_param(b"")
+
+
+class Memory:
+    """Memory that one call has: for a text, spans and sizes, with the arguments for them."""
+
+    __slots__ = (
+        *("text", "spans", "number", "sizes", "is_kept"),
+        *("for_number", "for_text", "for_match", "for_first"),
+    )
+
+    def __init__(self, size: int = ROOM, count: int = SPANS) -> None:
+        self.text: Any = (ctypes.c_char * size)()
+        self.spans: Any = (ctypes.c_char * (count * SPAN.size))()
+        self.number, self.sizes = ctypes.c_size_t(), _Sizes()
+        self.is_kept = size + count * SPAN.size <= KEPT
+        text, spans = ctypes.byref(self.text), ctypes.byref(self.spans)
+        self.for_number = ctypes.byref(self.number)
+        self.for_text = text, SIZE[size], self.for_number
+        self.for_match = text, SIZE[size], spans, SIZE[count], ctypes.byref(self.sizes)
+        self.for_first = (self.for_number, *self.for_match)
+
+    def leave(self) -> None:
+        """Leaves the memory to later calls."""
+        if self.is_kept:
+            FREE.append(self)
+
+
+# Memory that no call has.
+FREE: List[Memory] = []
+
+
+def memory() -> Memory:
+    """Memory that no other call has."""
+    try:
+        return FREE.pop()
+    except IndexError:
+        return Memory()
+
+
+def checked(status: int) -> bool:
+    """Whether there is a match."""
+    if status == OUT_OF_MEMORY:
+        raise MemoryError("out of memory")
+    if status == NO_PATTERN:
+        raise IndexError("no such pattern")
+    return status == DONE
+
+
+def written(function: Call, *arguments: Any) -> Tuple[int, str]:
+    """Calls what writes a text, with as much room as it needs. Returns the status and the text,
+    which is empty if none is written."""
+    room = memory()
+    status = function(*arguments, *room.for_text)
+    while status == TOO_SMALL:
+        room = Memory(room.number.value)
+        status = function(*arguments, *room.for_text)
+    is_written = status == DONE or status == REFUSED
+    text = room.text[: room.number.value].decode() if is_written else ""
+    room.leave()
+    return status, text
+
+
+def matched(function: Call, kind: str, *arguments: Any) -> Tuple[int, Memory]:
+    """Calls what writes a match, with as much room of this kind as it needs. Returns the status and
+    the memory, which is left if there is no match."""
+    room = memory()
+    status = function(*arguments, *getattr(room, kind))
+    while status == TOO_SMALL:
+        room = Memory(max(room.sizes.bytes, ROOM), max(room.sizes.spans, SPANS))
+        status = function(*arguments, *getattr(room, kind))
+    if status != DONE:
+        room.leave()
+    return status, room

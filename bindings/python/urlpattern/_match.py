@@ -1,0 +1,78 @@
+"""The match of a pattern."""
+from __future__ import annotations
+
+from dataclasses import dataclass
+from typing import Any, Dict, Union, cast
+
+from ._texts import Groups
+
+
+def _groups_of(component: str) -> Dict[str, Union[str, Any]]:
+    """An attribute of matches: the groups of a component."""
+    found = lambda self: {name: text for at, name, text in self.groups if at == component}
+    made = property(found, doc=f"What the groups of the {component} captured, by their names.")
+    return cast(Dict[str, Union[str, Any]], made)
+
+
+@dataclass
+class Match:
+    """A match: the `index` of the pattern in its list, and the `groups` as `captures` gives them.
+    It is true, also where its index is 0.
+
+    An attribute for each component is a dict of its groups. A group that has no name in the pattern
+    has a number, and one that took no part is None. A name alone finds its group whichever
+    component that is of.
+
+    >>> pattern = URLPattern("https://:team.example.com/users/:id/*")
+    >>> match = pattern.match("https://a.example.com/users/7/x")
+    >>> match["id"], match.group("team"), match.groupdict()
+    ('7', 'a', {'team': 'a', 'id': '7'})
+    >>> match.pathname, match.index
+    ({'id': '7', '0': 'x'}, 0)
+    """
+
+    index: int
+    groups: Groups
+
+    protocol = _groups_of("protocol")
+    username = _groups_of("username")
+    password = _groups_of("password")
+    hostname = _groups_of("hostname")
+    port = _groups_of("port")
+    pathname = _groups_of("pathname")
+    search = _groups_of("search")
+    hash = _groups_of("hash")
+
+    def group(self, name: str) -> Union[str, Any]:
+        """What the group of this name captured, or None if it took no part. IndexError: there is
+        none, or components have one each.
+
+        >>> match = URLPattern({"pathname": "/:lang/:page?"}).match("https://example.com/en")
+        >>> match.group("lang"), match.group("page")
+        ('en', None)
+        """
+        found = [(component, text) for component, each, text in self.groups if each == name]
+        if len(found) == 1:
+            return found[0][1]
+        if not found:
+            raise IndexError(f"no such group: {name!r}")
+        components = " and ".join(component for component, _ in found)
+        hint = f"ask one, as `match.{found[0][0]}[{name!r}]`"
+        raise IndexError(f"{components} have a group {name!r} each: {hint}")
+
+    def groupdict(self, default: Any = None) -> Dict[str, Union[str, Any]]:
+        """The groups that have a name in the pattern, of all components: what they captured, or the
+        default where they took no part. IndexError: two components have a group of one name.
+
+        >>> match = URLPattern({"pathname": "/:lang/:page?"}).match("https://example.com/en")
+        >>> match.groupdict("")
+        {'lang': 'en', 'page': ''}
+        """
+        names = [name for _, name, _ in self.groups if not name[0].isdecimal()]
+        texts = {name: self.group(name) for name in names}
+        return {name: default if text is None else text for name, text in texts.items()}
+
+    __getitem__ = group
+
+    # Else Python would go through `match[0]`, `match[1]` and so on, and find none.
+    __iter__ = None

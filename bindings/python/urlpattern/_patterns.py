@@ -1,0 +1,280 @@
+"""Patterns, and lists of them."""
+from __future__ import annotations
+
+from typing import (
+    Any, Dict, Iterable, List, Mapping, Optional, Sequence, Tuple, Union, cast, overload,
+)
+
+from ._handled import Patterns, covers
+from ._library import COMPONENTS, DONE, NO_TEXT, NONE, REFUSED, SIZE, calls, checked
+from ._match import Match
+from ._texts import Groups, Init, Source, source_of
+
+_test = calls.test
+
+
+def _source(
+    pattern: Union[str, Init, URLPattern], base: Optional[str], ignore_case: bool
+) -> Source:
+    """What a pattern is compiled from."""
+    if not isinstance(pattern, URLPattern):
+        return source_of(pattern, base, ignore_case)
+    if base is not None or ignore_case:
+        raise TypeError("a URLPattern has a base URL, and ignores case, as it was made")
+    return pattern._source
+
+
+class URLPatternList(Patterns, Sequence["URLPattern"]):
+    """Patterns in their order, as the routes of a router: a sequence that grows at its end. A copy
+    is compiled again.
+
+    >>> routes = URLPatternList(["https://example.com/users/:id", "https://example.com/*"])
+    >>> len(routes), routes[0].pathname, [route.pathname for route in routes]
+    (2, '/users/:id', ['/users/:id', '/*'])
+    >>> routes.index(URLPattern("https://example.com/*"))
+    1
+    """
+
+    __slots__ = ("__dict__", "__weakref__")
+
+    def __init__(self, patterns: Iterable[Union[str, Init, URLPattern]] = ()) -> None:
+        if isinstance(patterns, (str, Mapping)):
+            raise TypeError(f"patterns are a list of patterns, not a {type(patterns).__name__}")
+        super().__init__()
+        for pattern in patterns:
+            self.append(pattern)
+
+    def __getstate__(self) -> Any:
+        return self.__dict__, [tuple(source) for source in self._sources]
+
+    def __setstate__(self, state: Any) -> None:
+        attributes, sources = state
+        URLPatternList.__init__(self)
+        self.__dict__.update(attributes)
+        for source in sources:
+            self._add(Source(*source))
+
+    def append(
+        self,
+        pattern: Union[str, Init, URLPattern],
+        base: Optional[str] = None,
+        *,
+        ignore_case: bool = False,
+    ) -> None:
+        """Compiles what a URLPattern is made of, and appends the pattern.
+
+        >>> routes = URLPatternList()
+        >>> routes.append("/users/:id", "https://example.com", ignore_case=True)
+        >>> routes.append({"pathname": "/posts/:id", "port": 8080})
+        >>> routes.append(URLPattern("https://example.com/*"))
+        >>> [route.pathname for route in routes]
+        ['/users/:id', '/posts/:id', '/*']
+        """
+        self._add(_source(pattern, base, ignore_case))
+
+    def __len__(self) -> int:
+        return len(self._sources)
+
+    @overload
+    def __getitem__(self, index: int) -> URLPattern: ...
+
+    @overload
+    def __getitem__(self, index: slice) -> List[URLPattern]: ...
+
+    def __getitem__(self, index: Union[int, slice]) -> Union[URLPattern, List[URLPattern]]:
+        """The pattern of an index, which is not compiled again; or those of a slice."""
+        found = range(len(self))[index]
+        if isinstance(found, range):
+            return [URLPattern._of(self, each) for each in found]
+        return URLPattern._of(self, found)
+
+    def __repr__(self) -> str:
+        return f"{type(self).__name__}({list(self)!r})"
+
+
+def _text_of(component: str) -> str:
+    """An attribute of patterns: the text of a component."""
+    text = lambda self: self._list.component(self._index, component)
+    return cast(str, property(text, doc=f"The pattern text of the {component}."))
+
+
+class URLPattern:
+    """A pattern: a str, which is a constructor string, with a base URL if there is one; or a dict
+    of the texts of components with a `baseURL`, where a port may be a number. With `ignore_case`
+    the path, the query and the fragment are matched without regard to the case of ASCII letters.
+
+    Patterns are equal if they are made of equal texts. A copy is compiled again.
+
+    >>> URLPattern("https://example.com/users/:id").test("https://example.com/users/7")
+    True
+    >>> URLPattern("/:id", "https://example.com")
+    URLPattern({'protocol': 'https', 'hostname': 'example.com', 'port': '', 'pathname': '/:id'})
+    >>> URLPattern({"hostname": "localhost", "port": 8080}).port
+    '8080'
+    """
+
+    __slots__ = ("_list", "_index", "_address", "_at")
+
+    def __init__(
+        self,
+        pattern: Union[str, Init, URLPattern],
+        base: Optional[str] = None,
+        *,
+        ignore_case: bool = False,
+    ) -> None:
+        patterns = Patterns()
+        patterns._add(_source(pattern, base, ignore_case))
+        self._set(patterns, 0)
+
+    def _set(self, patterns: Patterns, index: int) -> None:
+        self._list, self._index = patterns, index
+        self._address, self._at = patterns._address, SIZE[index]
+
+    @classmethod
+    def _of(cls, patterns: Patterns, index: int) -> URLPattern:
+        """The pattern of an index."""
+        made = cls.__new__(cls)
+        made._set(patterns, index)
+        return made
+
+    @property
+    def _source(self) -> Source:
+        return self._list._sources[self._index]
+
+    def __getstate__(self) -> Any:
+        return getattr(self, "__dict__", {}), tuple(self._source)
+
+    def __setstate__(self, state: Any) -> None:
+        attributes, (pattern, base, ignore_case) = state
+        URLPattern.__init__(self, pattern, base, ignore_case=ignore_case)
+        for name, value in attributes.items():
+            setattr(self, name, value)
+
+    def __eq__(self, other: object) -> bool:
+        return isinstance(other, URLPattern) and self._source == other._source
+
+    def __hash__(self) -> int:
+        pattern, base, ignore_case = self._source
+        texts = frozenset(pattern.items()) if isinstance(pattern, dict) else pattern
+        return hash((texts, base, ignore_case))
+
+    def __repr__(self) -> str:
+        texts = {name: getattr(self, name) for name in COMPONENTS}
+        return f"URLPattern({ {name: text for name, text in texts.items() if text != '*'} })"
+
+    def test(
+        self, url: Optional[str] = None, base: Optional[str] = None, *, path: Optional[str] = None
+    ) -> bool:
+        """Whether the pattern matches: a URL; a text that may be relative to a base URL; or a path
+        under a base URL, which begins with `/`, and has the host of the base whatever it is.
+
+        >>> pattern = URLPattern("https://example.com/users/:id")
+        >>> pattern.test("/users/7", "https://example.com")
+        True
+        >>> pattern.test(path="/users/7?tab=1", base="https://example.com")
+        True
+        >>> URLPattern("https://other.com/*").test(path="//other.com/x", base="https://example.com")
+        False
+        """
+        if base is not None or path is not None or not isinstance(url, str):
+            return self._list.test(self._index, url, base, path=path)
+        text = str.encode(url)
+        status: int = _test(self._address, self._at, text, SIZE[len(text)], NO_TEXT, NONE)
+        return status == DONE if status < REFUSED else checked(status)
+
+    def match(
+        self, url: Optional[str] = None, base: Optional[str] = None, *, path: Optional[str] = None
+    ) -> Optional[Match]:
+        """The match, or None.
+
+        >>> match = URLPattern("https://example.com/users/:id").match("https://example.com/users/7")
+        >>> match["id"], match.groupdict(), match.pathname
+        ('7', {'id': '7'}, {'id': '7'})
+        """
+        groups = self._list.captures(self._index, url, base, path=path)
+        return None if groups is None else Match(self._index, groups)
+
+    def mismatch(
+        self, url: Optional[str] = None, base: Optional[str] = None, *, path: Optional[str] = None
+    ) -> Optional[str]:
+        """The first component that does not match, or None if each does. ValueError: the text
+        counts as no URL.
+
+        >>> URLPattern("https://example.com/users/:id").mismatch("https://example.com/about")
+        'pathname'
+        """
+        return self._list.mismatch(self._index, url, base, path=path)
+
+    def exec(
+        self, url: Optional[str] = None, base: Optional[str] = None, *, path: Optional[str] = None
+    ) -> Optional[Dict[str, Any]]:
+        """The match as a browser has it, or None: a dict of components, each with `input` and
+        `groups`.
+
+        >>> found = URLPattern("https://example.com/users/:id").exec("https://example.com/users/7")
+        >>> found["pathname"]
+        {'groups': {'id': '7'}, 'input': '/users/7'}
+        """
+        return self._list.exec(self._index, url, base, path=path)
+
+    def captures(
+        self, url: Optional[str] = None, base: Optional[str] = None, *, path: Optional[str] = None
+    ) -> Optional[Groups]:
+        """The groups of the match, or None: a list of tuples of the component, the name, and what
+        the group captured, which is None where it took no part. It has what `exec` has, in the
+        order of the pattern, and takes less time.
+
+        >>> URLPattern({"pathname": "/users/:id"}).captures("https://example.com/users/7")[4:6]
+        [('port', '0', ''), ('pathname', 'id', '7')]
+        """
+        return self._list.captures(self._index, url, base, path=path)
+
+    def link(self, groups: Iterable[Tuple[str, str, Optional[str]]] = ()) -> str:
+        """The URL that the pattern matches with these groups, each a tuple of the component, the
+        name and the text, as `captures` gives them; one whose text is None takes no part.
+        ValueError: there is no such URL, and the message says why.
+
+        >>> URLPattern("https://example.com/users/:id").link([("pathname", "id", "a b")])
+        'https://example.com/users/a%20b'
+        """
+        return self._list.link(self._index, groups)
+
+    def covers(self, asked: URLPattern) -> Optional[bool]:
+        """Whether the pattern matches each URL that the asked pattern matches, or None if it is not
+        known.
+
+        >>> URLPattern("https://example.com/*").covers(URLPattern("https://example.com/users/:id"))
+        True
+        """
+        if not isinstance(asked, URLPattern):
+            raise TypeError(f"what is compared is a URLPattern, not {type(asked).__name__}")
+        if asked._list is self._list:
+            return self._list.covers(self._index, asked._index)
+        both = self._address, self._at, asked._address, asked._at
+        return covers(calls.covers_between, *both)
+
+    @property
+    def has_regexp_groups(self) -> bool:
+        """Whether the pattern has a custom regular expression."""
+        return self._list.has_regexp_groups(self._index)
+
+    @property
+    def has_meaning(self) -> bool:
+        """Whether each component of the pattern has a meaning, so that its text alone says what it
+        matches and captures: each custom regular expression is simple, as `\\d+`, `en|fr` and
+        `[^/]+` are, without an assertion as `\\b`, a flag, or a group that captures; and there is
+        none where case is ignored.
+
+        >>> URLPattern({"pathname": r"/:id(\\d+)"}).has_meaning
+        True
+        """
+        return self._list.has_meaning(self._index)
+
+    protocol = _text_of("protocol")
+    username = _text_of("username")
+    password = _text_of("password")
+    hostname = _text_of("hostname")
+    port = _text_of("port")
+    pathname = _text_of("pathname")
+    search = _text_of("search")
+    hash = _text_of("hash")

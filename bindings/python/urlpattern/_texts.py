@@ -1,0 +1,191 @@
+"""Texts that the library reads, of patterns, URLs and groups, and why a pattern is refused."""
+from __future__ import annotations
+
+import ctypes
+import difflib
+import json
+from typing import Any, Dict, Iterable, List, Mapping, NamedTuple, Optional, Tuple, Union
+
+from ._library import (
+    COMPONENTS, DONE, NONE, NO_TEXT, OUT_OF_MEMORY, ROOM, SIZE, TOO_SMALL,
+    Call, Given, Place, calls,
+)
+
+# The texts of components, with a base URL if there is one.
+Init = Mapping[str, Union[str, int]]
+
+# The groups of a match: of each the component, the name, and what it captured.
+Groups = List[Tuple[str, str, Optional[str]]]
+
+# The keys of a dict, and what other libraries call them.
+KEYS = (*COMPONENTS, "baseURL")
+SYNONYMS = {"scheme": "protocol", "netloc": "hostname", "query": "search", "fragment": "hash"}
+
+_NUMBERS = {name: number for number, name in enumerate(COMPONENTS)}
+
+
+class URLPatternError(ValueError):
+    """A pattern is refused. `place` is the span that is at fault, as indices of a str: of the
+    pattern, or of the base URL if `in_base`, or of the text of `component` in a dict. It is None
+    where nothing more is known.
+
+    >>> try:
+    ...     URLPattern("https://example.com/é(abc")
+    ... except URLPatternError as error:
+    ...     error.place, error.in_base, error.component
+    ((21, 22), False, None)
+    """
+
+    def __init__(
+        self,
+        message: str,
+        place: Optional[Tuple[int, int]] = None,
+        in_base: bool = False,
+        component: Optional[str] = None,
+    ) -> None:
+        super().__init__(message)
+        self.place = place
+        self.in_base = in_base
+        self.component = component
+
+
+class Source(NamedTuple):
+    """What a pattern is compiled from."""
+
+    pattern: Union[str, Dict[str, str]]
+    base: Optional[str]
+    ignore_case: bool
+
+    def texts(self) -> Tuple[Any, ...]:
+        """The texts, each with the number of its bytes."""
+        if isinstance(self.pattern, dict):
+            text = json.dumps(self.pattern, ensure_ascii=False).encode()
+            return text, len(text)
+        text, base = self.pattern.encode(), (self.base or "").encode()
+        return text, len(text), base, len(base)
+
+
+def encoded(text: Any, name: str, kind: str = "a str") -> bytes:
+    """The UTF-8 of a text. TypeError: it is no str."""
+    try:
+        return str.encode(text)
+    except TypeError:
+        raise TypeError(f"{name} is {kind}, not {type(text).__name__}") from None
+
+
+def _plain(key: object) -> str:
+    return str(key).replace("_", "").lower()
+
+
+def _unknown(key: object) -> str:
+    """What is said of a key that a pattern may not have."""
+    names = {**SYNONYMS, **{_plain(name): name for name in KEYS}}
+    near = difflib.get_close_matches(_plain(key), names, 1)
+    hint = f"did you mean {names[near[0]]!r}?" if near else f"it may be {', '.join(KEYS)}"
+    return f"unknown key {key!r} of a pattern: {hint}"
+
+
+def source_of(pattern: Union[str, Init], base: Optional[str], ignore_case: bool) -> Source:
+    """What a pattern is compiled from: a str or a dict, a base URL, and whether it ignores case."""
+    if isinstance(pattern, Mapping):
+        if base is not None:
+            raise URLPatternError("the base URL of a dict is its `baseURL`")
+        return Source(_init(pattern), None, bool(ignore_case))
+    encoded(pattern, "a pattern", "a str or a dict")
+    if base is not None:
+        encoded(base, "a base URL")
+    return Source(pattern, base, bool(ignore_case))
+
+
+def _init(given: Init) -> Dict[str, str]:
+    """The texts of a dict. A port may be a number."""
+    texts = {}
+    for key, text in given.items():
+        if key not in KEYS:
+            raise TypeError(_unknown(key))
+        if key == "port" and isinstance(text, int) and not isinstance(text, bool):
+            text = str(int(text))
+        texts[key] = encoded(text, f"{key!r} of a pattern").decode()
+    return texts
+
+
+def url_texts(url: Optional[str], base: Optional[str], path: Optional[str]) -> Tuple[Any, ...]:
+    """A URL and its base, each with the number of its bytes, as arguments."""
+    if path is not None:
+        url = _within(url, base, path)
+    text = encoded(url, "a URL")
+    if base is None:
+        return text, SIZE[len(text)], NO_TEXT, NONE
+    base_text = encoded(base, "a base URL")
+    return text, SIZE[len(text)], base_text, SIZE[len(base_text)]
+
+
+def _within(url: Optional[str], base: Optional[str], path: str) -> str:
+    """A path as a text that has the host of its base. No host begins at `/.`, as one does at `//`,
+    and the URL is without this segment."""
+    if url is not None or base is None:
+        raise TypeError("a path needs a base URL and no other one: `path='/x', base='https://..'`")
+    if not encoded(path, "a path").startswith(b"/"):
+        raise ValueError(f"a path begins with `/`, unlike {path[:40]!r}")
+    return f"/.{path}"
+
+
+def number_of(component: str) -> int:
+    """The number of a component."""
+    try:
+        return _NUMBERS[component]
+    except KeyError:
+        encoded(component, "a component")
+        raise ValueError(f"no component {component!r}: it may be {', '.join(COMPONENTS)}") from None
+
+
+def group_texts(groups: Iterable[Tuple[str, str, Optional[str]]]) -> Tuple[bytes, Any]:
+    """The names and texts of groups, one after the other, and where each of them lies."""
+    text = b""
+    given: List[Any] = []
+    for component, name, value in groups:
+        number, name_text = number_of(component), encoded(name, "the name of a group")
+        if value is not None:
+            value_text, start = encoded(value, "the text of a group"), len(text) + len(name_text)
+            given.append((number, len(text), len(name_text), start, len(value_text)))
+            text += name_text + value_text
+    return text, (Given * len(given))(*given)
+
+
+def _diagnosed(function: Call, arguments: Tuple[Any, ...]) -> Tuple[int, str, Any]:
+    """The status of a diagnosis, its reason, and the place that is at fault."""
+    needed, place, room = ctypes.c_size_t(), Place(), ROOM
+    while True:
+        text = ctypes.create_string_buffer(room)
+        status = function(*arguments, text, room, ctypes.byref(needed), ctypes.byref(place))
+        if status != TOO_SMALL:
+            return status, text.raw[: needed.value].decode(), place
+        room = needed.value
+
+
+def refusal(source: Source) -> Exception:
+    """The error that says why a pattern is refused."""
+    pattern, base = source.pattern, source.base
+    function = calls.diagnose_init if isinstance(pattern, dict) else calls.diagnose
+    status, reason, place = _diagnosed(function, (*source.texts(), source.ignore_case))
+    if status == OUT_OF_MEMORY:
+        return MemoryError("out of memory")
+    if status != DONE:
+        return URLPatternError("the base URL is refused", in_base=True)
+    in_base = place.subject == 1
+    component = COMPONENTS[place.subject - 2] if place.subject > 1 else None
+    text: Optional[str] = base if in_base else None
+    if isinstance(pattern, dict):
+        text = pattern.get("baseURL" if in_base else component or "")
+    elif not in_base:
+        text = pattern
+    return URLPatternError(reason, _indices(text, place), in_base, component)
+
+
+def _indices(text: Optional[str], place: Any) -> Optional[Tuple[int, int]]:
+    """A place as indices of its text, if there is one."""
+    if text is None:
+        return None
+    data = text.encode()
+    start, end = (len(data[:at].decode(errors="ignore")) for at in (place.start, place.end))
+    return start, end

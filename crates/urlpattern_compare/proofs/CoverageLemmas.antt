@@ -1,0 +1,122 @@
+-- The result of a comparison, by what a search found.
+use Rattle.std.proofs.Common.{◌≡◌, ◌∙◌, ◌↔◌, ℕ, Bool, true, false, List, [], ◌∷◌, inr, refl, subst, sym}
+use Rattle.std.proofs.lemmas.Bool.{false≢true}
+use Rattle.std.proofs.lemmas.List.Elements.{All-cons, All-head, All-nil, All-tail}
+use Rattle.std.specs.Prelude.{IsTrue, not}
+use Rattle.urlpattern_compare.proofs.CommonLemmas.{accepts_text}
+use Rattle.urlpattern_compare.proofs.PartsRead.{parts_accepted, parts_within}
+use Rattle.urlpattern_compare.specs.Answers.{IsFoundBy, IsSought, LeadBothAlike, answer_of}
+use Rattle.urlpattern_compare.specs.Automata.{IsWhether}
+use Rattle.urlpattern_compare.specs.Conditions.{accepts, is_as, is_met, states_after}
+use Rattle.urlpattern_compare.specs.Making.{made, made_view}
+use Rattle.urlpattern_compare.specs.MeantTexts.{MeansText}
+use Rattle.urlpattern_compare.specs.Searching.{IsMostSets}
+use Rattle.urlpattern_compare.specs.TextSearch.{AreApart, IsFoundText, LeadAlike}
+use Rattle.urlpattern_compare.specs.declared.condition.Condition.{Condition}
+use Rattle.urlpattern_compare.specs.declared.coverage.Answer.{Answer}
+use Rattle.urlpattern_compare.specs.declared.parts_automaton.PartsAutomaton.{PartsAutomaton}
+use Rattle.urlpattern_compare.specs.declared.search.Found.{Found}
+use Rattle.urlpattern_compare.specs.declared.search.Found.TheVariants.{Text, Nothing, TooMany}
+use Rattle.urlpattern_meaning.specs.PartMeaning.{AreGenerated}
+use Rattle.urlpattern_syntax.specs.{Options.OptionsView, Parts.PartView}
+
+-- ---- two conditions
+
+-- An automaton does what is asked of it.
+as_asked : (asked found : Bool) → IsTrue (is_as asked found) → found ≡ asked
+as_asked true found is = is
+as_asked false true is = absurd cc
+as_asked false false is = refl
+
+if_asked : (asked found : Bool) → found ≡ asked → IsTrue (is_as asked found)
+if_asked true found same = same
+if_asked false true same = absurd cc
+if_asked false false same = refl
+
+not_asked : (asked found : Bool) → ¬ IsTrue (is_as asked found) → found ≡ not asked
+not_asked true true never = absurd (never refl)
+not_asked true false never = refl
+not_asked false true never = refl
+not_asked false false never = absurd (never refl)
+
+apart_weaker : {X : Type 0} (R S : X → X → Type 0) → ((x y : X) → S x y → R x y) → (xs : List X) → AreApart R xs → AreApart S xs
+apart_weaker R S within [] apart = tt
+apart_weaker {X} R S within (x ∷ others) apart = (
+  λ k d lt alike. apart.0 k d lt (within x _ alike),
+  apart_weaker R S within others apart.1,
+)
+
+module _ (one other : PartsAutomaton) (is_accepted : Bool) (first second : Condition) (is_one : first.automaton.now ≡ one) (accepted : first.is_accepted ≡ true)
+    (is_other : second.automaton.now ≡ other) (asked : second.is_accepted ≡ is_accepted) where
+  abbrev IsMet : (text : List ℕ) → Condition → Type 0
+  IsMet text it = IsTrue (is_met it text)
+
+  one_met : (text : List ℕ) → IsTrue (is_met first text) → IsTrue (accepts one text)
+  one_met text is = subst (λ (it : PartsAutomaton). IsTrue (accepts it text)) is_one (as_asked first.is_accepted (accepts first.automaton.now text) is ∙ accepted)
+
+  if_one : (text : List ℕ) → IsTrue (accepts one text) → IsTrue (is_met first text)
+  if_one text is = if_asked first.is_accepted (accepts first.automaton.now text) (subst (λ (it : PartsAutomaton). IsTrue (accepts it text)) (sym is_one) is ∙ sym accepted)
+
+  other_met : (text : List ℕ) → IsTrue (is_met second text) → accepts other text ≡ is_accepted
+  other_met text is = subst (λ (it : PartsAutomaton). accepts it text ≡ is_accepted) is_other (as_asked second.is_accepted (accepts second.automaton.now text) is ∙ asked)
+
+  other_unmet : (text : List ℕ) → ¬ IsTrue (is_met second text) → accepts other text ≡ not is_accepted
+  other_unmet text never =
+      subst (λ (it : PartsAutomaton). accepts it text ≡ not is_accepted) is_other
+      (subst (λ (b : Bool). accepts second.automaton.now text ≡ not b) asked (not_asked second.is_accepted (accepts second.automaton.now text) never))
+
+  lead_alike : (text another : List ℕ) → LeadBothAlike one other text another → LeadAlike (first ∷ second ∷ []) text another
+  lead_alike text another (same, other_same) =
+      let P : Condition → Type 0 = λ it. states_after it.automaton.now text ≡ states_after it.automaton.now another in
+      All-cons P first (second ∷ []) (subst (λ (it : PartsAutomaton). states_after it text ≡ states_after it another) (sym is_one) same)
+      (All-cons P second [] (subst (λ (it : PartsAutomaton). states_after it text ≡ states_after it another) (sym is_other) other_same) (All-nil P))
+
+  found_two : (most : ℕ) (found : Found) → IsMostSets one.states other.states most → IsFoundText (first ∷ second ∷ []) most found → IsFoundBy one other is_accepted found
+  found_two most (Text text) is_most (met, line) = (
+    one_met text.items (All-head (IsMet text.items) first (second ∷ []) met),
+    other_met text.items (All-head (IsMet text.items) second [] (All-tail (IsMet text.items) first (second ∷ []) met)),
+    line,
+  )
+  found_two most Nothing is_most none = λ text line is. other_unmet text (λ met.
+      none text line (All-cons (IsMet text) first (second ∷ []) (if_one text is) (All-cons (IsMet text) second [] met (All-nil (IsMet text)))))
+  found_two most TooMany is_most (texts, many, apart) = (most, is_most, texts, many, apart_weaker (LeadAlike (first ∷ second ∷ [])) (LeadBothAlike one other) lead_alike texts apart)
+
+pub found_by : (one other : PartsAutomaton) (is_accepted : Bool) (first second : Condition) (conditions : List Condition) (most : ℕ) (found : Found) →
+    conditions ≡ first ∷ second ∷ [] → first.automaton.now ≡ one → first.is_accepted ≡ true → second.automaton.now ≡ other → second.is_accepted ≡ is_accepted →
+    IsMostSets one.states other.states most → IsFoundText conditions most found → IsFoundBy one other is_accepted found
+found_by one other is_accepted first second conditions most found are is_one accepted is_other asked is_most is =
+    found_two one other is_accepted first second is_one accepted is_other asked most found is_most (subst (λ (them : List Condition). IsFoundText them most found) are is)
+
+-- ---- results
+
+-- Whether the parts mean the text, by whether their automaton accepts it.
+whether_means : (asked found : Bool) (Means : Type 0) → IsTrue found ↔ Means → found ≡ asked → IsWhether asked Means
+whether_means true found Means same is = same.0 is
+whether_means false found Means same is = λ means. false≢true (sym is ∙ same.1 means)
+
+module _ (options : OptionsView) (parts : List PartView) (other_options : OptionsView) (others : List PartView) (one other : PartsAutomaton) (gen : AreGenerated parts) (other_gen : AreGenerated others)
+    (same : made_view one ≡ made options parts) (other_same : made_view other ≡ made other_options others) where
+  means_one : (text : List ℕ) → IsTrue (accepts one text) ↔ MeansText options parts text
+  means_one text =
+      let here = accepts_text one text (parts_within options parts one same) in
+      let there = parts_accepted options parts one gen same text in
+      (λ is. there.0 (here.1 is), λ means. here.0 (there.1 means))
+
+  means_other : (text : List ℕ) → IsTrue (accepts other text) ↔ MeansText other_options others text
+  means_other text =
+      let here = accepts_text other text (parts_within other_options others other other_same) in
+      let there = parts_accepted other_options others other other_gen other_same text in
+      (λ is. there.0 (here.1 is), λ means. here.0 (there.1 means))
+
+  found_answer : (is_meant : Bool) (found : Found) → IsFoundBy one other is_meant found → IsSought options parts other_options others is_meant (answer_of found)
+  found_answer is_meant (Text text) (is, other_is, line) =
+      ((means_one text.items).0 is, whether_means is_meant (accepts other text.items) (MeansText other_options others text.items) (means_other text.items) other_is, line)
+  found_answer is_meant Nothing none = λ text fine plain means.
+      whether_means (not is_meant) (accepts other text) (MeansText other_options others text) (means_other text) (none text (record { scalars = fine; plain = plain }) ((means_one text).1 means))
+  found_answer is_meant TooMany many = inr (one, other, same, other_same, many)
+
+pub found_parts : (options : OptionsView) (parts : List PartView) (other_options : OptionsView) (others : List PartView) (is_meant : Bool) (one other : PartsAutomaton) (found : Found) (answer : Answer) →
+    answer ≡ answer_of found → AreGenerated parts → AreGenerated others → made_view one ≡ made options parts → made_view other ≡ made other_options others → IsFoundBy one other is_meant found →
+    IsSought options parts other_options others is_meant answer
+found_parts options parts other_options others is_meant one other found answer e gen other_gen same other_same is =
+    subst (IsSought options parts other_options others is_meant) (sym e) (found_answer options parts other_options others one other gen other_gen same other_same is_meant found is)

@@ -1,0 +1,62 @@
+-- Comparing two components of few states is not too much work.
+use Rattle.std.proofs.Common.{◌≡◌, ◌∙◌, ◌<◌, ◌≤◌, ◌+◌, ◌^◌, ℕ, List, ◌++◌, ap, arith, inl, inr, length, length-append, refl}
+use Rattle.std.proofs.lemmas.Bool.{cases_lt}
+use Rattle.std.proofs.Math.Nat.{pow-le-pow_right}
+use Rattle.urlpattern_compare.proofs.BoundLemmas.{few_values, pieces}
+use Rattle.urlpattern_compare.proofs.ConditionLemmas.{length_after}
+use Rattle.urlpattern_compare.proofs.WorkLemmas.{parts_states}
+use Rattle.urlpattern_compare.specs.Answers.{IsSearchLong, LeadBothAlike}
+use Rattle.urlpattern_compare.specs.Comparing.{IsReasonToShare}
+use Rattle.urlpattern_compare.specs.Conditions.{states_after}
+use Rattle.urlpattern_compare.specs.Making.{Made}
+use Rattle.urlpattern_compare.specs.TextSearch.{AreApart}
+use Rattle.urlpattern_compare.specs.WorkBounds.{SmallAreCompared, component_size, parts_size}
+use Rattle.urlpattern_compare.specs.declared.coverage.Reason.TheVariants.{TooMany}
+use Rattle.urlpattern_compare.specs.declared.parts_automaton.PartsAutomaton.{PartsAutomaton}
+use Rattle.urlpattern_syntax.specs.{Options.OptionsView, Options.options_view, Parts.PartView, Parts.parts_view}
+use Rattle.urlpattern_syntax.specs.declared.parts.ComponentParts.{ComponentParts}
+
+-- Two automata have at most as many sets of states as 2 to the power of the number of their states.
+few_sets : (one other : PartsAutomaton) (texts : List (List ℕ)) → AreApart (LeadBothAlike one other) texts → length texts ≤ 2 ^ (one.states + other.states)
+few_sets one other texts apart =
+    few_values (LeadBothAlike one other) (λ text. states_after one text ++ states_after other text) (one.states + other.states) texts
+    (λ text another e. pieces one.states (states_after one text) (states_after one another) (states_after other text) (states_after other another) (length_after one text) (length_after one another) e)
+    (λ text.
+    let all = length-append (states_after one text) (states_after other text) in
+    let own = length_after one text in
+    let rest = length_after other text in
+    omega arith)
+    apart
+
+long_search : (options : OptionsView) (parts : List PartView) (other_options : OptionsView) (others : List PartView) → IsSearchLong options parts other_options others → 19 < parts_size parts + parts_size others
+long_search options parts other_options others (one, other, same, other_same, (most, is_most, texts, many, apart)) =
+    let few = few_sets one other texts apart in
+    let states : one.states ≡ parts_size parts = ap (λ (m : Made). m.count) same ∙ parts_states options parts in
+    let other_states : other.states ≡ parts_size others = ap (λ (m : Made). m.count) other_same ∙ parts_states other_options others in
+    elim (cases_lt 19 (one.states + other.states)) [
+      | inl large ↦ omega arith
+      | inr small ↦
+          let most_few : 524288 ≤ most = is_most.1 small in
+          let bound : 2 ^ (one.states + other.states) ≤ 2 ^ 19 = pow-le-pow_right (omega arith) small in
+          let all : 2 ^ 19 ≡ 524288 = refl in
+          absurd (omega arith)
+    ]
+
+small_shared : (component other : ComponentParts) → component_size component + component_size other ≤ 19 → ¬ IsReasonToShare component other TooMany
+small_shared component other few much =
+    let options = options_view component.options in
+    let parts = parts_view component.parts.items in
+    let other_options = options_view other.options in
+    let others = parts_view other.parts.items in
+    let own_states = parts_states options parts in
+    let other_states = parts_states other_options others in
+    elim much [
+      | inl states ↦ elim states [
+        | inl many ↦ absurd (omega arith)
+        | inr many ↦ absurd (omega arith)
+      ]
+      | inr long ↦ let above = long_search options parts other_options others long in absurd (omega arith)
+    ]
+
+pub small_compared : SmallAreCompared
+small_compared component other few = (small_shared other component (omega arith), small_shared component other few)

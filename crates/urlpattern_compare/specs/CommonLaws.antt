@@ -1,0 +1,49 @@
+-- Laws of common texts: that meanings exist, and how much work a question takes at most.
+use Rattle.std.specs.Prelude.{◌≢◌, ◌⊎◌, ◌++◌, ◌*◌, ◌^◌, ◌≤◌, ℕ, All, List, length}
+use Rattle.std.specs.List.{sum_by}
+use Rattle.urlpattern_compare.specs.CommonTexts.{AreAutomata, AreMeanings, IsDoubt, IsLack, PatternMeaning, SomeHasManyStates, parts_of}
+use Rattle.urlpattern_compare.specs.WorkBounds.{component_size}
+use Rattle.urlpattern_compare.specs.declared.candidates.Limits.{Limits}
+use Rattle.urlpattern_compare.specs.declared.common_texts.Doubt.TheVariants as doubts
+use Rattle.urlpattern_compare.specs.declared.common_texts.Lack.{Lack}
+use Rattle.urlpattern_compare.specs.declared.common_texts.PatternAutomata.{PatternAutomata}
+use Rattle.urlpattern_compare.specs.declared.coverage.Reason.TheVariants as reasons
+use Rattle.urlpattern_compare.specs.declared.parts_automaton.TheConstants.{MOST_STATES}
+use Rattle.urlpattern_components.specs.declared.eight.ComponentName.{ComponentName}
+use Rattle.urlpattern_components.specs.Eight.{at}
+
+-- Some meanings exist of any patterns, unless a component needs too many states.
+abbrev pub MeaningsExist : Type 0
+MeaningsExist =
+    (all_of none_of : List PatternAutomata) → All AreAutomata all_of → All AreAutomata none_of
+    → ((all none : List PatternMeaning)
+    × AreMeanings (parts_of all_of) (parts_of none_of) all none)
+    ⊎ SomeHasManyStates (all_of ++ none_of)
+
+-- The size of the component in all of the patterns.
+abbrev pub joint_size : List PatternAutomata → ComponentName → ℕ
+joint_size patterns name = sum_by (λ it. component_size (at it.parts.components name)) patterns
+
+-- A component does not need too many states if its size is at most `MOST_STATES`.
+abbrev pub SmallHaveAutomata : Type 0
+SmallHaveAutomata =
+    (patterns : List PatternAutomata) (lack : Lack)
+    → All (λ it. component_size (at it.parts.components lack.component) ≤ MOST_STATES) patterns
+    → IsLack patterns lack → lack.reason ≢ reasons.TooMany
+
+-- A component does not need too many sets of states if 2 to the power of its size in all of the
+-- patterns is at most `limits.sets`.
+abbrev pub SmallNeedFewSets : Type 0
+SmallNeedFewSets =
+    (all_of none_of : List PatternAutomata) (limits : Limits) (name : ComponentName)
+    → All AreAutomata (all_of ++ none_of)
+    → 2 ^ joint_size (all_of ++ none_of) name ≤ limits.sets
+    → ¬ IsDoubt all_of none_of limits (doubts.TooManySets name)
+
+-- Not too many texts have to be tried if 2 to the power of the number of components of `none_of` is
+-- at most `limits.texts`.
+abbrev pub FewNeedFewTexts : Type 0
+FewNeedFewTexts =
+    (all_of none_of : List PatternAutomata) (limits : Limits)
+    → 2 ^ (8 * length none_of) ≤ limits.texts
+    → ¬ IsDoubt all_of none_of limits doubts.TooManyTexts
