@@ -239,9 +239,8 @@ uint32_t urlpattern_has_regexp_groups(urlpattern_list *patterns, size_t index);
 /* Whether each component of the pattern of this index has a meaning, so that the text of the
  * pattern alone says which URLs it matches, and what its groups capture. For that each of its custom
  * regular expressions is simple, as `\d+`, `en|fr` and `[^/]+` are: of ASCII characters, without an
- * assertion as `^`, `$` or `\b`, without a flag, and without a group that captures. With
- * `ignore_case`, pathname, search and hash have no custom regular expression. A program that accepts
- * patterns of others may refuse the rest, of which less is promised.
+ * assertion as `^`, `$` or `\b`, without a flag, and without a group that captures. A program that
+ * accepts patterns of others may refuse the rest, of which less is promised.
  * DONE (each has one), NO_MATCH (not each has one), OUT_OF_MEMORY, or NO_PATTERN. */
 uint32_t urlpattern_has_meaning(urlpattern_list *patterns, size_t index);
 

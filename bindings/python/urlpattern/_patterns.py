@@ -262,8 +262,7 @@ class URLPattern:
     def has_meaning(self) -> bool:
         """Whether each component of the pattern has a meaning, so that its text alone says what it
         matches and captures: each custom regular expression is simple, as `\\d+`, `en|fr` and
-        `[^/]+` are, without an assertion as `\\b`, a flag, or a group that captures; and there is
-        none where case is ignored.
+        `[^/]+` are, without an assertion as `\\b`, a flag, or a group that captures.
 
         >>> URLPattern({"pathname": r"/:id(\\d+)"}).has_meaning
         True

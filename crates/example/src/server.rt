@@ -64,13 +64,11 @@ fn not_allowed(
 ) -> Result<String, Error> {
     // docs: allowed
     let mut response = text(alloc, "405 Allow: ")?;
-    let mut is_first = true;
+    let mut separator = "";
     for method in methods {
-        if !is_first {
-            response.push_str(", ")?;
-        }
+        response.push_str(separator)?;
         response.push_str(method?)?;
-        is_first = false;
+        separator = ", ";
     }
     Ok(response)
     // docs: end
