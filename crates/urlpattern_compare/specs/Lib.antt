@@ -6,6 +6,7 @@ pub mod MeantTexts
 pub mod Searching
 pub mod Comparing
 pub mod ComparingSteps
+pub mod EqualParts
 pub mod Order
 pub mod DecidedComparisons
 pub mod WorkBounds

@@ -2,8 +2,9 @@
 //! overlap.
 //!
 //! A [`PatternParts`] has the parts of a pattern's eight components. [`PatternParts::covers`] and
-//! [`PatternParts::overlaps`] compare which texts two patterns match, [`first_covering`] and
-//! [`unreachable`] search a list, and [`compare_parts`] orders parts by how specific they are.
+//! [`PatternParts::overlaps`] compare which texts two patterns match, [`PatternParts::is_same`]
+//! compares the parts themselves, [`first_covering`] and [`unreachable`] search a list, and
+//! [`compare_parts`] orders parts by how specific they are.
 //!
 //! [`covers`] and [`overlaps`] compare the parts of one component. Each list of parts is turned
 //! into a [`PartsAutomaton`], and a text is searched for that one of two automata accepts, and the
@@ -21,6 +22,7 @@ pub mod comparing_laws;
 mod component_coverage;
 mod condition;
 mod coverage;
+mod equal_parts;
 mod first_uncovered;
 mod joint_states;
 mod lacks;

@@ -255,6 +255,7 @@ fn expect_not_compared(
     assert!(rt; lacks_parts(pattern.overlaps(alloc, other))?);
     let order = UrlPattern::compare_component(ComponentName::Pathname, pattern, other);
     assert!(rt; lacks_parts(order)?);
+    assert!(rt; lacks_parts(pattern.is_same(other))?);
     Ok(())
 }
 
