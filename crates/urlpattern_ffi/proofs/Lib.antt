@@ -1,6 +1,0 @@
-pub mod CallLemmas
-pub mod CoveringLemmas
-pub mod ReportedInitLemmas
-pub mod WrittenLinkLemmas
-pub mod SpanLemmas
-pub mod ResultDepth

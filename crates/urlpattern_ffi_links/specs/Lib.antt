@@ -1,2 +1,0 @@
-pub mod GivenBytes
-pub mod GivenLinks

@@ -1,5 +1,0 @@
-pub mod ResultViews
-pub mod GroupTexts
-pub mod BorrowedMatches
-pub mod MatchInput
-pub mod ResultJson
