@@ -5,14 +5,14 @@
 
 #include <string.h>
 
-enum { ROOM = 4096, SPANS = 32, WRONG = 9 };
+enum { ROOM = 4096, SPANS = 32, RIGHT = 0, WRONG = 99 };
 
 static char text[ROOM];
 static urlpattern_list patterns = URLPATTERN_EMPTY, others = URLPATTERN_EMPTY;
 static size_t appended;
-static int outcome = URLPATTERN_DONE;
+static int outcome = RIGHT;
 
-/* Whether a call reports what it should. Otherwise memory ran out, or something is wrong. */
+/* Whether a call reports what it should, or a value is the wanted one. Otherwise memory ran out, or something is wrong. */
 static bool is(uint32_t status, uint32_t wanted) {
     if (status != wanted) {
         outcome = status == URLPATTERN_OUT_OF_MEMORY ? URLPATTERN_OUT_OF_MEMORY : WRONG;
@@ -28,20 +28,22 @@ static bool is_appended(uint32_t status) {
 
 static bool are_appended(void) {
     static const char pattern[] = "https://example.com/:a/(b|c)", path[] = ":x/*", base[] = "https://example.com";
-    static const char init[] = "{\"protocol\":\"https\",\"pathname\":\"/:x\"}";
+    static const char init[] = "{\"protocol\":\"https\",\"pathname\":\"/:x\"}", by_path[] = "{\"pathname\":\"/:x/(b|c)\"}";
     return is_appended(urlpattern_add(&patterns, pattern, sizeof pattern - 1, "", 0, false))
         && is_appended(urlpattern_add(&patterns, path, sizeof path - 1, base, sizeof base - 1, true))
         && is_appended(urlpattern_add_init(&patterns, init, sizeof init - 1, false))
+        && is_appended(urlpattern_add_init(&patterns, by_path, sizeof by_path - 1, false))
         && is(urlpattern_add(&others, pattern, sizeof pattern - 1, "", 0, false), URLPATTERN_DONE);
 }
 
 static bool are_matched(void) {
     static const char url[] = "https://example.com/x/b", path[] = "/x/b", base[] = "https://example.com";
+    static const urlpattern_parts parts = { { 0, 5 }, { 0, 0 }, { 0, 0 }, { 8, 11 }, { 0, 0 }, { 19, 4 }, { 0, 0 }, { 0, 0 } };
     static urlpattern_span spans[SPANS];
     const size_t length = sizeof url - 1, path_length = sizeof path - 1, base_length = sizeof base - 1;
     urlpattern_sizes sizes;
     size_t index = 0, needed = 0;
-    uint32_t component = 0;
+    urlpattern_component_number component = URLPATTERN_PROTOCOL;
     return is(urlpattern_test(&patterns, 0, url, length, "", 0), URLPATTERN_DONE)
         && is(urlpattern_test(&patterns, 0, path, path_length, base, base_length), URLPATTERN_DONE)
         && is(urlpattern_first(&patterns, url, length, "", 0, &index), URLPATTERN_DONE)
@@ -49,7 +51,22 @@ static bool are_matched(void) {
         && is(component, URLPATTERN_PATHNAME)
         && is(urlpattern_exec(&patterns, 0, url, length, "", 0, text, ROOM, &needed), URLPATTERN_DONE)
         && is(urlpattern_captures(&patterns, 0, url, length, "", 0, text, ROOM, spans, SPANS, &sizes), URLPATTERN_DONE)
-        && is(urlpattern_first_captures(&patterns, url, length, "", 0, &index, text, ROOM, spans, SPANS, &sizes), URLPATTERN_DONE);
+        && is(urlpattern_first_captures(&patterns, url, length, "", 0, &index, text, ROOM, spans, SPANS, &sizes), URLPATTERN_DONE)
+        && is(urlpattern_captures_of_path(&patterns, 3, path, path_length, text, ROOM, spans, SPANS, &sizes), URLPATTERN_DONE)
+        && is(urlpattern_captures_of_texts(&patterns, 0, url, length, &parts, text, ROOM, spans, SPANS, &sizes), URLPATTERN_DONE)
+        && is(urlpattern_first_captures_of_texts(&patterns, url, length, &parts, &index, text, ROOM, spans, SPANS, &sizes), URLPATTERN_DONE)
+        && is(urlpattern_first_captures_of_path(&patterns, path, path_length, &index, text, ROOM, spans, SPANS, &sizes), URLPATTERN_DONE);
+}
+
+static bool are_inits_matched(void) {
+    static const char init[] = "{\"pathname\":\"/x/b\",\"baseURL\":\"https://example.com\"}";
+    static urlpattern_span spans[SPANS];
+    const size_t length = sizeof init - 1;
+    urlpattern_sizes sizes;
+    size_t index = 0, needed = 0;
+    return is(urlpattern_captures_of_init(&patterns, 0, init, length, text, ROOM, spans, SPANS, &sizes), URLPATTERN_DONE)
+        && is(urlpattern_first_captures_of_init(&patterns, init, length, &index, text, ROOM, spans, SPANS, &sizes), URLPATTERN_DONE)
+        && is(urlpattern_exec_of_init(&patterns, 0, init, length, text, ROOM, &needed), URLPATTERN_DONE);
 }
 
 static bool are_linked(void) {
@@ -58,6 +75,8 @@ static bool are_linked(void) {
     size_t needed = 0;
     return is(urlpattern_link(&patterns, 0, groups, sizeof groups - 1, given, 2, text, ROOM, &needed), URLPATTERN_DONE)
         && is(urlpattern_link(&patterns, 0, groups, sizeof groups - 1, given, 1, text, ROOM, &needed), URLPATTERN_REFUSED)
+        && is(urlpattern_generate(&patterns, 0, URLPATTERN_PATHNAME, groups, sizeof groups - 1, given, 2, text, ROOM, &needed), URLPATTERN_DONE)
+        && is(urlpattern_generate(&patterns, 0, URLPATTERN_PATHNAME, groups, sizeof groups - 1, given, 1, text, ROOM, &needed), URLPATTERN_REFUSED)
         && is(urlpattern_group_name(&patterns, 0, URLPATTERN_PATHNAME, 0, text, ROOM, &needed), URLPATTERN_DONE)
         && is(urlpattern_component(&patterns, 0, URLPATTERN_PATHNAME, text, ROOM, &needed), URLPATTERN_DONE)
         && is(urlpattern_has_regexp_groups(&patterns, 0), URLPATTERN_DONE)
@@ -66,10 +85,19 @@ static bool are_linked(void) {
 }
 
 static bool are_compared(void) {
-    uint32_t component = 0;
-    return is(urlpattern_covers(&patterns, 0, &patterns, 2, &component), URLPATTERN_NO_MATCH)
+    urlpattern_component_number component = URLPATTERN_PROTOCOL;
+    size_t needed = 0;
+    return is(urlpattern_text(&patterns, 0, text, ROOM, &needed), URLPATTERN_DONE)
+        && is(urlpattern_text(&patterns, 3, text, ROOM, &needed), URLPATTERN_DONE)
+        && is(urlpattern_is_same(&patterns, 0, &others, 0), URLPATTERN_DONE)
+        && is(urlpattern_is_same(&patterns, 0, &patterns, 1), URLPATTERN_NO_MATCH)
+        && is(urlpattern_covers(&patterns, 0, &patterns, 2, &component), URLPATTERN_NO_MATCH)
         && is(urlpattern_covers(&patterns, 1, &others, 0, &component), URLPATTERN_UNKNOWN)
-        && is(urlpattern_covers(&patterns, 0, &others, 0, &component), URLPATTERN_DONE);
+        && is(urlpattern_covers(&patterns, 0, &others, 0, &component), URLPATTERN_DONE)
+        && is(urlpattern_counterexample(&patterns, 0, &patterns, 2, text, ROOM, &needed), URLPATTERN_DONE)
+        && is(urlpattern_counterexample(&patterns, 0, &others, 0, text, ROOM, &needed), URLPATTERN_NO_MATCH)
+        && is(urlpattern_overlaps(&patterns, 0, &others, 0, text, ROOM, &needed), URLPATTERN_DONE)
+        && is(urlpattern_overlaps(&patterns, 1, &patterns, 0, text, ROOM, &needed), URLPATTERN_UNKNOWN);
 }
 
 static bool are_diagnosed(void) {
@@ -78,6 +106,17 @@ static bool are_diagnosed(void) {
     size_t needed = 0;
     return is(urlpattern_diagnose(pattern, sizeof pattern - 1, "", 0, false, text, ROOM, &needed, &place), URLPATTERN_DONE)
         && is(urlpattern_diagnose_init(init, sizeof init - 1, false, text, ROOM, &needed, &place), URLPATTERN_DONE);
+}
+
+/* Whether another handle has the patterns until it is freed. */
+static bool are_shared(void) {
+    static const char url[] = "https://example.com/x/b";
+    const size_t length = sizeof url - 1;
+    bool is_shared = is(urlpattern_share(&patterns, &others), URLPATTERN_DONE)
+        && is(urlpattern_test(&others, 0, url, length, "", 0), URLPATTERN_DONE)
+        && is(urlpattern_add(&patterns, url, length, "", 0, false), URLPATTERN_SHARED);
+    urlpattern_free(&others);
+    return is_shared && is_appended(urlpattern_add(&patterns, url, length, "", 0, false));
 }
 
 /* How many patterns the handle has. Needs no memory. */
@@ -91,7 +130,7 @@ static size_t count(void) {
 
 int main(void) {
     (void)(is(urlpattern_version(), URLPATTERN_VERSION)
-           && are_appended() && are_matched() && are_linked() && are_compared() && are_diagnosed());
+           && are_appended() && are_matched() && are_inits_matched() && are_linked() && are_compared() && are_diagnosed() && are_shared());
     if (count() != appended) {
         outcome = WRONG;
     }

@@ -14,7 +14,7 @@ int main(int count, char **words) {
     urlpattern_place place;
     char text[4096];
     size_t length = 0;
-    uint32_t status = urlpattern_add(&patterns, pattern, strlen(pattern), "", 0, false);
+    urlpattern_status status = urlpattern_add(&patterns, pattern, strlen(pattern), "", 0, false);
     if (status == URLPATTERN_DONE) {
         status = urlpattern_exec(&patterns, 0, url, strlen(url), "", 0, text, sizeof text, &length);
         if (status == URLPATTERN_DONE) {
@@ -25,5 +25,5 @@ int main(int count, char **words) {
         fprintf(stderr, "bytes %zu to %zu: %.*s\n", place.start, place.end, (int)length, text);
     }
     urlpattern_free(&patterns);
-    return (int)status;
+    return status == URLPATTERN_DONE ? 0 : status == URLPATTERN_NO_MATCH ? 1 : (int)status;
 }

@@ -18,7 +18,7 @@ int main(int count, char **words) {
     urlpattern_span spans[SPANS];
     urlpattern_sizes sizes = { 0, 0 };
     char text[BYTES], name[BYTES];
-    uint32_t status = urlpattern_add(&patterns, pattern, strlen(pattern), "", 0, false);
+    urlpattern_status status = urlpattern_add(&patterns, pattern, strlen(pattern), "", 0, false);
     if (status == URLPATTERN_DONE) {
         status = urlpattern_captures(&patterns, 0, url, strlen(url), "", 0, text, sizeof text, spans, SPANS, &sizes);
     }
@@ -31,5 +31,5 @@ int main(int count, char **words) {
         }
     }
     urlpattern_free(&patterns);
-    return (int)status;
+    return status == URLPATTERN_DONE ? 0 : status == URLPATTERN_NO_MATCH ? 1 : (int)status;
 }

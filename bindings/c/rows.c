@@ -2,11 +2,13 @@
  *
  * A line has words, of which texts are hexadecimal, and `-` is no text. `add STATUS IGNORES PATTERN BASE` compiles a pattern into a new
  * handle, `init STATUS IGNORES JSON` an init, `more` and `more_init` another into the same, `other` and `other_init` one into another new
- * handle, `exec STATUS URL BASE JSON` matches with the first, `groups STATUS URL BASE GROUPS` writes its groups, `link STATUS TEXT GIVEN URL`
- * asks for a URL with groups, `text COMPONENT TEXT` reads a component, `custom STATUS` asks for a custom regular expression,
- * `meaning STATUS` asks whether each component has a meaning, `first STATUS URL BASE INDEX` finds the first match, and
- * `covers STATUS COMPONENT` compares the first pattern with the second of its handle, and with that of the other handle. The last line
- * counts the answers that are as they should be. Texts that are not UTF-8 come first.
+ * handle, `exec STATUS URL BASE JSON` matches with the first, `groups STATUS URL BASE GROUPS` writes its groups, `match_init STATUS INIT JSON GROUPS`
+ * does both with an init, `link STATUS TEXT GIVEN URL` asks for a URL with groups,
+ * `generate STATUS TEXT GIVEN MADE COMPONENT` for the text of a component, `text COMPONENT TEXT` reads a component, `whole STATUS IGNORES TEXT`
+ * the pattern as one text, `custom STATUS` asks for a custom regular expression, `meaning STATUS` asks whether each component has a meaning,
+ * `first STATUS URL BASE INDEX` and `first_init STATUS INIT INDEX` find the first match, and `covers STATUS COMPONENT OVERLAP` compares the first
+ * pattern with the second of its handle, and with that of the other handle: whether it covers it, and whether the two overlap. The last line counts the answers that are as they should be. A wanted status 0 is no
+ * match or no URL.
  *
  * A group of GROUPS is a byte 1, the digit of its component, its name, a byte 2, `+` with what it captured, if it took part, and a byte 3.
  * GIVEN has five numbers for each group, with commas between them.
@@ -58,6 +60,11 @@ static text text_of(char *word) {
     return made;
 }
 
+/* Whether a status is the wanted one. Rows do not tell a URL that is not matched from what is no URL. */
+static bool is_wanted(uint32_t status, uint32_t wanted) {
+    return status == wanted || (wanted == URLPATTERN_NO_MATCH && status == URLPATTERN_NO_URL);
+}
+
 static void compare(bool is_right, unsigned number, uint32_t status) {
     if (is_right) {
         passed++;
@@ -92,13 +99,13 @@ static void ask_exec(char **words, unsigned number) {
     uint32_t wanted = (uint32_t)atoi(words[1]), status;
     text url = text_of(words[2]), base = text_of(words[3]), json = text_of(words[4]);
     size_t needed = 0;
-    uint32_t component = COMPONENTS + 1;
+    urlpattern_component_number component = (urlpattern_component_number)(COMPONENTS + 1);
     memset(buffer, EDGE, json.length + 1);
     status = urlpattern_exec(&patterns, 0, url.bytes, url.length, base.bytes, base.length, buffer, sizeof buffer, &needed);
-    bool is_right = wanted == URLPATTERN_DONE ? is_written(status, needed, json) : status == wanted;
-    is_right &= urlpattern_test(&patterns, 0, url.bytes, url.length, base.bytes, base.length) == wanted;
-    is_right &= urlpattern_mismatch(&patterns, 0, url.bytes, url.length, base.bytes, base.length, &component) == wanted;
-    is_right &= wanted == URLPATTERN_DONE ? component == COMPONENTS : component <= COMPONENTS;
+    bool is_right = wanted == URLPATTERN_DONE ? is_written(status, needed, json) : is_wanted(status, wanted);
+    is_right &= urlpattern_test(&patterns, 0, url.bytes, url.length, base.bytes, base.length) == status;
+    is_right &= urlpattern_mismatch(&patterns, 0, url.bytes, url.length, base.bytes, base.length, &component) == status;
+    is_right &= (component < URLPATTERN_NO_COMPONENT) == (status == URLPATTERN_NO_MATCH) && component <= URLPATTERN_NO_COMPONENT;
     if (wanted == URLPATTERN_DONE) {
         buffer[0] = EDGE;
         status = urlpattern_exec(&patterns, 0, url.bytes, url.length, base.bytes, base.length, buffer, json.length - 1, &needed);
@@ -121,8 +128,8 @@ static bool are_measured(text url, text base, urlpattern_sizes sizes) {
         is_right &= needed.bytes == sizes.bytes && needed.spans == sizes.spans;
     }
     if (sizes.spans > 0) {
-        spans[sizes.spans - 1].component = COMPONENTS;
-        is_right &= captures(url, base, ROOM, sizes.spans - 1, &again) == URLPATTERN_TOO_SMALL && spans[sizes.spans - 1].component == COMPONENTS;
+        spans[sizes.spans - 1].component = URLPATTERN_NO_COMPONENT;
+        is_right &= captures(url, base, ROOM, sizes.spans - 1, &again) == URLPATTERN_TOO_SMALL && spans[sizes.spans - 1].component == URLPATTERN_NO_COMPONENT;
         is_right &= again.bytes == sizes.bytes && again.spans == sizes.spans;
     }
     return is_right;
@@ -152,23 +159,47 @@ static bool is_among(text wanted, const urlpattern_span *span) {
     return false;
 }
 
+/* Whether the groups that are written are those that are wanted. */
+static bool are_written(text wanted, urlpattern_sizes sizes) {
+    size_t count = 0, end = 0;
+    bool is_right = true;
+    for (size_t at = 0; at < wanted.length; at++) {
+        count += wanted.bytes[at] == END;
+    }
+    for (size_t at = 0; is_right && at < sizes.spans; at++) {
+        is_right = spans[at].start == end && is_among(wanted, &spans[at]);
+        end += spans[at].length;
+    }
+    return is_right && sizes.spans == count && end == sizes.bytes;
+}
+
 static void ask_groups(char **words, unsigned number) {
     uint32_t wanted = (uint32_t)atoi(words[1]);
     text url = text_of(words[2]), base = text_of(words[3]), groups = text_of(words[4]);
     urlpattern_sizes sizes = { 0, 0 };
-    size_t count = 0, end = 0;
     uint32_t status = captures(url, base, ROOM, SPANS, &sizes);
-    bool is_right = status == wanted;
-    for (size_t at = 0; at < groups.length; at++) {
-        count += groups.bytes[at] == END;
-    }
+    bool is_right = is_wanted(status, wanted);
     if (is_right && status == URLPATTERN_DONE) {
-        is_right = sizes.spans == count;
-        for (size_t at = 0; is_right && at < sizes.spans; at++) {
-            is_right = spans[at].start == end && is_among(groups, &spans[at]);
-            end += spans[at].length;
-        }
-        is_right = is_right && end == sizes.bytes && are_measured(url, base, sizes);
+        is_right = are_written(groups, sizes) && are_measured(url, base, sizes);
+    }
+    compare(is_right, number, status);
+}
+
+/* Whether the match of an init is written, as JSON and as groups, which are also those of the first match. */
+static void ask_match_init(char **words, unsigned number) {
+    uint32_t wanted = (uint32_t)atoi(words[1]), status, first;
+    text init = text_of(words[2]), json = text_of(words[3]), groups = text_of(words[4]);
+    urlpattern_sizes sizes = { 0, 0 }, needed = { 0, 0 };
+    size_t length = 0, index = 9;
+    memset(buffer, EDGE, json.length + 1);
+    status = urlpattern_exec_of_init(&patterns, 0, init.bytes, init.length, buffer, sizeof buffer, &length);
+    bool is_right = wanted == URLPATTERN_DONE ? is_written(status, length, json) : is_wanted(status, wanted);
+    first = urlpattern_first_captures_of_init(&patterns, init.bytes, init.length, &index, buffer, ROOM, spans, SPANS, &sizes);
+    is_right &= first == status && index == (status == URLPATTERN_DONE ? 0 : 9);
+    is_right &= urlpattern_captures_of_init(&patterns, 0, init.bytes, init.length, buffer, ROOM, spans, SPANS, &needed) == status;
+    if (is_right && status == URLPATTERN_DONE) {
+        is_right = are_written(groups, needed) && sizes.bytes == needed.bytes && sizes.spans == needed.spans;
+        is_right &= urlpattern_exec_of_init(&patterns, 0, init.bytes, init.length, buffer, json.length - 1, &length) == URLPATTERN_TOO_SMALL;
     }
     compare(is_right, number, status);
 }
@@ -183,29 +214,35 @@ static size_t given_of(const char *word) {
             numbers[at] = strtoul(word, &end, 10);
             word = end[0] ? end + 1 : end;
         }
-        given[count++] = (urlpattern_given){ (uint32_t)numbers[0], numbers[1], numbers[2], numbers[3], numbers[4] };
+        given[count++] = (urlpattern_given){ (urlpattern_component_number)numbers[0], numbers[1], numbers[2], numbers[3], numbers[4] };
     }
     return count;
 }
 
-static uint32_t link_of(text groups, size_t count, size_t room, size_t *needed) {
+/* The text of a component with the given groups, or the URL of the pattern. */
+static uint32_t text_with(uint32_t component, text groups, size_t count, size_t room, size_t *needed) {
+    if (component < COMPONENTS) {
+        urlpattern_component_number number = (urlpattern_component_number)component;
+        return urlpattern_generate(&patterns, 0, number, groups.bytes, groups.length, given, count, buffer, room, needed);
+    }
     return urlpattern_link(&patterns, 0, groups.bytes, groups.length, given, count, buffer, room, needed);
 }
 
-/* Whether the URL is written, or a reason why there is none; and whether a byte less is too little, and a part past the text is refused. */
-static void ask_link(char **words, unsigned number) {
-    uint32_t wanted = (uint32_t)atoi(words[1]), status;
+/* Whether the URL or the text is written, or a reason why there is none; and whether a byte less is too little, and a part past the text is
+ * refused. A text of no bytes needs no room. */
+static void ask_made(char **words, unsigned number) {
+    uint32_t wanted = (uint32_t)atoi(words[1]), of = words[5][0] == '-' ? COMPONENTS : (uint32_t)atoi(words[5]), status;
     text groups = text_of(words[2]), url = text_of(words[4]);
     size_t count = given_of(words[3]), needed = 0, again = 0;
     memset(buffer, EDGE, url.length + 1);
-    status = link_of(groups, count, sizeof buffer, &needed);
+    status = text_with(of, groups, count, sizeof buffer, &needed);
     bool is_right = wanted == URLPATTERN_DONE ? is_written(status, needed, url) : status == wanted && needed > 0;
     buffer[0] = EDGE;
-    is_right &= needed > 0 && link_of(groups, count, needed - 1, &again) == URLPATTERN_TOO_SMALL && again == needed && buffer[0] == EDGE;
-    given[count] = (urlpattern_given){ COMPONENTS - 1, groups.length, 0, groups.length, 1 };
-    is_right &= link_of(groups, count + 1, sizeof buffer, &again) == URLPATTERN_NO_PATTERN && buffer[0] == EDGE;
-    given[count] = (urlpattern_given){ COMPONENTS, 0, 0, 0, 0 };
-    is_right &= link_of(groups, count + 1, sizeof buffer, &again) == URLPATTERN_NO_PATTERN && buffer[0] == EDGE;
+    is_right &= needed == 0 || (text_with(of, groups, count, needed - 1, &again) == URLPATTERN_TOO_SMALL && again == needed && buffer[0] == EDGE);
+    given[count] = (urlpattern_given){ URLPATTERN_HASH, groups.length, 0, groups.length, 1 };
+    is_right &= text_with(of, groups, count + 1, sizeof buffer, &again) == URLPATTERN_NO_PATTERN && buffer[0] == EDGE;
+    given[count] = (urlpattern_given){ URLPATTERN_NO_COMPONENT, 0, 0, 0, 0 };
+    is_right &= text_with(of, groups, count + 1, sizeof buffer, &again) == URLPATTERN_NO_PATTERN && buffer[0] == EDGE;
     compare(is_right, number, status);
 }
 
@@ -213,8 +250,26 @@ static void ask_text(char **words, unsigned number) {
     text wanted = text_of(words[2]);
     size_t needed = 0;
     memset(buffer, EDGE, wanted.length + 1);
-    uint32_t status = urlpattern_component(&patterns, 0, (uint32_t)atoi(words[1]), buffer, sizeof buffer, &needed);
+    uint32_t status = urlpattern_component(&patterns, 0, (urlpattern_component_number)atoi(words[1]), buffer, sizeof buffer, &needed);
     compare(is_written(status, needed, wanted), number, status);
+}
+
+/* Whether the pattern is written as one text, or has none; and whether what is compiled of the text is the same pattern. */
+static void ask_whole(char **words, unsigned number) {
+    uint32_t wanted = (uint32_t)atoi(words[1]);
+    text whole = text_of(words[3]);
+    size_t needed = 0;
+    memset(buffer, EDGE, whole.length + 1);
+    uint32_t status = urlpattern_text(&patterns, 0, buffer, sizeof buffer, &needed);
+    bool is_right = wanted == URLPATTERN_DONE ? is_written(status, needed, whole) : status == wanted;
+    if (is_right && status == URLPATTERN_DONE) {
+        urlpattern_free(&others);
+        is_right = urlpattern_add(&others, whole.bytes, whole.length, "", 0, words[2][0] == '1') == status;
+        is_right &= urlpattern_is_same(&patterns, 0, &others, 0) == status && urlpattern_is_same(&patterns, 0, &patterns, 0) == status;
+        is_right &= urlpattern_text(&patterns, 0, buffer, needed - 1, &needed) == URLPATTERN_TOO_SMALL && needed == whole.length;
+    }
+    is_right &= urlpattern_text(&patterns, 1, buffer, sizeof buffer, &needed) == URLPATTERN_NO_PATTERN;
+    compare(is_right, number, status);
 }
 
 static void ask_custom(char **words, unsigned number) {
@@ -237,7 +292,7 @@ static bool is_same_first(text url, text base, uint32_t wanted, size_t wanted_in
     bool is_right = wanted != URLPATTERN_DONE || status == wanted;
     status = urlpattern_first_captures(&patterns, url.bytes, url.length, base.bytes, base.length, &index, buffer, ROOM, spans, SPANS, &needed);
     if (wanted != URLPATTERN_DONE || status != wanted) {
-        return status == wanted;
+        return is_wanted(status, wanted);
     }
     return is_right && index == wanted_index && needed.bytes == sizes.bytes && needed.spans == sizes.spans && memcmp(buffer, group, sizes.bytes) == 0;
 }
@@ -247,15 +302,39 @@ static void ask_first(char **words, unsigned number) {
     text url = text_of(words[2]), base = text_of(words[3]);
     size_t index = 0, wanted_index = (size_t)atoi(words[4]);
     uint32_t status = urlpattern_first(&patterns, url.bytes, url.length, base.bytes, base.length, &index);
-    bool is_right = status == wanted && (status != URLPATTERN_DONE || index == wanted_index);
+    bool is_right = is_wanted(status, wanted) && (status != URLPATTERN_DONE || index == wanted_index);
     compare(is_right && is_same_first(url, base, wanted, wanted_index), number, status);
+}
+
+static void ask_first_init(char **words, unsigned number) {
+    uint32_t wanted = (uint32_t)atoi(words[1]);
+    text init = text_of(words[2]);
+    urlpattern_sizes sizes = { 0, 0 };
+    size_t index = 0;
+    uint32_t status = urlpattern_first_captures_of_init(&patterns, init.bytes, init.length, &index, buffer, ROOM, spans, SPANS, &sizes);
+    compare(is_wanted(status, wanted) && (status != URLPATTERN_DONE || index == (size_t)atoi(words[3])), number, status);
 }
 
 /* Whether a pattern covers the asked one. Returns the status, or `NO_STATUS` if another component is written than the wanted one. */
 static uint32_t covers(size_t index, urlpattern_list *list, size_t asked, uint32_t wanted) {
-    uint32_t component = COMPONENTS + 1;
+    urlpattern_component_number component = (urlpattern_component_number)(COMPONENTS + 1);
     uint32_t status = urlpattern_covers(&patterns, index, list, asked, &component);
     return component == wanted ? status : NO_STATUS;
+}
+
+/* Whether texts are written of the patterns at two indices, if there are some, and nothing else is. */
+static bool are_shown(size_t index, urlpattern_list *list, size_t other, uint32_t covering, uint32_t overlap) {
+    uint32_t shown = covering == URLPATTERN_UNKNOWN ? covering : covering == URLPATTERN_DONE ? URLPATTERN_NO_MATCH : URLPATTERN_DONE;
+    size_t needed = 0, again = 0;
+    buffer[0] = EDGE;
+    bool is_right = urlpattern_counterexample(&patterns, index, list, other, buffer, sizeof buffer, &needed) == shown;
+    is_right &= (buffer[0] == '{') == (shown == URLPATTERN_DONE);
+    if (is_right && shown == URLPATTERN_DONE) {
+        is_right &= urlpattern_counterexample(&patterns, index, list, other, group, needed - 1, &again) == URLPATTERN_TOO_SMALL && again == needed;
+    }
+    buffer[0] = EDGE;
+    is_right &= urlpattern_overlaps(&patterns, index, list, other, buffer, sizeof buffer, &needed) == overlap;
+    return is_right && (buffer[0] == '{') == (overlap == URLPATTERN_DONE);
 }
 
 /* Whether both ways of comparing give the answer, and report indices that have no pattern; and whether the patterns are as they were. */
@@ -267,6 +346,7 @@ static void ask_covers(char **words, unsigned number) {
     is_right &= covers(2, &patterns, 0, COMPONENTS) == URLPATTERN_NO_PATTERN && covers(0, &patterns, 2, COMPONENTS) == URLPATTERN_NO_PATTERN;
     is_right &= covers(2, &others, 0, COMPONENTS) == URLPATTERN_NO_PATTERN && covers(0, &others, 1, COMPONENTS) == URLPATTERN_NO_PATTERN;
     is_right &= covers(0, &none, 0, COMPONENTS) == URLPATTERN_NO_PATTERN && covers(0, &others, 0, component) == wanted;
+    is_right &= are_shown(0, &others, 0, wanted, (uint32_t)atoi(words[3])) && are_shown(0, &patterns, 1, wanted, (uint32_t)atoi(words[3]));
     compare(is_right, number, status);
 }
 
@@ -283,97 +363,27 @@ static void ask_compiled(char **words, unsigned number) {
     compare(status == (uint32_t)atoi(words[1]), number, status);
 }
 
+/* What a word asks. Any other word compiles. */
+static const struct {
+    const char *word;
+    void (*ask)(char **words, unsigned number);
+} questions[] = {
+    { "exec", ask_exec },     { "groups", ask_groups },   { "match_init", ask_match_init }, { "link", ask_made },
+    { "text", ask_text },     { "whole", ask_whole },     { "custom", ask_custom },         { "meaning", ask_meaning },
+    { "first", ask_first },   { "covers", ask_covers },   { "first_init", ask_first_init },     { "generate", ask_made },
+};
+
 static void ask(char **words, unsigned number) {
-    if (strcmp(words[0], "exec") == 0) {
-        ask_exec(words, number);
-    } else if (strcmp(words[0], "groups") == 0) {
-        ask_groups(words, number);
-    } else if (strcmp(words[0], "link") == 0) {
-        ask_link(words, number);
-    } else if (strcmp(words[0], "text") == 0) {
-        ask_text(words, number);
-    } else if (strcmp(words[0], "custom") == 0) {
-        ask_custom(words, number);
-    } else if (strcmp(words[0], "meaning") == 0) {
-        ask_meaning(words, number);
-    } else if (strcmp(words[0], "first") == 0) {
-        ask_first(words, number);
-    } else if (strcmp(words[0], "covers") == 0) {
-        ask_covers(words, number);
-    } else {
-        ask_compiled(words, number);
+    for (size_t at = 0; at < sizeof questions / sizeof questions[0]; at++) {
+        if (strcmp(words[0], questions[at].word) == 0) {
+            questions[at].ask(words, number);
+            return;
+        }
     }
-}
-
-/* Whether each text that is not UTF-8 is reported, and first that there is no such pattern. */
-static void ask_bytes(void) {
-    static const char url[] = "https://example.com/a", bad[] = "\xc3";
-    static const char bad_json[] = "{\"hash\":\"\xc3\"}";
-    const size_t length = sizeof url - 1, json = sizeof bad_json - 1;
-    size_t number = 0;
-    uint32_t component = 0;
-    urlpattern_sizes sizes;
-    urlpattern_place place;
-    urlpattern_list none = URLPATTERN_EMPTY;
-    uint32_t status = urlpattern_add(&patterns, url, length, "", 0, false);
-    compare(status == URLPATTERN_DONE, 0, status);
-    uint32_t statuses[] = {
-        urlpattern_add(&patterns, bad, 1, "", 0, false),
-        urlpattern_add(&patterns, "/a", 2, bad, 1, false),
-        urlpattern_add_init(&patterns, bad_json, json, false),
-        urlpattern_test(&patterns, 0, bad, 1, "", 0),
-        urlpattern_test(&patterns, 0, url, length, bad, 1),
-        urlpattern_first(&patterns, bad, 1, "", 0, &number),
-        urlpattern_mismatch(&patterns, 0, bad, 1, "", 0, &component),
-        urlpattern_exec(&patterns, 0, bad, 1, "", 0, buffer, ROOM, &number),
-        urlpattern_captures(&patterns, 0, bad, 1, "", 0, buffer, ROOM, spans, SPANS, &sizes),
-        urlpattern_first_captures(&patterns, bad, 1, "", 0, &number, buffer, ROOM, spans, SPANS,
-                                  &sizes),
-        urlpattern_diagnose(bad, 1, "", 0, false, buffer, ROOM, &number, &place),
-        urlpattern_diagnose("(", 1, bad, 1, false, buffer, ROOM, &number, &place),
-        urlpattern_diagnose_init(bad_json, json, false, buffer, ROOM, &number, &place),
-    };
-    for (size_t at = 0; at < sizeof statuses / sizeof statuses[0]; at++) {
-        compare(statuses[at] == URLPATTERN_NOT_UTF8, 0, statuses[at]);
-    }
-    compare(component == COMPONENTS, 0, URLPATTERN_NOT_UTF8);
-    status = urlpattern_test(&patterns, 1, bad, 1, "", 0);
-    compare(status == URLPATTERN_NO_PATTERN, 0, status);
-    status = urlpattern_first(&none, bad, 1, "", 0, &number);
-    compare(status == URLPATTERN_NO_PATTERN, 0, status);
-}
-
-static uint32_t link_with(const char *groups, size_t length, urlpattern_given part,
-                          size_t *needed) {
-    return urlpattern_link(&patterns, 0, groups, length, &part, 1, buffer, ROOM, needed);
-}
-
-/* Whether each part of the text of a link has to be UTF-8, and the text as a whole need not be. */
-static void ask_parts(void) {
-    static const char pattern[] = "https://example.com/:id", groups[] = "id\xc3\xa9\xff";
-    static const urlpattern_given whole = { URLPATTERN_PATHNAME, 0, 2, 2, 2 };
-    static const urlpattern_given cut = { URLPATTERN_PATHNAME, 0, 2, 2, 1 };
-    static const urlpattern_given bad = { URLPATTERN_PATHNAME, 0, 2, 4, 1 };
-    static char url[] = "https://example.com/%C3%A9";
-    text wanted = { url, sizeof url - 1 };
-    size_t needed = 0, length = sizeof groups - 1;
-    urlpattern_free(&patterns);
-    uint32_t status = urlpattern_add(&patterns, pattern, sizeof pattern - 1, "", 0, false);
-    compare(status == URLPATTERN_DONE, 0, status);
-    memset(buffer, EDGE, sizeof url);
-    status = link_with(groups, length, whole, &needed);
-    compare(is_written(status, needed, wanted), 0, status);
-    status = link_with(groups, length, cut, &needed);
-    compare(status == URLPATTERN_NO_PATTERN, 0, status);
-    status = link_with(groups, length, bad, &needed);
-    compare(status == URLPATTERN_NO_PATTERN, 0, status);
-    urlpattern_free(&patterns);
+    ask_compiled(words, number);
 }
 
 int main(void) {
-    compare(urlpattern_version() == URLPATTERN_VERSION, 0, URLPATTERN_DONE);
-    ask_bytes();
-    ask_parts();
     for (unsigned number = 1; fgets(line, sizeof line, stdin); number++) {
         char *words[WORDS] = { "", "", "-", "-", "-", "-", "-", "-" };
         int count = 0;

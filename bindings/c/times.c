@@ -54,5 +54,5 @@ int main(int words, char **word) {
     }
     urlpattern_free(&patterns);
     printf("%.1f\n", least);
-    return (int)status;
+    return status == URLPATTERN_DONE ? 0 : status == URLPATTERN_NO_MATCH ? 1 : (int)status;
 }

@@ -1,46 +1,52 @@
-/* URL patterns, as those of browsers: texts such as "https://example.com/users/:id" that say which
- * URLs are meant, and name their pieces. The functions are those of the library `urlpattern`, whose
- * answers are proved.
+/* URL patterns, as those of browsers: texts such as "https://example.com/users/:id" that say
+ * which URLs are meant, and name their pieces. The functions are those of the library
+ * `urlpattern`, whose answers are proved.
  *
  * A caller guarantees:
  *
- * - Each text is a pointer and a number of bytes that may be read there. The pointer is not null,
- *   even if there are no bytes. So it is with groups that are given, a pointer and a number of
- *   elements.
- * - Each other pointer leads to a value of its type that may be written, and that nothing else uses
- *   during the call; a buffer to as many bytes, and an array to as many elements, as its size says.
- *   Neither pointer is null, even if the size is 0. No two arguments overlap, but for texts and for
- *   the two handles of `urlpattern_covers`.
+ * - Each text is a pointer and a number of bytes that may be read there; so are groups that are
+ *   given, a pointer and a number of elements. A buffer leads to as many bytes, and an array to
+ *   as many elements, as its size says, which may be written. Each of these pointers may be null
+ *   if its size is 0: the text is then empty.
+ * - Each other pointer leads to a value of its type that may be written, and that nothing else
+ *   uses during the call. No two arguments overlap, but for texts and for the two handles of
+ *   `urlpattern_covers` and `urlpattern_is_same`.
  * - A handle holds zeros (`URLPATTERN_EMPTY`) before its first call. After that only these
- *   functions write it, it is not copied, and one call at a time has it. Each call of a handle is
- *   made by the same thread: that another one may make it is not proved.
- * - `malloc`, `realloc` and `free` come from one allocator, and align a block to each power of two
- *   up to 16 that divides its size.
+ *   functions write it, and it is not copied: `urlpattern_share` makes another handle.
+ * - One call at a time has a handle. Another thread may make the next one, if the program orders
+ *   the two: by a lock, by the start or the end of a thread, or by an atomic.
+ * - `malloc`, `realloc` and `free` come from one allocator, may be called from each thread that
+ *   calls these functions, and align a block to each power of two up to 16 that divides its size.
  * - No call is made from a signal handler, nor from the forked child of a process with threads.
  *
  * No function keeps a pointer that it was given, but for the handle's own memory. None has global
  * state, prints anything or ends the program.
  *
- * No URL. NO_MATCH says that a URL does not match, or that a text is no URL, and a URL or a base
- * URL of 16 MB (2^24 bytes) or more may count as none. So a program that denies what matches does
- * not permit a text for NO_MATCH alone, nor for any other status, but only if text and base also
- * have less than 16 MB, and `urlpattern_mismatch`, of whichever pattern, reports DONE, or a
- * component other than URLPATTERN_NO_COMPONENT: then the text is a URL.
+ * Threads. To match in several threads at once, give each a handle of its own to the same
+ * patterns, by `urlpattern_share`. Each handle is freed by itself, in any order and by any
+ * thread, and the last one frees the patterns.
+ *
+ * Rules. A program that permits what matches does so for DONE alone, which is not 0, so that a
+ * variable of zeros permits nothing. A program that denies what matches permits the rest for
+ * NO_MATCH alone: the text is a URL, a path or an init, and is not matched. No other status says
+ * so.
  *
  * Base URLs. A base URL does not tie a URL to its host. Under `https://example.com/` the text
  * `//other.com/x` is the URL `https://other.com/x`, also with backslashes, and an absolute URL is
- * itself.
+ * itself. What comes as the path of a request is matched as a path, by
+ * `urlpattern_captures_of_path` or `urlpattern_first_captures_of_path`.
  *
- * Bytes. A URL, a base URL, a pattern or JSON that is not UTF-8 gets NOT_UTF8; NO_PATTERN comes
- * before that. Which status such bytes get is tested, not proved. The text of `urlpattern_link`
- * need not be UTF-8, but each part of it that is given has to be, or the status is NO_PATTERN.
+ * Bytes. A URL, a base URL, a path, a pattern or JSON that is not UTF-8 gets NOT_UTF8; NO_PATTERN
+ * and TOO_LONG come before that. Which status such bytes get is tested, not proved. The text of
+ * `urlpattern_link` need not be UTF-8, but each part of it that is given has to be, or the status
+ * is NO_PATTERN.
  *
  * Buffers. A text is written to the start of a buffer, without a byte 0 after it, and the rest of
- * the buffer is as it was; `needed` is how many bytes the text has. For TOO_SMALL `needed` is that
- * too, and the buffer is as it was. For each other status the buffer is as it was, and `needed` is
- * unspecified. So it is of each call but `urlpattern_captures` and `urlpattern_first_captures`:
- * for TOO_SMALL their buffer and array are unspecified, for OUT_OF_MEMORY `needed` and `index` too,
- * but nothing is written past the sizes.
+ * the buffer is as it was; `needed` is how many bytes the text has. For TOO_SMALL `needed` is
+ * that too, and the buffer is as it was. For each other status the buffer is as it was, and
+ * `needed` is unspecified. So it is of each call but those that write captures: for TOO_SMALL
+ * their buffer and array are unspecified, for OUT_OF_MEMORY `needed` and `index` too, but nothing
+ * is written past the sizes.
  */
 #ifndef URLPATTERN_H
 #define URLPATTERN_H
@@ -54,28 +60,35 @@ extern "C" {
 #endif
 
 /* The version of this header: 1,000 times the first number, and the second. */
-#define URLPATTERN_VERSION 1000
+#define URLPATTERN_VERSION 2000
 
-/* The version of the library, written as that of the header. */
+/* The version of the library, written as that of the header. A library of another first number has
+ * other statuses, and its handles are not those of this header. */
 uint32_t urlpattern_version(void);
 
 /* What a call reports. */
-enum urlpattern_status {
-    URLPATTERN_DONE = 0,          /* it is done; of a match: there is one */
-    URLPATTERN_NO_MATCH = 1,      /* no match, or the text counts as no URL */
-    URLPATTERN_NOT_UTF8 = 2,      /* a text is not UTF-8 */
-    URLPATTERN_REFUSED = 3,       /* a pattern is refused; of `urlpattern_link`: there is no link,
-                                   * and the reason is written; no other call that takes a handle
-                                   * and an index reports it */
-    URLPATTERN_OUT_OF_MEMORY = 4, /* memory ran out; the patterns are as they were */
-    URLPATTERN_NO_PATTERN = 5,    /* no pattern of this index, no component or group of a number;
-                                   * of `urlpattern_link` also: a part that is given is no text */
-    URLPATTERN_TOO_SMALL = 6,     /* too little room; `needed` has the size that is needed */
-    URLPATTERN_UNKNOWN = 7        /* it is not known whether a pattern covers another one */
-};
+typedef enum urlpattern_status {
+    URLPATTERN_NO_MATCH = 0,      /* no match */
+    URLPATTERN_DONE = 1,          /* it is done; of a match: there is one */
+    URLPATTERN_NO_URL = 2,        /* a text or an init is no URL, or its base is none */
+    URLPATTERN_NO_PATH = 3,       /* a text is no path: it does not begin with `/`, or has a `?`, a
+                                   * `#` or a line feed */
+    URLPATTERN_TOO_LONG = 4,      /* a URL or a base URL has 16 MB (2^24 bytes) or more */
+    URLPATTERN_NOT_UTF8 = 5,      /* a text is not UTF-8 */
+    URLPATTERN_REFUSED = 6,       /* a pattern is refused, or JSON is no init; of
+                                   * `urlpattern_link` and `urlpattern_generate`: there is no
+                                   * text, and the reason is written */
+    URLPATTERN_OUT_OF_MEMORY = 7, /* memory ran out; the patterns are as they were */
+    URLPATTERN_NO_PATTERN = 8,    /* no pattern of this index, no component or group of a number;
+                                   * of `urlpattern_link` and `urlpattern_generate` also: a part
+                                   * that is given is no text */
+    URLPATTERN_TOO_SMALL = 9,     /* too little room; `needed` has the size that is needed */
+    URLPATTERN_UNKNOWN = 10,      /* it is not known whether a pattern covers another one */
+    URLPATTERN_SHARED = 11        /* another handle has the same patterns, so that none is added */
+} urlpattern_status;
 
-/* The number of a component. Functions take and write it as a `uint32_t`. */
-enum urlpattern_component_number {
+/* The number of a component. */
+typedef enum urlpattern_component_number {
     URLPATTERN_PROTOCOL = 0,
     URLPATTERN_USERNAME = 1,
     URLPATTERN_PASSWORD = 2,
@@ -85,7 +98,7 @@ enum urlpattern_component_number {
     URLPATTERN_SEARCH = 6,
     URLPATTERN_HASH = 7,
     URLPATTERN_NO_COMPONENT = 8 /* is written where there is no component to name */
-};
+} urlpattern_component_number;
 
 /* Which text a place lies in, as a `uint32_t`. */
 enum urlpattern_subject {
@@ -97,66 +110,73 @@ enum urlpattern_subject {
 /* A handle: patterns in their order, as the routes of a router, each named by its index from 0
  * on. One pattern is a list of one. */
 typedef struct urlpattern_list {
-    bool is_made;
+    uint32_t made_by; /* the version of the library, if the handle has patterns */
     void *at;
 } urlpattern_list;
 
 /* What a handle is before its first call, and after it is freed. It has no pattern, and no
- * memory. */
-#define URLPATTERN_EMPTY { false, NULL }
+ * memory. A handle that a library of another version made counts as empty too. */
+#define URLPATTERN_EMPTY { 0, NULL }
 
 /* Compiles a constructor string, and appends the pattern. The base URL is what the string
- * inherits from; no bytes: there is none. With `ignore_case` the path, the query and the
- * fragment are matched without regard to the case of ASCII letters.
- * DONE, NOT_UTF8, REFUSED (`urlpattern_diagnose` says why), or OUT_OF_MEMORY; but for DONE, the
- * patterns are as they were. */
-uint32_t urlpattern_add(urlpattern_list *patterns, const char *text, size_t length,
-                        const char *base, size_t base_length, bool ignore_case);
+ * inherits from; no bytes: there is none. With `ignore_case` the path, the query and the fragment
+ * are matched without regard to the case of ASCII letters.
+ * DONE, NOT_UTF8, REFUSED (`urlpattern_diagnose` says why), OUT_OF_MEMORY, or SHARED; but for
+ * DONE, the patterns are as they were. */
+urlpattern_status urlpattern_add(urlpattern_list *patterns, const char *text, size_t length,
+                                 const char *base, size_t base_length, bool ignore_case);
 
 /* Compiles an init, and appends the pattern. The init is an object of JSON with some of
  * `protocol`, `username`, `password`, `hostname`, `port`, `pathname`, `search`, `hash` and
  * `baseURL`, each a text or null, as browsers take it: any other key is passed over, so that
  * `{"path":"/x"}` is the pattern that matches every URL.
  * DONE, NOT_UTF8, REFUSED (`urlpattern_diagnose_init` says why, unless the JSON is no such
- * object or the base URL is refused), or OUT_OF_MEMORY; but for DONE, the patterns are as they
- * were. */
-uint32_t urlpattern_add_init(urlpattern_list *patterns, const char *json, size_t length,
-                             bool ignore_case);
+ * object or the base URL is refused), OUT_OF_MEMORY, or SHARED; but for DONE, the patterns are as
+ * they were. */
+urlpattern_status urlpattern_add_init(urlpattern_list *patterns, const char *json, size_t length,
+                                      bool ignore_case);
 
-/* Frees the patterns. The handle is empty again, so that it may be used, or freed once more. */
+/* Frees the patterns, unless another handle has them. The handle is empty again, so that it may be
+ * used, or freed once more. */
 void urlpattern_free(urlpattern_list *patterns);
+
+/* Gives another handle the same patterns, in the memory that they have. What the other one had is
+ * freed, also if there are no patterns to give. As long as both have them, none is added to either,
+ * and each frees them by itself. The two are never the same handle.
+ * DONE, or OUT_OF_MEMORY: both handles are as they were. */
+urlpattern_status urlpattern_share(urlpattern_list *patterns, urlpattern_list *other);
 
 /* Whether the pattern of this index matches a URL, which may be relative to a base URL; no
  * bytes: there is none.
- * DONE (a match), NO_MATCH, NOT_UTF8, OUT_OF_MEMORY, or NO_PATTERN. */
-uint32_t urlpattern_test(urlpattern_list *patterns, size_t index, const char *url, size_t length,
-                         const char *base, size_t base_length);
+ * DONE (a match), NO_MATCH, NO_URL, TOO_LONG, NOT_UTF8, OUT_OF_MEMORY, or NO_PATTERN. */
+urlpattern_status urlpattern_test(urlpattern_list *patterns, size_t index, const char *url,
+                                  size_t length, const char *base, size_t base_length);
 
 /* Finds the first pattern that matches a URL, and writes its index.
- * DONE, NO_MATCH, NOT_UTF8, OUT_OF_MEMORY, or NO_PATTERN (none is there); but for DONE,
- * `index` is as it was. */
-uint32_t urlpattern_first(urlpattern_list *patterns, const char *url, size_t length,
-                          const char *base, size_t base_length, size_t *index);
+ * DONE, NO_MATCH, NO_URL, TOO_LONG, NOT_UTF8, OUT_OF_MEMORY, or NO_PATTERN (none is there); but
+ * for DONE, `index` is as it was. */
+urlpattern_status urlpattern_first(urlpattern_list *patterns, const char *url, size_t length,
+                                   const char *base, size_t base_length, size_t *index);
 
 /* Whether the pattern of this index matches a URL, and if not, which component is the first that
  * does not: `component` is its number.
- * DONE (a match), NO_MATCH, NOT_UTF8, OUT_OF_MEMORY, or NO_PATTERN. For NO_MATCH the component
- * URLPATTERN_NO_COMPONENT says that the text counts as no URL; the other statuses write it too. */
-uint32_t urlpattern_mismatch(urlpattern_list *patterns, size_t index,
-                             const char *url, size_t length, const char *base, size_t base_length,
-                             uint32_t *component);
+ * DONE (a match), NO_MATCH, NO_URL, TOO_LONG, NOT_UTF8, OUT_OF_MEMORY, or NO_PATTERN. But for
+ * NO_MATCH the component is URLPATTERN_NO_COMPONENT. */
+urlpattern_status urlpattern_mismatch(urlpattern_list *patterns, size_t index, const char *url,
+                                      size_t length, const char *base, size_t base_length,
+                                      urlpattern_component_number *component);
 
 /* Writes the match of a URL as JSON, in the shape of a browser's `exec`: an object with `input`
  * and `groups` of each component. A group that took no part is null. There is no white space
  * between tokens.
- * DONE, NO_MATCH, NOT_UTF8, OUT_OF_MEMORY, NO_PATTERN, or TOO_SMALL. */
-uint32_t urlpattern_exec(urlpattern_list *patterns, size_t index, const char *url, size_t length,
-                         const char *base, size_t base_length,
-                         char *buffer, size_t room, size_t *needed);
+ * DONE, NO_MATCH, NO_URL, TOO_LONG, NOT_UTF8, OUT_OF_MEMORY, NO_PATTERN, or TOO_SMALL. */
+urlpattern_status urlpattern_exec(urlpattern_list *patterns, size_t index, const char *url,
+                                  size_t length, const char *base, size_t base_length, char *buffer,
+                                  size_t room, size_t *needed);
 
 /* Where the text of a group lies in a text that is written. */
 typedef struct urlpattern_span {
-    uint32_t component; /* the number of the component */
+    urlpattern_component_number component;
     uint32_t took_part; /* 1: the group took part in the match; 0: it did not, and has no bytes */
     size_t group;       /* the number of the group in its component, from 0 on, as of
                          * `urlpattern_group_name` */
@@ -170,34 +190,114 @@ typedef struct urlpattern_sizes {
     size_t spans;
 } urlpattern_sizes;
 
-/* Writes what the groups of the pattern of this index capture of a URL: to the buffer the text
- * of each, one after the other, and to the array a span for each, component by component in the
+/* Writes what the groups of the pattern of this index capture of a URL: to the buffer the text of
+ * each, one after the other, and to the array a span for each, component by component in the
  * order of their numbers. The rest of both is as it was.
- * DONE, NO_MATCH, NOT_UTF8, OUT_OF_MEMORY, NO_PATTERN, or TOO_SMALL (the buffer or the array
- * is). For DONE and TOO_SMALL `needed` is how many bytes and spans there are; for the others it
- * is unspecified. For TOO_SMALL and OUT_OF_MEMORY anything may be in the buffer and in the array,
- * though nothing is written past their sizes; for NO_MATCH, NOT_UTF8 and NO_PATTERN they are as
- * they were. */
-uint32_t urlpattern_captures(urlpattern_list *patterns, size_t index,
-                             const char *url, size_t length, const char *base, size_t base_length,
-                             char *buffer, size_t room, urlpattern_span *spans, size_t span_room,
-                             urlpattern_sizes *needed);
+ * DONE, NO_MATCH, NO_URL, TOO_LONG, NOT_UTF8, OUT_OF_MEMORY, NO_PATTERN, or TOO_SMALL (the buffer
+ * or the array is). For DONE and TOO_SMALL `needed` is how many bytes and spans there are; for
+ * the others it is unspecified. For TOO_SMALL and OUT_OF_MEMORY anything may be in the buffer and
+ * in the array, though nothing is written past their sizes; for the others they are as they were.
+ * */
+urlpattern_status urlpattern_captures(urlpattern_list *patterns, size_t index, const char *url,
+                                      size_t length, const char *base, size_t base_length,
+                                      char *buffer, size_t room, urlpattern_span *spans,
+                                      size_t span_room, urlpattern_sizes *needed);
 
 /* Finds the first pattern that matches a URL, and writes its index, and its groups as
  * `urlpattern_captures` does.
- * DONE, NO_MATCH, NOT_UTF8, OUT_OF_MEMORY, NO_PATTERN (none is there), or TOO_SMALL. For DONE
- * and TOO_SMALL `index` is written; for OUT_OF_MEMORY it may be, to whichever number; for the
- * others it is as it was.
+ * DONE, NO_MATCH, NO_URL, TOO_LONG, NOT_UTF8, OUT_OF_MEMORY, NO_PATTERN (none is there), or
+ * TOO_SMALL. For DONE and TOO_SMALL `index` is written; for OUT_OF_MEMORY it may be, to whichever
+ * number; for the others it is as it was.
  * The buffer, the array and `needed` are as `urlpattern_captures` leaves them. */
-uint32_t urlpattern_first_captures(urlpattern_list *patterns, const char *url, size_t length,
-                                   const char *base, size_t base_length, size_t *index,
-                                   char *buffer, size_t room,
-                                   urlpattern_span *spans, size_t span_room,
-                                   urlpattern_sizes *needed);
+urlpattern_status urlpattern_first_captures(urlpattern_list *patterns, const char *url,
+                                            size_t length, const char *base, size_t base_length,
+                                            size_t *index, char *buffer, size_t room,
+                                            urlpattern_span *spans, size_t span_room,
+                                            urlpattern_sizes *needed);
+
+/* Matches a path by itself, as the path of a request before its `?`: all other components are
+ * empty, so that a pattern for paths leaves them open, as `{"pathname":"/users/:id"}` does, and a
+ * pattern with a protocol or a host never matches. The path has no host, whatever it looks like,
+ * and is not made canonical as the pattern is: `/a/../b` and `/%61` are matched as they are, and
+ * `/%C3%A9` alone is matched by the pattern `/é`. Writes what the groups of the pattern of this
+ * index capture, as `urlpattern_captures` does.
+ * DONE, NO_MATCH, NO_PATH, NOT_UTF8, OUT_OF_MEMORY, NO_PATTERN, or TOO_SMALL. */
+urlpattern_status urlpattern_captures_of_path(urlpattern_list *patterns, size_t index,
+                                              const char *path, size_t length, char *buffer,
+                                              size_t room, urlpattern_span *spans, size_t span_room,
+                                              urlpattern_sizes *needed);
+
+/* Finds the first pattern that matches a path by itself, as `urlpattern_captures_of_path` matches
+ * it, and writes its index, and its groups as `urlpattern_first_captures` does.
+ * DONE, NO_MATCH, NO_PATH, NOT_UTF8, OUT_OF_MEMORY, NO_PATTERN (none is there), or TOO_SMALL. */
+urlpattern_status urlpattern_first_captures_of_path(urlpattern_list *patterns, const char *path,
+                                                    size_t length, size_t *index, char *buffer,
+                                                    size_t room, urlpattern_span *spans,
+                                                    size_t span_room, urlpattern_sizes *needed);
+
+/* A part of a text, in bytes. */
+typedef struct urlpattern_part {
+    size_t start;
+    size_t length;
+} urlpattern_part;
+
+/* A part of one text for each component: a protocol without its `:`, a search without its `?`, a
+ * hash without its `#`, and a port that is empty if it is the default one. */
+typedef struct urlpattern_parts {
+    urlpattern_part protocol, username, password, hostname, port, pathname, search, hash;
+} urlpattern_parts;
+
+/* Matches eight texts, which a program has cut out of a URL itself, and which are not made
+ * canonical. Writes what the groups of the pattern of this index capture, as `urlpattern_captures`
+ * does.
+ * DONE, NO_MATCH, NOT_UTF8 (a part lies outside of the text, or is not UTF-8), OUT_OF_MEMORY,
+ * NO_PATTERN, or TOO_SMALL. */
+urlpattern_status urlpattern_captures_of_texts(urlpattern_list *patterns, size_t index,
+                                               const char *text, size_t length,
+                                               const urlpattern_parts *parts, char *buffer,
+                                               size_t room, urlpattern_span *spans,
+                                               size_t span_room, urlpattern_sizes *needed);
+
+/* Finds the first pattern that matches eight texts, as `urlpattern_captures_of_texts` matches them,
+ * and writes its index, and its groups as `urlpattern_first_captures` does.
+ * DONE, NO_MATCH, NOT_UTF8 (a part lies outside of the text, or is not UTF-8), OUT_OF_MEMORY,
+ * NO_PATTERN (none is there), or TOO_SMALL. */
+urlpattern_status urlpattern_first_captures_of_texts(urlpattern_list *patterns, const char *text,
+                                                     size_t length, const urlpattern_parts *parts,
+                                                     size_t *index, char *buffer, size_t room,
+                                                     urlpattern_span *spans, size_t span_room,
+                                                     urlpattern_sizes *needed);
+
+/* Matches an init, as browsers match what they are given as an object: an object of JSON as
+ * `urlpattern_add_init` reads it, whose texts are made canonical as those of a URL are. What it
+ * leaves out is inherited from its `baseURL`, or else empty. Writes what the groups of the pattern
+ * of this index capture, as `urlpattern_captures` does.
+ * DONE, NO_MATCH, NO_URL (a text of the init or its base URL is refused), TOO_LONG (the JSON has 16
+ * MB or more), NOT_UTF8, REFUSED (the JSON is no init), OUT_OF_MEMORY, NO_PATTERN, or TOO_SMALL. */
+urlpattern_status urlpattern_captures_of_init(urlpattern_list *patterns, size_t index,
+                                              const char *json, size_t length, char *buffer,
+                                              size_t room, urlpattern_span *spans, size_t span_room,
+                                              urlpattern_sizes *needed);
+
+/* Finds the first pattern that matches an init, as `urlpattern_captures_of_init` matches it, and
+ * writes its index, and its groups as `urlpattern_first_captures` does.
+ * DONE, NO_MATCH, NO_URL, TOO_LONG, NOT_UTF8, REFUSED (the JSON is no init), OUT_OF_MEMORY,
+ * NO_PATTERN (none is there), or TOO_SMALL. */
+urlpattern_status urlpattern_first_captures_of_init(urlpattern_list *patterns, const char *json,
+                                                    size_t length, size_t *index, char *buffer,
+                                                    size_t room, urlpattern_span *spans,
+                                                    size_t span_room, urlpattern_sizes *needed);
+
+/* Writes the match of an init, as `urlpattern_captures_of_init` matches it, in the JSON of
+ * `urlpattern_exec`.
+ * DONE, NO_MATCH, NO_URL, TOO_LONG, NOT_UTF8, REFUSED (the JSON is no init), OUT_OF_MEMORY,
+ * NO_PATTERN, or TOO_SMALL. */
+urlpattern_status urlpattern_exec_of_init(urlpattern_list *patterns, size_t index, const char *json,
+                                          size_t length, char *buffer, size_t room, size_t *needed);
 
 /* What is given for a group: its name and a text for it, which are parts of one text. */
 typedef struct urlpattern_given {
-    uint32_t component; /* the number of the component */
+    urlpattern_component_number component;
     size_t name_start;  /* the byte at which the name of the group begins */
     size_t name_length; /* how many bytes the name has */
     size_t start;       /* the byte at which the text for the group begins */
@@ -216,34 +316,71 @@ typedef struct urlpattern_given {
  * part lies outside of the text or is not UTF-8, as one that cuts a character; that comes before
  * OUT_OF_MEMORY), or TOO_SMALL (there is no room for the URL, or for the reason, and `needed`
  * does not say for which). */
-uint32_t urlpattern_link(urlpattern_list *patterns, size_t index, const char *text, size_t length,
-                         const urlpattern_given *given, size_t count,
-                         char *buffer, size_t room, size_t *needed);
+urlpattern_status urlpattern_link(urlpattern_list *patterns, size_t index, const char *text,
+                                  size_t length, const urlpattern_given *given, size_t count,
+                                  char *buffer, size_t room, size_t *needed);
+
+/* Writes the text of a component of the pattern of this index with these groups, as
+ * `urlpattern_link` writes a whole URL, or why there is none. What is given for groups of other
+ * components is ignored.
+ * DONE (the text is written), REFUSED (the component has no text with these groups, and the reason
+ * is written), OUT_OF_MEMORY, NO_PATTERN (also as of `urlpattern_link`), or TOO_SMALL (there is no
+ * room for the text, or for the reason). */
+urlpattern_status urlpattern_generate(urlpattern_list *patterns, size_t index,
+                                      urlpattern_component_number component, const char *text,
+                                      size_t length, const urlpattern_given *given, size_t count,
+                                      char *buffer, size_t room, size_t *needed);
 
 /* Writes the name of a group, by its number in a component: a group that has none in the pattern
  * is named by a number of its own.
  * DONE, NO_PATTERN, or TOO_SMALL. */
-uint32_t urlpattern_group_name(urlpattern_list *patterns, size_t index, uint32_t component,
-                               size_t group, char *buffer, size_t room, size_t *needed);
+urlpattern_status urlpattern_group_name(urlpattern_list *patterns, size_t index,
+                                        urlpattern_component_number component, size_t group,
+                                        char *buffer, size_t room, size_t *needed);
 
 /* Writes the pattern text of a component, by its number.
  * DONE, NO_PATTERN, or TOO_SMALL. */
-uint32_t urlpattern_component(urlpattern_list *patterns, size_t index, uint32_t component,
-                              char *buffer, size_t room, size_t *needed);
+urlpattern_status urlpattern_component(urlpattern_list *patterns, size_t index,
+                                       urlpattern_component_number component, char *buffer,
+                                       size_t room, size_t *needed);
+
+/* Writes the pattern of this index as one text, a constructor string that `urlpattern_add` compiles
+ * to the same pattern, as `urlpattern_is_same` says, without a base URL and with the `ignore_case`
+ * that the pattern was compiled with. What may be left out is.
+ * DONE, NO_MATCH (the pattern has no such text, as `{"pathname":"a*"}` has none), OUT_OF_MEMORY,
+ * NO_PATTERN, or TOO_SMALL. */
+urlpattern_status urlpattern_text(urlpattern_list *patterns, size_t index, char *buffer,
+                                  size_t room, size_t *needed);
+
+/* Whether two patterns of the handle are the same: each component has the same parts, the same
+ * names of groups and the same options in both, however the patterns were written. The same
+ * patterns match the same URLs with the same captures.
+ * DONE (they are), NO_MATCH (they are not), or NO_PATTERN (of one of the two indices). */
+urlpattern_status urlpattern_is_same_within(urlpattern_list *patterns, size_t index, size_t other);
+
+/* The same of a pattern of another handle. The two are never the same handle. */
+urlpattern_status urlpattern_is_same_between(urlpattern_list *patterns, size_t index,
+                                             urlpattern_list *others, size_t other);
+
+/* The same of a pattern of another handle or of the same one, as `urlpattern_covers` is. */
+static inline urlpattern_status urlpattern_is_same(urlpattern_list *patterns, size_t index,
+                                                   urlpattern_list *others, size_t other) {
+    return patterns == others ? urlpattern_is_same_within(patterns, index, other)
+                              : urlpattern_is_same_between(patterns, index, others, other);
+}
 
 /* Whether the pattern of this index has a custom regular expression, as `hasRegExpGroups` of a
  * browser.
  * DONE (it has one), NO_MATCH (it has none), or NO_PATTERN. */
-uint32_t urlpattern_has_regexp_groups(urlpattern_list *patterns, size_t index);
+urlpattern_status urlpattern_has_regexp_groups(urlpattern_list *patterns, size_t index);
 
 /* Whether each component of the pattern of this index has a meaning, so that the text of the
- * pattern alone says which URLs it matches, and what its groups capture. For that each of its custom
- * regular expressions is simple, as `\d+`, `en|fr` and `[^/]+` are: of ASCII characters, without an
- * assertion as `^`, `$` or `\b`, without a flag, and without a group that captures. With
- * `ignore_case`, pathname, search and hash have no custom regular expression. A program that accepts
- * patterns of others may refuse the rest, of which less is promised.
+ * pattern alone says which URLs it matches, and what its groups capture. For that each of its
+ * custom regular expressions is simple, as `\d+`, `en|fr` and `[^/]+` are: of ASCII characters,
+ * without an assertion as `^`, `$` or `\b`, without a flag, and without a group that captures. A
+ * program that accepts patterns of others may refuse the rest, of which less is promised.
  * DONE (each has one), NO_MATCH (not each has one), OUT_OF_MEMORY, or NO_PATTERN. */
-uint32_t urlpattern_has_meaning(urlpattern_list *patterns, size_t index);
+urlpattern_status urlpattern_has_meaning(urlpattern_list *patterns, size_t index);
 
 /* Whether the pattern of this index covers the asked one, another pattern of the handle or the
  * same: whether it matches each URL that the asked one matches. `component` is the number of a
@@ -253,23 +390,53 @@ uint32_t urlpattern_has_meaning(urlpattern_list *patterns, size_t index);
  * a custom regular expression, ignores case, or would take too many steps to compare),
  * OUT_OF_MEMORY, or NO_PATTERN (of one of the two indices). But for NO_MATCH and UNKNOWN
  * `component` is URLPATTERN_NO_COMPONENT. */
-uint32_t urlpattern_covers_within(urlpattern_list *patterns, size_t index, size_t asked,
-                                  uint32_t *component);
+urlpattern_status urlpattern_covers_within(urlpattern_list *patterns, size_t index, size_t asked,
+                                           urlpattern_component_number *component);
 
 /* The same of an asked pattern of another handle. The two are never the same handle: each is
  * taken for the time of the call, and what the call does with one that is taken twice is not
  * known. */
-uint32_t urlpattern_covers_between(urlpattern_list *patterns, size_t index,
-                                   urlpattern_list *others, size_t asked, uint32_t *component);
+urlpattern_status urlpattern_covers_between(urlpattern_list *patterns, size_t index,
+                                            urlpattern_list *others, size_t asked,
+                                            urlpattern_component_number *component);
 
 /* The same of an asked pattern of another handle or of the same one. The library has no function
  * of this name: this one is the header's, and calls the one that is right for the handles. */
-static inline uint32_t urlpattern_covers(urlpattern_list *patterns, size_t index,
-                                         urlpattern_list *others, size_t asked,
-                                         uint32_t *component) {
-    return patterns == others ? urlpattern_covers_within(patterns, index, asked, component)
-                              : urlpattern_covers_between(patterns, index, others, asked, component);
+static inline urlpattern_status urlpattern_covers(urlpattern_list *patterns, size_t index,
+                                                  urlpattern_list *others, size_t asked,
+                                                  urlpattern_component_number *component) {
+    return patterns == others
+        ? urlpattern_covers_within(patterns, index, asked, component)
+        : urlpattern_covers_between(patterns, index, others, asked, component);
 }
+
+/* Writes texts that the asked pattern matches, another pattern of the handle, and the pattern of
+ * this index does not, as an init in JSON: in the component that `urlpattern_covers` writes, the
+ * one matches the text and the other does not. A component of which no text is known is left out.
+ * DONE, NO_MATCH (there are none: the pattern covers the asked one), UNKNOWN (as of
+ * `urlpattern_covers`), OUT_OF_MEMORY, NO_PATTERN (of one of the two indices), or TOO_SMALL. */
+urlpattern_status urlpattern_counterexample_within(urlpattern_list *patterns, size_t index,
+                                                   size_t asked, char *buffer, size_t room,
+                                                   size_t *needed);
+
+/* The same of an asked pattern of another handle. The two are never the same handle. */
+urlpattern_status urlpattern_counterexample_between(urlpattern_list *patterns, size_t index,
+                                                    urlpattern_list *others, size_t asked,
+                                                    char *buffer, size_t room, size_t *needed);
+
+/* Whether two patterns of the handle overlap: whether there are texts that both match. Writes such
+ * texts, as an init in JSON. A component that is the same in both is left out where no text is
+ * known that it matches.
+ * DONE (they overlap), NO_MATCH (there are no such texts), UNKNOWN (because of a component, where
+ * no other one decides), OUT_OF_MEMORY, NO_PATTERN (of one of the two indices), or TOO_SMALL (they
+ * overlap, and there is no room for the texts). */
+urlpattern_status urlpattern_overlaps_within(urlpattern_list *patterns, size_t index, size_t other,
+                                             char *buffer, size_t room, size_t *needed);
+
+/* The same of a pattern of another handle. The two are never the same handle. */
+urlpattern_status urlpattern_overlaps_between(urlpattern_list *patterns, size_t index,
+                                              urlpattern_list *others, size_t other, char *buffer,
+                                              size_t room, size_t *needed);
 
 /* The part of a text that is at fault, in bytes: `start` is at most `end`, and `end` at most the
  * length of the text. */
@@ -284,9 +451,9 @@ typedef struct urlpattern_place {
 /* Writes why `urlpattern_add` refuses these texts, and the place that is at fault.
  * DONE, NO_MATCH (they are accepted), NOT_UTF8, OUT_OF_MEMORY, or TOO_SMALL. For DONE and
  * TOO_SMALL `place` is written; for the others nothing is promised of it. */
-uint32_t urlpattern_diagnose(const char *text, size_t length, const char *base, size_t base_length,
-                             bool ignore_case, char *buffer, size_t room, size_t *needed,
-                             urlpattern_place *place);
+urlpattern_status urlpattern_diagnose(const char *text, size_t length, const char *base,
+                                      size_t base_length, bool ignore_case, char *buffer,
+                                      size_t room, size_t *needed, urlpattern_place *place);
 
 /* Writes why `urlpattern_add_init` refuses an init, and the place that is at fault in one of its
  * texts; or, if the component at fault is inherited, since the init has no text for it, in what is
@@ -294,12 +461,14 @@ uint32_t urlpattern_diagnose(const char *text, size_t length, const char *base, 
  * DONE, NO_MATCH (it is accepted), NOT_UTF8, REFUSED (the JSON is no init, or the base URL is
  * refused, and no reason is written), OUT_OF_MEMORY, or TOO_SMALL, with `place` as of
  * `urlpattern_diagnose`. */
-uint32_t urlpattern_diagnose_init(const char *json, size_t length, bool ignore_case,
-                                  char *buffer, size_t room, size_t *needed,
-                                  urlpattern_place *place);
+urlpattern_status urlpattern_diagnose_init(const char *json, size_t length, bool ignore_case,
+                                           char *buffer, size_t room, size_t *needed,
+                                           urlpattern_place *place);
 
 #ifdef __cplusplus
 }
 #endif
+
+#include "urlpattern_nulls.h"
 
 #endif

@@ -7,18 +7,17 @@
 The shared object is the one that the environment variable URLPATTERN_LIBRARY names, or else
 `liburlpattern.so` beside this file.
 
-A text that is no URL does not match, and a URL or base of 16 MB (2**24 bytes in UTF-8) or more may
-count as none. So a rule that denies what matches lets such a text through: reject it before the
-call. `mismatch` raises ValueError where a text counts as no URL. A base does not tie a URL to its
-host: `//other.com/x` and `https://other.com/x` have the host other.com under each base of the web.
-What comes as the path of a request is given as `path=`, which has the host of its base.
+A text or a dict that is no URL does not match, so that a rule that denies what matches lets it
+through: reject it before the call. `mismatch` raises ValueError where a text is no URL, and each
+call does where a URL or base has 16 MB (2**24 bytes in UTF-8) or more. A base does not tie a URL to
+its host: `//other.com/x` and `https://other.com/x` have the host other.com under each base of the
+web. What comes as the path of a request is given as `path=`, which has the host of its base.
 
 Threads may share an object. Each call has memory of its own for what it returns, and the
 interpreter's lock is held while the library runs (an interpreter without it gets a lock of this
-module). A pattern that one thread appends is there for all once `append` returns. Of this the
-proofs of the library say nothing: they are about calls of a handle that one thread makes, one after
-the other. That another thread may make them, or free the handle, is not proved but tested, by eight
-threads that share objects. To rely on proofs alone, make, use and drop an object in one thread.
+module). A pattern that one thread appends is there for all once `append` returns. The proofs of the
+library are about calls of a handle that come one after the other, of whichever thread. That the
+lock lets one call at a time in is not proved but tested, by eight threads that share objects.
 """
 from __future__ import annotations
 
@@ -39,7 +38,7 @@ def version() -> Tuple[int, int]:
     """The version of the library.
 
     >>> version()
-    (1, 0)
+    (2, 0)
     """
     number: int = _calls.version()
     return divmod(number, 1000)

@@ -12,7 +12,11 @@ from typing import Any, Callable, Dict, List, Optional, Sequence, Tuple
 
 COMPONENTS = ("protocol", "username", "password", "hostname", "port", "pathname", "search", "hash")
 
-DONE, NO_MATCH, NOT_UTF8, REFUSED, OUT_OF_MEMORY, NO_PATTERN, TOO_SMALL, UNKNOWN = range(8)
+NO_MATCH, DONE, NO_URL, NO_PATH, TOO_LONG, NOT_UTF8 = range(6)
+REFUSED, OUT_OF_MEMORY, NO_PATTERN, TOO_SMALL, UNKNOWN, SHARED = range(6, 12)
+
+# The version of the interface whose statuses these are.
+VERSION = 2
 
 # How many bytes a text is first given room for, and how many spans a match.
 ROOM = 1024
@@ -26,9 +30,14 @@ Call = Callable[..., int]
 
 
 def _open() -> ctypes.CDLL:
-    """The shared object. The interpreter's lock is held during each call."""
+    """The shared object. The interpreter's lock is held during each call. ImportError: it is of
+    another version."""
     beside = os.path.join(os.path.dirname(os.path.abspath(__file__)), "liburlpattern.so")
-    return ctypes.PyDLL(os.environ.get("URLPATTERN_LIBRARY") or beside)
+    library = ctypes.PyDLL(os.environ.get("URLPATTERN_LIBRARY") or beside)
+    version: int = library.urlpattern_version()
+    if version // 1000 != VERSION:
+        raise ImportError(f"the shared object has version {version // 1000}, not {VERSION}")
+    return library
 
 
 _library = _open()
@@ -63,7 +72,7 @@ def _function(
 class Handle(ctypes.Structure):
     """Patterns of the library. They are freed when nothing refers to this object any more."""
 
-    _fields_ = [("is_made", ctypes.c_bool), ("at", ctypes.c_void_p)]
+    _fields_ = [("made_by", ctypes.c_uint32), ("at", ctypes.c_void_p)]
 
     def __del__(
         self, free: Call = _function("free", result=None), address: Any = ctypes.byref
@@ -104,10 +113,13 @@ def _declared() -> Any:
     ignores, string, init = ctypes.c_bool, [text, size, text, size], [text, size]
     reason = [text, size, ctypes.POINTER(size), ctypes.POINTER(Place)]
     matching = ("test", "mismatch", "exec", "captures", "first_captures")
-    writing = ("link", "group_name", "component", "has_regexp_groups", "has_meaning")
-    comparing = ("covers_within", "covers_between")
+    of_init = ("exec_of_init", "captures_of_init", "first_captures_of_init")
+    writing = ("link", "generate", "group_name", "component", "text")
+    telling = ("has_regexp_groups", "has_meaning")
+    pairs = ("covers", "counterexample", "overlaps", "is_same")
+    comparing = [f"{name}_{which}" for name in pairs for which in ("within", "between")]
     return SimpleNamespace(
-        **{name: _function(name) for name in (*matching, *writing, *comparing)},
+        **{name: _function(name) for name in (*matching, *of_init, *writing, *telling, *comparing)},
         add=_function("add", [handle, *string, ignores]),
         add_init=_function("add_init", [handle, *init, ignores]),
         diagnose=_function("diagnose", [*string, ignores, *reason]),
@@ -182,6 +194,8 @@ def checked(status: int) -> bool:
         raise MemoryError("out of memory")
     if status == NO_PATTERN:
         raise IndexError("no such pattern")
+    if status == TOO_LONG:
+        raise ValueError("a URL or a base URL has 16 MB or more")
     return status == DONE
 
 

@@ -6,7 +6,9 @@ use crate::rules::REASONS;
 use crate::Case;
 use serde_json::Value;
 use std::alloc::Global;
-use urlpattern_compare::{Common, Doubt, Lack, Limits, PatternAutomata, covering_together, find_common};
+use urlpattern_compare::{
+    Common, Doubt, Lack, Limits, PatternAutomata, Reach, find_common, reach_of,
+};
 use urlpattern_components::{ComponentName, Eight};
 use urlpattern_engine::PatternRegexp;
 use urlpattern_pattern::UrlPattern;
@@ -44,7 +46,7 @@ pub fn is_same_common(case: &Case<'_>) -> Result<bool, Fault> {
 }
 
 /// Whether the patterns of a list that cover another together, and none of which can be left out,
-/// are those at the recorded indices; or whether none are known to.
+/// are those at the recorded indices; or whether none do, or none are known to, as recorded.
 pub fn is_same_together(case: &Case<'_>) -> Result<bool, Fault> {
     let Answer::Ok(recorded) = case.answer else {
         return Ok(false);
@@ -55,15 +57,23 @@ pub fn is_same_together(case: &Case<'_>) -> Result<bool, Fault> {
     };
     let asked = PatternAutomata::new(case.alloc, parts)?;
     let all: Vec<&PatternAutomata> = patterns.iter().collect(case.alloc)?;
-    let found = covering_together(case.alloc, &all, &asked, LIMITS);
+    let found = reach_of(case.alloc, &all, &asked, LIMITS);
     drop(all);
     drop(asked);
     drop(patterns);
-    let expected = field(recorded, "by")?;
-    match found? {
-        None => Ok(expected.is_null()),
-        Some(by) => {
-            let expected = list(recorded, "by")?;
+    is_reach(&found?, field(recorded, "by")?)
+}
+
+/// Whether a pattern is reached as recorded: `"reached"`, `"unknown"`, or the indices of the
+/// patterns that cover it together.
+pub fn is_reach(found: &Reach, recorded: &Value) -> Result<bool, Fault> {
+    match found {
+        Reach::First(_) => Ok(recorded.as_str() == Some("reached")),
+        Reach::Unknown(_) => Ok(recorded.as_str() == Some("unknown")),
+        Reach::Never(by) => {
+            let Some(expected) = recorded.as_array() else {
+                return Ok(false);
+            };
             Ok(by.len() == expected.len()
                 && by
                     .iter()

@@ -2,16 +2,18 @@
 
 use crate::generated::{groups_of, is_reason, is_refused};
 use crate::patterns;
-use crate::recorded::{Answer, Fault, has_text, list, optional_text};
+use crate::recorded::{Answer, Fault, has_text, is_set, list, optional_text};
 use crate::{Case, given};
 use serde_json::Value;
 use std::alloc::Global;
+use std::borrow::CowStr;
 use url::Url;
-use urlpattern_generate::NoLink;
+use urlpattern_generate::{GivenGroup, NoLink};
 use urlpattern_matcher::regexp::RegExp;
 use urlpattern_matches::UrlPatternResult;
 use urlpattern_pattern::UrlPattern;
 use urlpattern_syntax::Error;
+use urlpattern_values::DecodeError;
 
 /// Whether the URL of a pattern with the groups of a question is the recorded one, or is rejected
 /// for the recorded reason.
@@ -50,7 +52,61 @@ fn linked<R: RegExp>(
         return found;
     }
     let groups = groups_of(case.alloc, list(case.question, "groups")?)?;
+    if is_set(case.question, "encoded") {
+        return linked_encoded(case.alloc, pattern, &groups);
+    }
     Ok(pattern.link(case.alloc, &groups))
+}
+
+/// The URL with percent-encoded values. The captures of the URL have to decode to the values.
+fn linked_encoded<R: RegExp>(
+    alloc: Global,
+    pattern: &UrlPattern<R>,
+    groups: &[GivenGroup<'_>],
+) -> Result<Result<Url, NoLink>, Fault> {
+    let link = pattern.link_encoded(alloc, groups);
+    let decoded = match &link {
+        Ok(url) => are_decoded(alloc, pattern, url, groups),
+        Err(_) => Ok(true),
+    };
+    match decoded {
+        Ok(true) => Ok(link),
+        Ok(false) => Err(Fault::NoCase),
+        Err(fault) => Err(fault),
+    }
+}
+
+/// Whether the captures of a URL, borrowed and owned, decode to the values of the groups that the
+/// pattern has.
+fn are_decoded<R: RegExp>(
+    alloc: Global,
+    pattern: &UrlPattern<R>,
+    url: &Url,
+    groups: &[GivenGroup<'_>],
+) -> Result<bool, Fault> {
+    let Some(found) = made(pattern.captures(alloc, url))? else {
+        return Ok(false);
+    };
+    let copy = made(found.to_result(alloc))?;
+    let mut are = true;
+    for (component, name, value) in groups {
+        if found.took_part(*component, name).is_some() {
+            are = are
+                && is_value(found.decoded(alloc, *component, name), value)?
+                && is_value(copy.decoded(alloc, *component, name), value)?;
+        }
+    }
+    Ok(are)
+}
+
+/// Whether a decoded capture is a value.
+fn is_value(found: Result<Option<CowStr<'_>>, DecodeError>, value: &str) -> Result<bool, Fault> {
+    match found {
+        Ok(Some(text)) => Ok(text.as_str() == value),
+        Ok(None) => Ok(false),
+        Err(DecodeError::OutOfMemory) => Err(Fault::OutOfMemory),
+        Err(DecodeError::Utf8(_)) => Ok(false),
+    }
 }
 
 /// The URL with the captures of a URL by a pattern.

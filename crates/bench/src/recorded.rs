@@ -86,16 +86,22 @@ pub enum Operation {
     Generate,
     /// Generates the URL of a pattern with given groups.
     Link,
+    /// Writes a pattern as a constructor string and as an init.
+    Text,
     /// Compares two patterns by how specific they are in a component.
     Compare,
     /// Decides whether a pattern covers another, and whether they overlap.
     Covers,
     /// Finds the patterns of a list that an earlier one covers.
     Unreachable,
+    /// Finds the pairs of patterns of a list that contend.
+    Contending,
     /// Finds texts that some patterns match, and others do not.
     Common,
     /// Finds the patterns of a list that cover another one together.
     Together,
+    /// Decides about texts by a policy.
+    Decide,
     /// Decides which components of a pattern have a meaning.
     Meaning,
     /// Writes a plain value as JSON that was parsed from JSON.
@@ -124,11 +130,14 @@ pub const OPERATIONS: &[(&str, Operation)] = &[
     ("diagnose", Operation::Diagnose),
     ("generate", Operation::Generate),
     ("link", Operation::Link),
+    ("text", Operation::Text),
     ("compare", Operation::Compare),
     ("covers", Operation::Covers),
     ("unreachable", Operation::Unreachable),
+    ("contending", Operation::Contending),
     ("common", Operation::Common),
     ("together", Operation::Together),
+    ("decide", Operation::Decide),
     ("meaning", Operation::Meaning),
     ("json", Operation::Json),
     ("equal", Operation::Equal),
@@ -148,6 +157,7 @@ impl Operation {
                 | Operation::Diagnose
                 | Operation::Generate
                 | Operation::Link
+                | Operation::Text
         )
     }
 }

@@ -2,12 +2,12 @@
 
 mod first_match;
 
-use crate::{constructors, diagnoses, inputs, plain, trees};
+use crate::{constructors, contending, diagnoses, inputs, plain, policies, trees};
 use crate::{generated, links, patterns, rules};
 use crate::recorded::{
     Answer, Fault, OPERATIONS, Operation, field, is_set, named, optional_text, text,
 };
-use crate::{Case, common, compiled, components, engines, matchers, tokens, values};
+use crate::{Case, common, compiled, components, engines, matchers, texts, tokens, values};
 use regex::Regex;
 use serde_json::Value;
 use std::alloc::Global;
@@ -109,11 +109,14 @@ fn is_same_over<R: RegExp>(operation: Operation, case: &Case<'_>) -> Result<bool
         Operation::Diagnose => diagnoses::is_same::<R>(case),
         Operation::Generate => generated::is_same::<R>(case),
         Operation::Link => links::is_same::<R>(case),
+        Operation::Text => texts::is_same::<R>(case),
         Operation::Compare => rules::is_same_order(case),
         Operation::Covers => rules::is_same_covering(case),
-        Operation::Unreachable => rules::is_same_unreachable(case),
+        Operation::Unreachable => rules::is_same_reach(case),
+        Operation::Contending => contending::is_same(case),
         Operation::Common => common::is_same_common(case),
         Operation::Together => common::is_same_together(case),
+        Operation::Decide => policies::is_same(case),
         Operation::Meaning => rules::is_same_meaning(case),
         Operation::Json => trees::is_same(case),
         Operation::Equal => trees::is_same_equality(case),

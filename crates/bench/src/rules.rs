@@ -1,5 +1,6 @@
 //! Compares patterns, and lists and maps of them.
 
+use crate::common::is_reach;
 use crate::patterns::{are_lacking, are_lacking_by_case};
 use crate::recorded::{Answer, Fault, field, has_text, list, named, optional_text, text};
 use crate::{Case, given};
@@ -8,9 +9,9 @@ use std::alloc::Global;
 use std::cmp::Ordering;
 use urlpattern::{UrlPatternList, UrlPatternMap};
 use urlpattern_compare::{
-    PatternCovering, PatternOverlap, PatternParts, Reason, Shadowed, first_covering,
+    PatternCovering, PatternOverlap, PatternParts, Reach, Reason, USUAL_LIMITS, first_covering,
 };
-use urlpattern_components::ComponentName;
+use urlpattern_components::{ComponentName, Eight};
 use urlpattern_engine::PatternRegexp;
 use urlpattern_init::UrlPatternInit;
 use urlpattern_inputs::UrlPatternOptions;
@@ -56,22 +57,23 @@ pub fn is_same_covering(case: &Case<'_>) -> Result<bool, Fault> {
     )
 }
 
-/// Whether the patterns of a list that an earlier one covers are the recorded ones, each with the
-/// index of that one; and whether those of a map are.
-pub fn is_same_unreachable(case: &Case<'_>) -> Result<bool, Fault> {
+/// Whether each pattern of a list, and of a map, is reached as recorded: the first match of some
+/// texts, or covered by those at the recorded indices, or it is not known.
+pub fn is_same_reach(case: &Case<'_>) -> Result<bool, Fault> {
     let Answer::Ok(recorded) = case.answer else {
         return Ok(false);
     };
     let expected = list(recorded, "found")?;
     let given = list(case.question, "patterns")?;
     let patterns = listed(case.alloc, given)?;
-    let found = patterns.unreachable(case.alloc)?;
-    let is_same = are_recorded(&found, expected) && are_first(case.alloc, &patterns, &found)?;
+    let found = patterns.reach_of_each(case.alloc, USUAL_LIMITS)?;
+    let is_same = are_recorded(&found, expected)? && are_first(case.alloc, &patterns, &found)?;
     drop(patterns);
+    drop(found);
     let map = mapped(case.alloc, given)?;
-    let of_map = map.unreachable(case.alloc);
+    let of_map = map.reach_of_each(case.alloc, USUAL_LIMITS);
     drop(map);
-    Ok(is_same && of_map?.as_slice() == found.as_slice())
+    Ok(is_same && are_recorded(&of_map?, expected)?)
 }
 
 /// Whether the components without a meaning are the recorded ones.
@@ -92,7 +94,7 @@ pub fn is_same_meaning(case: &Case<'_>) -> Result<bool, Fault> {
 }
 
 /// The list of patterns.
-fn listed(alloc: Global, given: &[Value]) -> Result<UrlPatternList<PatternRegexp>, Fault> {
+pub fn listed(alloc: Global, given: &[Value]) -> Result<UrlPatternList<PatternRegexp>, Fault> {
     let mut patterns = UrlPatternList::new(alloc);
     for fields in given {
         made(patterns.try_push(pattern(alloc, fields)?))?;
@@ -101,7 +103,7 @@ fn listed(alloc: Global, given: &[Value]) -> Result<UrlPatternList<PatternRegexp
 }
 
 /// The map of patterns, each with its index.
-fn mapped(alloc: Global, given: &[Value]) -> Result<UrlPatternMap<usize, PatternRegexp>, Fault> {
+pub fn mapped(alloc: Global, given: &[Value]) -> Result<UrlPatternMap<usize, PatternRegexp>, Fault> {
     let mut patterns = UrlPatternMap::new(alloc);
     for (index, fields) in given.iter().enumerate() {
         made(patterns.try_insert(pattern(alloc, fields)?, index))?;
@@ -109,35 +111,61 @@ fn mapped(alloc: Global, given: &[Value]) -> Result<UrlPatternMap<usize, Pattern
     Ok(patterns)
 }
 
-/// Whether these patterns are recorded, each with the index of the one that covers it.
-fn are_recorded(found: &[Shadowed], expected: &[Value]) -> bool {
-    found.len() == expected.len()
-        && found.iter().zip(expected).all(|(found, expected)| {
-            is_index(expected, "pattern", found.pattern) && is_index(expected, "by", found.by)
-        })
-}
-
-/// Whether `first_covering` finds the same first pattern that covers each of these patterns.
-fn are_first(
-    alloc: Global,
-    patterns: &UrlPatternList<PatternRegexp>,
-    found: &[Shadowed],
-) -> Result<bool, Fault> {
-    let parts: Vec<&PatternParts> = patterns.iter().flat_map(UrlPattern::parts).collect(alloc)?;
-    for found in found {
-        let Some(asked) = parts.get(found.pattern) else {
-            return Ok(false);
-        };
-        if first_covering(alloc, &parts, asked)? != Some(found.by) {
+/// Whether each pattern is reached as recorded.
+fn are_recorded(found: &[Reach], expected: &[Value]) -> Result<bool, Fault> {
+    if found.len() != expected.len() {
+        return Ok(false);
+    }
+    for (found, expected) in found.iter().zip(expected) {
+        if !is_reach(found, expected)? {
             return Ok(false);
         }
     }
     Ok(true)
 }
 
-/// Whether a field is this index.
-fn is_index(recorded: &Value, name: &str, index: usize) -> bool {
-    recorded.get(name).and_then(Value::as_u64) == Some(index as u64)
+/// Whether the texts of each pattern that is reached are first matched by it, and `first_covering`
+/// finds the single pattern that covers another.
+fn are_first(
+    alloc: Global,
+    patterns: &UrlPatternList<PatternRegexp>,
+    found: &[Reach],
+) -> Result<bool, Fault> {
+    let parts: Vec<&PatternParts> = patterns.iter().flat_map(UrlPattern::parts).collect(alloc)?;
+    for (index, found) in found.iter().enumerate() {
+        let Some(asked) = parts.get(index) else {
+            return Ok(false);
+        };
+        let is_as_found = match found {
+            Reach::First(texts) => is_first(alloc, patterns, index, texts)?,
+            Reach::Never(by) => {
+                by.len() != 1 || first_covering(alloc, &parts, asked)? == by.first().copied()
+            }
+            Reach::Unknown(_) => true,
+        };
+        if !is_as_found {
+            return Ok(false);
+        }
+    }
+    Ok(true)
+}
+
+/// Whether the first pattern that matches these texts is the one at the index.
+fn is_first(
+    alloc: Global,
+    patterns: &UrlPatternList<PatternRegexp>,
+    index: usize,
+    texts: &Eight<String>,
+) -> Result<bool, Fault> {
+    let texts = Eight::from_fn(|name: ComponentName| -> &str { texts.get(name).as_str() });
+    for (earlier, pattern) in patterns.iter().enumerate() {
+        match pattern.test_texts(alloc, &texts) {
+            Ok(true) => return Ok(earlier == index),
+            Ok(false) => {}
+            Err(_) => return Err(Fault::OutOfMemory),
+        }
+    }
+    Ok(false)
 }
 
 /// Whether the covering is the recorded one: `covered`, the component in which the patterns differ

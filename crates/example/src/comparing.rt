@@ -1,9 +1,15 @@
-//! Comparing: whether a pattern covers another, and whether two have a URL in common.
+//! Comparing: whether a pattern covers another, whether two have a URL in common, which rule of a
+//! list is dead, and what a change of a rule lets in. A pattern as one text, and a hash of its
+//! parts.
 
-use crate::pattern;
+use crate::{parts, pattern, text};
 use std::alloc::Global;
-use urlpattern::Error;
-use urlpattern::rules::{PatternCovering, PatternOverlap};
+use std::hash::{DefaultHasher, Hasher};
+use urlpattern::rules::{
+    Common, PatternAutomata, PatternCovering, PatternOverlap, PatternParts, Reach, USUAL_LIMITS,
+    find_common,
+};
+use urlpattern::{Error, UrlPatternList};
 
 /// Whether a pattern covers another, in words; if not, with a text of a component that only the
 /// other matches.
@@ -49,5 +55,69 @@ pub fn overlaps_line(alloc: Global) -> Result<String, Error> {
         },
         PatternOverlap::Unknown(component, _) => Ok(format!(in alloc; "unknown: {component}")?),
     }
+    // docs: end
+}
+
+/// Whether the last rule of a list is the first match of some URL, in words.
+pub fn reach_line(alloc: Global) -> Result<String, Error> {
+    // docs: reach
+    let mut rules = UrlPatternList::new(alloc);
+    rules.try_push(pattern(alloc, "https://example.com/users/*")?)?;
+    rules.try_push(pattern(alloc, "https://example.com/users/:id")?)?;
+    let Ok(reach) = rules.reach_of_each(alloc, USUAL_LIMITS) else {
+        return Err(Error::OutOfMemory);
+    };
+    // docs: end
+    // docs: reached
+    match reach.last() {
+        Some(Reach::Never(earlier)) => Ok(format!(in alloc; "dead, by the rules {earlier:?}")?),
+        Some(Reach::First(texts)) => Ok(format!(in alloc; "first for {}", texts.pathname)?),
+        _ => text(alloc, "not known"),
+    }
+    // docs: end
+}
+
+/// A path that a rule matches after a change, and did not match before, in words.
+pub fn change_line(alloc: Global) -> Result<String, Error> {
+    // docs: change
+    let before = PatternAutomata::new(alloc, parts(alloc, "https://example.com/users/:id")?)?;
+    let after = PatternAutomata::new(alloc, parts(alloc, "https://example.com/users/*")?)?;
+    match find_common(alloc, &[&after], &[&before], USUAL_LIMITS)? {
+        Common::Texts(texts) => Ok(format!(in alloc; "lets in {}", texts.pathname)?),
+        Common::Nothing => text(alloc, "lets in nothing new"),
+        Common::Unknown(_) => text(alloc, "not known"),
+    }
+    // docs: end
+}
+
+/// The constructor string of a pattern that was made of another one, in words.
+pub fn text_line(alloc: Global) -> Result<String, Error> {
+    // docs: constructor_string
+    let users = pattern(alloc, "https://example.com/{users}/:id")?;
+    let text = users.to_constructor_string(alloc)?;
+    // docs: end
+    match text {
+        Some(text) => Ok(format!(in alloc; "as a text: {text}")?),
+        None => Ok(format!(in alloc; "no text")?),
+    }
+}
+
+/// Whether two patterns of equal parts hash alike, in words.
+pub fn hash_line(alloc: Global) -> Result<String, Error> {
+    let users = pattern(alloc, "https://example.com/users/:id")?;
+    let braced = pattern(alloc, "https://example.com/{users}/:id")?;
+    let is_alike = match (users.parts(), braced.parts()) {
+        (Some(parts), Some(others)) => hash_of(parts) == hash_of(others),
+        _ => false,
+    };
+    Ok(format!(in alloc; "hashed alike: {is_alike}")?)
+}
+
+/// A hash of the parts of a pattern.
+fn hash_of(parts: &PatternParts) -> u64 {
+    // docs: hash_into
+    let mut hasher = DefaultHasher::default();
+    parts.hash_into(&mut hasher);
+    hasher.finish()
     // docs: end
 }

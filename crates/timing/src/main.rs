@@ -1,7 +1,8 @@
 //! Times the library's calls (`time FILE ..`), links (`link-times FILE ..`) and lookups among
 //! routes (`routes FILE`), and draws the times in standard input (`chart`). Asks random questions
-//! on which calls have to agree (`questions SEED COUNT`, `lists SEED COUNT` for those on lists, and
-//! `pairs SEED COUNT` for those on pairs of patterns), or links captures (`links SEED COUNT`).
+//! on which calls have to agree (`questions SEED COUNT`, `lists SEED COUNT` for those on lists,
+//! `routers SEED COUNT` for those on routers, `pairs SEED COUNT` for those on pairs of patterns,
+//! and `texts SEED COUNT` for those on patterns as texts), or links captures (`links SEED COUNT`).
 //! `rules FILE` times comparisons of all routes with each other. `repeat FILE NAME CALL COUNT`
 //! repeats a call, for a tool that counts instructions.
 #![tactic(auto)]
@@ -30,8 +31,14 @@ const QUESTIONS: &str = "questions";
 /// The command that asks questions on lists alone.
 const LISTS: &str = "lists";
 
+/// The command that asks questions on routers alone.
+const ROUTERS: &str = "routers";
+
 /// The command that asks questions on pairs of patterns alone.
 const PAIRS: &str = "pairs";
+
+/// The command that asks questions on patterns as texts alone.
+const TEXTS: &str = "texts";
 
 /// The command that prints times of comparisons of routes.
 const RULES: &str = "rules";
@@ -96,9 +103,17 @@ fn run(rt: &HostRuntime) -> io::Result<bool> {
             let (seed, count) = (number(seed)?, number(count)?);
             questions::run_alone(rt.alloc(), Alone::Lists, seed, count, &mut rt.stdout())
         }
+        [command, seed, count] if command.as_str() == ROUTERS => {
+            let (seed, count) = (number(seed)?, number(count)?);
+            questions::run_alone(rt.alloc(), Alone::Routers, seed, count, &mut rt.stdout())
+        }
         [command, seed, count] if command.as_str() == PAIRS => {
             let (seed, count) = (number(seed)?, number(count)?);
             questions::run_alone(rt.alloc(), Alone::Rules, seed, count, &mut rt.stdout())
+        }
+        [command, seed, count] if command.as_str() == TEXTS => {
+            let (seed, count) = (number(seed)?, number(count)?);
+            questions::run_alone(rt.alloc(), Alone::Texts, seed, count, &mut rt.stdout())
         }
         [command, path] if command.as_str() == RULES => {
             timing::run_rules(rt, path, &mut rt.stdout())?;

@@ -13,7 +13,9 @@ mod making;
 mod matchers;
 mod patterns;
 mod printing;
+mod routers;
 mod rules;
+mod texts;
 mod trees;
 
 use making::RandomSource;
@@ -193,8 +195,12 @@ impl Tallies {
 pub enum Alone {
     /// Lists of patterns.
     Lists,
+    /// Routers.
+    Routers,
     /// Pairs of patterns, of which one may cover the other.
     Rules,
+    /// Patterns that are written as texts.
+    Texts,
 }
 
 impl Alone {
@@ -202,7 +208,9 @@ impl Alone {
     fn name(self) -> &'static str {
         match self {
             Alone::Lists => "lists",
+            Alone::Routers => "routers",
             Alone::Rules => "pairs of patterns",
+            Alone::Texts => "patterns as texts",
         }
     }
 
@@ -210,7 +218,9 @@ impl Alone {
     fn ask(self, maker: &mut RandomSource) -> Result<Outcome, Error> {
         match self {
             Alone::Lists => lists::ask(maker),
+            Alone::Routers => routers::ask(maker),
             Alone::Rules => rules::ask(maker),
+            Alone::Texts => texts::ask(maker),
         }
     }
 }

@@ -5,6 +5,7 @@
 mod hostile;
 mod links;
 mod lists;
+mod paths;
 mod repeating;
 mod rounds;
 mod routes;
@@ -301,14 +302,16 @@ pub fn run_links<R: Files + AllocGlobal + Clock, O: Write>(
     Ok(())
 }
 
-/// Prints the times of the table of a file's routes, and of generated tables.
+/// Prints the times of the table of a file's routes, and of generated tables: by URLs, and by paths
+/// alone.
 pub fn run_routes<R: Files + AllocGlobal + Clock, O: Write>(
     rt: &R,
     path: &str,
     out: &mut O,
 ) -> io::Result<()> {
     let text = fs::read_to_string(rt, path)?;
-    routes::run(rt, &text, out)
+    routes::run(rt, &text, out)?;
+    paths::run(rt, &text, out)
 }
 
 /// Prints the times of comparing all routes of a file with each other.

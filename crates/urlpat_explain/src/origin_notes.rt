@@ -28,7 +28,7 @@ const LEFT_OUT: &str = "left out, so that any text matches:";
 
 /// The beginning of the note that names the components that have no meaning.
 const NO_MEANING: &str = "\
-no meaning, since an expression ignores case or is not as simple as \\d+ or en|fr:";
+no meaning, since an expression is not as simple as \\d+ or en|fr:";
 
 /// The beginning of the note that names the components whose custom expressions have groups of
 /// their own.

@@ -27,7 +27,7 @@ usage: urlpat PATTERN URL
   explain      shows the components of a pattern, and whether each matches
   link         prints the URL that a pattern matches with given groups
   covers       says whether a pattern matches whatever another one does
-  unreachable  finds the patterns of a table that one before them covers
+  unreachable  finds the patterns of a table that are never the first match
   component    shows what the pattern of one component is compiled to
 
 BASE is a URL for the pattern and the input, or - for none. With --ignore-case, which may stand anywhere, the patterns of match, first,
@@ -168,10 +168,10 @@ example: urlpat covers 'https://example.com/*' 'https://example.com/users/:id'
 
 /// The help text of `unreachable`.
 const UNREACHABLE_HELP: &str = "\
-Finds the patterns of a table that are never the first match, since one before them covers them. Prints a line for each: the number
-of its line, a tab, and that of the pattern that covers it. Ends with status 1 if there is none.
-A pattern of which it is not known whether one before it covers it is reported on standard error,
-with the reason.
+Finds the patterns of a table that are never the first match, since those before them cover them. Prints a line for each: the number
+of its line, and those of the patterns that cover it together, with a tab before each. Ends with
+status 1 if there is none. A pattern of which it is not known is reported on standard error, with
+the reason.
 
 usage: urlpat unreachable FILE [BASE]
 

@@ -1,106 +1,46 @@
--- Lemmas on patterns for which it is not known whether an earlier one covers them.
-use Rattle.std.proofs.Common.{◌≡◌, ◌⊎◌, ◌<◌, ◌≤◌, ◌+◌, ◌++◌, ◌∙◌, ℕ, List, add-one, ap, get_or, inl, inr, length, refl, subst, sym, take, take_all}
-use Rattle.std.proofs.lemmas.List.Elements.{All-more}
-use Rattle.std.proofs.lemmas.Option.{slice_get_read}
-use Rattle.std.specs.Option.{option_or, option_to_list}
-use Rattle.std.specs.Prelude.{All, MatchOption, None, Option, Some, slice_get}
-use Rattle.std.specs.Prelude.{Err, Ok, OnOk, Result, if◌then◌else◌}
+-- Lemmas on the lines for the patterns of a table.
+use Rattle.std.proofs.Common.{◌≡◌, ◌⊎◌, ◌<◌, ◌+◌, ◌++◌, ◌∙◌, ℕ, zero, suc, List, [], ◌∷◌, ap, append-nil, append_assoc, arith, get_or, inl, inr, length, subst, sym, take}
+use Rattle.std.proofs.lemmas.Grind.{flat_map-append}
+use Rattle.std.proofs.lemmas.List.{length-take-le, take_more}
+use Rattle.std.specs.List.{flat_map}
+use Rattle.std.specs.Prelude.{Err, Ok, OnOk, Option, Result, nat_lt, if◌then◌else◌}
 use Rattle.std.specs.Result.{is_ok}
-use Rattle.urlpat_rules.specs.Doubts.{AreDoubts, HasDoubts, HasParting, IsDoubtAbout, IsDoubtAt, PrintsDoubts}
-use Rattle.urlpat_rules.specs.UnreachedLines.{ArePartsOfEach}
+use Rattle.std.specs.Io.KnownBytes.{Appends}
+use Rattle.urlpat_matching.specs.Status.{status_of}
+use Rattle.urlpat_rules.specs.Doubts.{AreLinesOf, HasDoubts, doubt_line}
+use Rattle.urlpat_rules.specs.UnreachedLines.{AreAutomataOfEach, ListsOf, lines_from, lines_of, number_at, numbers_text, tabbed, unreached_line}
 use Rattle.urlpat_lines.specs.Tables.{EntryView, entries_view, table_entries}
 use Rattle.urlpat_lines.specs.declared.table.Entry.{Entry}
-use Rattle.urlpat_rules.specs.declared.doubts.Doubt.{Doubt}
-use Rattle.urlpattern_components.specs.declared.eight.ComponentName.{ComponentName}
-use Rattle.urlpattern_compare.specs.declared.coverage.Reason.{Reason}
-use Rattle.urlpattern_compare.specs.Comparing.{IsNotKnownToCover, IsParting, IsReasonIn}
-use Rattle.urlpattern_compare.specs.declared.pattern_parts.Parting.{Parting}
-use Rattle.urlpattern_compare.specs.declared.pattern_parts.PatternParts.{PatternParts}
+use Rattle.urlpattern_compare.specs.Reaching.{AreReached}
+use Rattle.urlpattern_compare.specs.declared.candidates.TheConstants.{USUAL_LIMITS}
+use Rattle.urlpattern_compare.specs.declared.common_texts.PatternAutomata.{PatternAutomata}
+use Rattle.urlpattern_compare.specs.declared.reaching.Reach.{Reach}
 
--- A doubt about the asked pattern, which has this index. The patterns before the one in question
--- are known not to cover it.
-pub record IsDoubt (index : ℕ) (patterns : List PatternParts) (asked : PatternParts) (doubt : Doubt) :
-    Type 0 where
-  pub is_pattern : doubt.pattern ≡ index
-  pub pattern : PatternParts
-  pub is_there : slice_get patterns doubt.by ≡ Some pattern
-  pub why : IsReasonIn pattern asked doubt.component doubt.reason
-  pub parted : All (HasParting asked) (take doubt.by patterns)
+-- ---- lines
 
--- The doubt because of the first `count` patterns, none of which is known to cover the asked one.
-pub record IsDoubtBelow (index : ℕ) (patterns : List PatternParts) (asked : PatternParts) (count : ℕ)
-    (first : Option Doubt) : Type 0 where
-  pub uncovered : All (IsNotKnownToCover asked) (take count patterns)
-  pub found : MatchOption first (All (HasParting asked) (take count patterns))
-      (IsDoubt index patterns asked)
+from-more : (line : ℕ → Reach → List ℕ) (index : ℕ) (found : List Reach) (reach : Reach) → lines_from line index (found ++ reach ∷ []) ≡ lines_from line index found ++ line (index + length found) reach
+from-more line index [] reach = append-nil (line index reach) ∙ ap (λ n. line n reach) (let e : index ≡ index + 0 = omega arith in e)
+from-more line index (first ∷ found) reach =
+    let next : suc index + length found ≡ index + suc (length found) = omega arith in
+    ap (λ l. line index first ++ l) (from-more line (suc index) found reach)
+    ∙ sym (append_assoc (line index first) (lines_from line (suc index) found) (line (suc index + length found) reach))
+    ∙ ap (λ n. (line index first ++ lines_from line (suc index) found) ++ line n reach) next
 
-module _ (index : ℕ) (patterns : List PatternParts) (asked : PatternParts) (by : ℕ)
-    (pattern : PatternParts) (within : by < length patterns)
-    (is : pattern ≡ get_or patterns by pattern) where
-  uncovered-more : All (IsNotKnownToCover asked) (take by patterns) → IsNotKnownToCover asked pattern
-      → All (IsNotKnownToCover asked) (take (by + 1) patterns)
-  uncovered-more before here =
-      All-more (IsNotKnownToCover asked) patterns by pattern within before
-      (subst (IsNotKnownToCover asked) is here)
+-- The line for the next pattern is appended.
+pub lines-more : (line : ℕ → Reach → List ℕ) (found : List Reach) (index : ℕ) (reach : Reach) → index < length found → reach ≡ get_or found index reach
+    → lines_of line (take (index + 1) found) ≡ lines_of line (take index found) ++ line index reach
+lines-more line found index reach within is =
+    let seen : take (index + 1) found ≡ take index found ++ reach ∷ [] = take_more found index reach within ∙ ap (λ r. take index found ++ r ∷ []) (sym is) in
+    let long : length (take index found) ≡ index = length-take-le index found (omega (arith, within)) in
+    ap (lines_of line) seen ∙ from-more line 0 (take index found) reach ∙ ap (λ n. lines_of line (take index found) ++ line n reach) (let e : 0 + length (take index found) ≡ index = omega (arith, long) in e)
 
-  -- The next pattern is known not to cover the asked one.
-  pub below-parted : (first : Option Doubt) (parting : Parting) → IsParting pattern asked parting
-      → IsDoubtBelow index patterns asked by first → IsDoubtBelow index patterns asked (by + 1) first
-  below-parted None parting parts below = record {
-    uncovered = uncovered-more below.uncovered (inl (parting, parts));
-    found = All-more (HasParting asked) patterns by pattern within below.found
-        (subst (HasParting asked) is (parting, parts));
-  }
-  below-parted (Some doubt) parting parts below = record {
-    uncovered = uncovered-more below.uncovered (inl (parting, parts));
-    found = below.found;
-  }
-
-  -- Whether the next pattern covers the asked one is not known.
-  pub below-doubted : (first : Option Doubt) (name : ComponentName) (reason : Reason)
-      → IsReasonIn pattern asked name reason → IsDoubtBelow index patterns asked by first
-      → IsDoubtBelow index patterns asked (by + 1)
-      (option_or first (Some (record { pattern = index; by = by; component = name; reason = reason })))
-  below-doubted None name reason why below = record {
-    uncovered = uncovered-more below.uncovered (inr (name, reason, why));
-    found = record {
-      is_pattern = refl;
-      pattern = pattern;
-      is_there = slice_get_read patterns (length patterns) by pattern refl within is;
-      why = why;
-      parted = below.found;
-    };
-  }
-  below-doubted (Some doubt) name reason why below = record {
-    uncovered = uncovered-more below.uncovered (inr (name, reason, why));
-    found = below.found;
-  }
-
--- The doubt because of all patterns.
-pub about-all : (index : ℕ) (patterns : List PatternParts) (asked : PatternParts) (count : ℕ)
-    (first : Option Doubt) → length patterns ≤ count → IsDoubtBelow index patterns asked count first
-    → IsDoubtAbout index patterns asked first
-about-all index patterns asked count None past below =
-    inr (subst (All (HasParting asked)) (take_all count patterns past) below.found)
-about-all index patterns asked count (Some doubt) past below = (
-  below.found.is_pattern,
-  record {
-    pattern = below.found.pattern;
-    is_there = below.found.is_there;
-    why = below.found.why;
-    parted = below.found.parted;
-    uncovered = subst (All (IsNotKnownToCover asked)) (take_all count patterns past) below.uncovered;
-  },
-)
-
--- The doubt about the next pattern is appended.
-pub doubts-more : (patterns : List PatternParts) (index : ℕ) (old new : List Doubt)
-    (last : Option Doubt) → AreDoubts patterns index old → IsDoubtAt patterns index last
-    → new ≡ old ++ option_to_list last → AreDoubts patterns (index + 1) new
-doubts-more patterns index old new last are is grown =
-    subst (λ count. AreDoubts patterns count new) (sym (add-one index)) (old, last, are, is, grown)
-
--- ---- output
+-- The number at the next index is appended.
+pub numbers-more : (entries : List EntryView) (indices : List ℕ) (i : ℕ) → i < length indices
+    → numbers_text entries (take (i + 1) indices) ≡ numbers_text entries (take i indices) ++ tabbed (number_at entries (get_or indices i 0))
+numbers-more entries indices i within =
+    let text = λ (index : ℕ). tabbed (number_at entries index) in
+    ap (flat_map text) (take_more indices i 0 within) ∙ flat_map-append text (take i indices) (get_or indices i 0 ∷ [])
+    ∙ ap (λ l. numbers_text entries (take i indices) ++ l) (append-nil (text (get_or indices i 0)))
 
 -- A line is appended to a text, unless memory runs out.
 pub line-pushed : {X E : Type 0} (pushed : Result X E) (old new piece line : List ℕ)
@@ -109,19 +49,38 @@ pub line-pushed : {X E : Type 0} (pushed : Result X E) (old new piece line : Lis
 line-pushed (Err error) old new piece line grown is = tt
 line-pushed (Ok x) old new piece line grown is = grown ∙ ap (λ added. old ++ added) is
 
--- A doubt about a table's entries is one about the table.
-pub has-doubts : (table : List ℕ) (base : Option (List ℕ)) (items first second : List Entry)
-    (patterns shown : List PatternParts) (text : List ℕ)
-    → entries_view items ≡ table_entries table → first ≡ items → second ≡ items → shown ≡ patterns
-    → ArePartsOfEach base (entries_view first) patterns → PrintsDoubts shown (entries_view second) text
-    → 0 < length text → HasDoubts table base
-has-doubts table base items first second patterns shown text are one two same parts tells some = (
-  patterns,
-  subst (λ (es : List EntryView). ArePartsOfEach base es patterns) (ap entries_view one ∙ are) parts,
+-- ---- output
+
+-- The output for a table's entries is that for the table.
+pub lists-of : (table : List ℕ) (base : Option (List ℕ)) (items first second : List Entry) (all shown : List PatternAutomata) (text doubts : List ℕ) (status : ℕ) (old new : Option (List ℕ))
+    → entries_view items ≡ table_entries table → first ≡ items → second ≡ items → shown ≡ all
+    → AreAutomataOfEach base (entries_view first) all → AreLinesOf shown (entries_view second) text doubts → status ≡ status_of (nat_lt 0 (length text)) → Appends old new text
+    → ListsOf table base status old new
+lists-of table base items first second all shown text doubts status old new are one two same automata (found, reached, lines, said) ends printed = (
+  found,
+  (
+    all,
+    subst (λ (es : List EntryView). AreAutomataOfEach base es all) (ap entries_view one ∙ are) automata,
+    subst (λ (them : List PatternAutomata). AreReached USUAL_LIMITS them found) same reached,
+  ),
   text,
-  subst (λ (es : List EntryView). PrintsDoubts patterns es text) (ap entries_view two ∙ are)
-      (subst (λ (ps : List PatternParts). PrintsDoubts ps (entries_view second) text) same tells),
-  some,
+  lines ∙ ap (λ es. lines_of (unreached_line es) found) (ap entries_view two ∙ are),
+  ends,
+  printed,
+)
+
+-- A doubt about a table's entries is one about the table.
+pub has-doubts : (table : List ℕ) (base : Option (List ℕ)) (items first second : List Entry) (all shown : List PatternAutomata) (text doubts : List ℕ)
+    → entries_view items ≡ table_entries table → first ≡ items → second ≡ items → shown ≡ all
+    → AreAutomataOfEach base (entries_view first) all → AreLinesOf shown (entries_view second) text doubts → 0 < length doubts → HasDoubts table base
+has-doubts table base items first second all shown text doubts are one two same automata (found, reached, lines, said) some = (
+  found,
+  (
+    all,
+    subst (λ (es : List EntryView). AreAutomataOfEach base es all) (ap entries_view one ∙ are) automata,
+    subst (λ (them : List PatternAutomata). AreReached USUAL_LIMITS them found) same reached,
+  ),
+  subst (λ (l : List ℕ). 0 < length l) (said ∙ ap (λ es. lines_of (doubt_line es) found) (ap entries_view two ∙ are)) some,
 )
 
 -- Nothing is reported, or a doubt is.

@@ -1,67 +1,20 @@
--- The patterns of a table for which it is not known whether an earlier one covers them, and the
--- output for them. Texts are bytes.
-use Rattle.std.specs.Prelude.{◌≡◌, ◌⊎◌, ◌<◌, ℕ, zero, suc, All, List, [], ◌++◌, codes, decimal, length, Option, Some, MatchOption, slice_get, take}
-use Rattle.std.specs.List.{flat_map}
-use Rattle.std.specs.Option.{option_to_list}
+-- The patterns of a table for which it is not known whether earlier ones cover them, and the output
+-- for them. Texts are bytes.
+use Rattle.std.specs.Prelude.{◌≡◌, ◌<◌, ℕ, List, [], ◌++◌, codes, decimal, length, Option}
 use Rattle.urlpat_rules.specs.TableWords.{NameTable}
-use Rattle.urlpat_rules.specs.UnreachedLines.{ArePartsOfEach, number_at}
-use Rattle.urlpat_rules.specs.declared.doubts.Doubt.{Doubt}
+use Rattle.urlpat_rules.specs.UnreachedLines.{IsReachOf, lines_of, number_at, unreached_line}
 use Rattle.urlpat_lines.specs.Tables.{EntryView, table_entries}
+use Rattle.urlpattern_compare.specs.Reaching.{AreReached}
+use Rattle.urlpattern_compare.specs.declared.candidates.TheConstants.{USUAL_LIMITS}
+use Rattle.urlpattern_compare.specs.declared.common_texts.Doubt.{Doubt}
+use Rattle.urlpattern_compare.specs.declared.common_texts.Doubt.TheVariants as doubts
+use Rattle.urlpattern_compare.specs.declared.common_texts.PatternAutomata.{PatternAutomata}
 use Rattle.urlpattern_compare.specs.declared.coverage.Reason.{Reason}
 use Rattle.urlpattern_compare.specs.declared.coverage.Reason.TheVariants as reasons
+use Rattle.urlpattern_compare.specs.declared.reaching.Reach.{Reach}
+use Rattle.urlpattern_compare.specs.declared.reaching.Reach.TheVariants as reaches
+use Rattle.urlpattern_components.specs.declared.eight.ComponentName.{ComponentName}
 use Rattle.urlpattern_components.specs.Eight.{name_text}
-use Rattle.urlpattern_compare.specs.Comparing.{CoversAt, IsNotKnownToCover, IsParting, IsReasonIn}
-use Rattle.urlpattern_compare.specs.declared.pattern_parts.Parting.{Parting}
-use Rattle.urlpattern_compare.specs.declared.pattern_parts.PatternParts.{PatternParts}
-
--- ---- doubts
-
--- The pattern is known not to cover the asked one: a component does not match a text that the asked
--- one's matches.
-abbrev pub HasParting : (asked pattern : PatternParts) → Type 0
-HasParting asked pattern = (parting : Parting) × IsParting pattern asked parting
-
--- Whether some pattern of the list covers the asked one is known: one is known to cover it, or each
--- is known not to.
-abbrev pub IsDecided : List PatternParts → (asked : PatternParts) → Type 0
-IsDecided patterns asked =
-    ((index : ℕ) × CoversAt patterns asked index) ⊎ All (HasParting asked) patterns
-
--- No pattern of the list is known to cover the asked one. The doubt has the index of the first
--- pattern for which it is not known whether it covers the asked one, and the component and the
--- reason to which that is due.
-pub record IsInDoubt (patterns : List PatternParts) (asked : PatternParts) (doubt : Doubt) :
-    Type 0 where
-  pub pattern : PatternParts
-  pub is_there : slice_get patterns doubt.by ≡ Some pattern
-  pub why : IsReasonIn pattern asked doubt.component doubt.reason
-  pub parted : All (HasParting asked) (take doubt.by patterns)
-  pub uncovered : All (IsNotKnownToCover asked) patterns
-
--- `found` is the doubt whether a pattern of the list covers the asked one, whose index is `index`.
--- `None`: there is no doubt.
-abbrev pub IsDoubtAbout : (index : ℕ) → List PatternParts → (asked : PatternParts) → Option Doubt
-    → Type 0
-IsDoubtAbout index patterns asked found =
-    MatchOption found (IsDecided patterns asked)
-    (λ doubt. (doubt.pattern ≡ index) × IsInDoubt patterns asked doubt)
-
--- `found` is the doubt whether an earlier pattern covers the pattern at `index`. `None`: there is
--- no doubt.
-abbrev pub IsDoubtAt : List PatternParts → (index : ℕ) → Option Doubt → Type 0
-IsDoubtAt patterns index found =
-    (asked : PatternParts) × (slice_get patterns index ≡ Some asked)
-    × IsDoubtAbout index (take index patterns) asked found
-
--- The doubts whether an earlier pattern covers one of the first `count` patterns, in order.
-abbrev pub AreDoubts : List PatternParts → (count : ℕ) → List Doubt → Type 0
-AreDoubts patterns zero found = found ≡ []
-AreDoubts patterns (suc count) found =
-    (earlier : List Doubt) × (last : Option Doubt)
-    × AreDoubts patterns count earlier × IsDoubtAt patterns count last
-    × (found ≡ earlier ++ option_to_list last)
-
--- ---- output
 
 -- A reason why it is not known whether a pattern covers another, in words that follow the name of
 -- the component.
@@ -70,26 +23,40 @@ reason_text reasons.CustomExpression = codes "has a custom expression"
 reason_text reasons.IgnoredCase = codes "ignores case"
 reason_text reasons.TooMany = codes "would take too many steps to compare"
 
--- The line that says for which pattern and because of which earlier one it is not known, by their
--- line numbers, and why.
-abbrev pub doubt_line : List EntryView → Doubt → List ℕ
-doubt_line entries doubt =
-    codes "line " ++ decimal (number_at entries doubt.pattern)
-    ++ codes ": not known whether line " ++ decimal (number_at entries doubt.by)
-    ++ codes " covers it: the " ++ name_text doubt.component
-    ++ codes " " ++ reason_text doubt.reason ++ codes "\n"
+-- What is not known because of the component of the pattern itself, in words that follow `whether`.
+abbrev pub component_text : ComponentName → Reason → List ℕ
+component_text name reason =
+    codes "it matches what no line before it does: the " ++ name_text name
+    ++ codes " " ++ reason_text reason
 
--- `text` is a line for each doubt about the patterns. `entries` have their line numbers.
-abbrev pub PrintsDoubts : List PatternParts → List EntryView → (text : List ℕ) → Type 0
-PrintsDoubts patterns entries text =
-    (found : List Doubt) × AreDoubts patterns (length patterns) found
-    × (text ≡ flat_map (doubt_line entries) found)
+-- What is not known, and why, in words that follow `whether`. `NoneOf` is of an earlier pattern,
+-- `AllOf` of the pattern itself.
+abbrev pub doubt_text : List EntryView → Doubt → List ℕ
+doubt_text entries (doubts.NoneOf lack) =
+    codes "line " ++ decimal (number_at entries lack.pattern)
+    ++ codes " covers it: the " ++ name_text lack.component
+    ++ codes " " ++ reason_text lack.reason
+doubt_text entries (doubts.AllOf lack) = component_text lack.component lack.reason
+doubt_text entries (doubts.TooManySets name) = component_text name reasons.TooMany
+doubt_text entries doubts.TooManyTexts =
+    codes "it matches what no line before it does: they " ++ reason_text reasons.TooMany
 
--- The table has a pattern for which it is not known whether an earlier one covers it.
+-- The line that says for which pattern it is not known, by its line number, and why.
+abbrev pub said_line : List EntryView → (index : ℕ) → Doubt → List ℕ
+said_line entries index doubt =
+    codes "line " ++ decimal (number_at entries index) ++ codes ": not known whether "
+    ++ doubt_text entries doubt ++ codes "\n"
+
+-- The line for the pattern at an index, if it is not known whether earlier ones cover it.
+abbrev pub doubt_line : List EntryView → (index : ℕ) → Reach → List ℕ
+doubt_line entries index (reaches.Unknown doubt) = said_line entries index doubt
+doubt_line entries index other = []
+
+-- The table has a pattern for which it is not known whether earlier ones cover it.
 abbrev pub HasDoubts : (table : List ℕ) → (base : Option (List ℕ)) → Type 0
 HasDoubts table base =
-    (patterns : List PatternParts) × ArePartsOfEach base (table_entries table) patterns
-    × (text : List ℕ) × PrintsDoubts patterns (table_entries table) text × (0 < length text)
+    (found : List Reach) × IsReachOf base (table_entries table) found
+    × (0 < length (lines_of (doubt_line (table_entries table)) found))
 
 -- The arguments of `unreachable` name a table of which some pattern is in doubt (`HasDoubts`).
 -- `Has` says which file has which table.
@@ -97,3 +64,13 @@ abbrev pub LeaveDoubts : (Has : (name table : List ℕ) → Type 0) → (words :
 LeaveDoubts Has words =
     (name : List ℕ) × (base : Option (List ℕ)) × NameTable words name base
     × (table : List ℕ) × Has name table × HasDoubts table base
+
+-- ---- steps
+
+-- The two texts have the lines for patterns that earlier ones cover, and for those for which that
+-- is not known.
+abbrev pub AreLinesOf : List PatternAutomata → List EntryView → (text doubts : List ℕ) → Type 0
+AreLinesOf all entries text doubts =
+    (found : List Reach) × AreReached USUAL_LIMITS all found
+    × (text ≡ lines_of (unreached_line entries) found)
+    × (doubts ≡ lines_of (doubt_line entries) found)

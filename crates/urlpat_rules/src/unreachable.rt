@@ -1,10 +1,11 @@
-//! The command `unreachable`: lists the patterns of a table that an earlier one covers.
+//! The command `unreachable`: lists the patterns of a table that earlier ones cover.
 
-ghost use Rattle.std.specs.Prelude.{◌≡◌, ◌≢◌, ◌⊎◌, ◌++◌, length, map, nat_lt, string_bytes, option_copied, IfOk, IfSome, OnOk};
+ghost use Rattle.std.specs.Prelude.{◌≡◌, ◌≢◌, ◌⊎◌, ◌++◌, All, length, map, nat_lt, string_bytes, option_copied, IfOk, IfSome, OnOk};
 ghost use Rattle.urlpat_lines.specs.Words.{words_view};
 ghost use Rattle.urlpat_matching.specs.Status.{status_of};
-ghost use Rattle.urlpat_rules.specs.Doubts.{HasDoubts, LeaveDoubts, PrintsDoubts};
-ghost use Rattle.urlpat_rules.specs.UnreachedLines.{ArePartsOfEach, AreUnreachedLines, Lists, ListsOf, number_at, unreached_line};
+ghost use Rattle.urlpat_rules.specs.Doubts.{AreLinesOf, HasDoubts, LeaveDoubts};
+ghost use Rattle.urlpat_rules.specs.UnreachedLines.{AreAppended, AreAutomataOfEach, Lists, ListsOf, covered_line, lines_of, number_at, numbers_text, tabbed, unreached_line};
+ghost use Rattle.urlpattern_compare.specs.CommonTexts.{AreAutomata};
 ghost use Rattle.urlpat_lines.specs.Tables.{entries_view};
 
 use crate::doubts::doubts_text;
@@ -14,14 +15,14 @@ use std::alloc::{AllocError, Global};
 use std::io::Write;
 use urlpat_lines::Entry;
 use urlpat_matching::{DONE, FAILED, NO_MATCH, print};
-use urlpattern::rules::{PatternParts, Shadowed, unreachable};
+use urlpattern::rules::{PatternAutomata, PatternParts, Reach, USUAL_LIMITS, reach_of_each};
 
 /// The usage of `unreachable`.
 const UNREACHABLE_USAGE: &str = "usage: urlpat unreachable FILE [BASE]\n";
 
 /// Runs `unreachable` with the arguments after it. Returns the exit status: `NO_MATCH` if no
-/// pattern is known to be covered by an earlier one. Patterns for which it is not known whether an
-/// earlier one covers them are reported to `err`.
+/// pattern is known to be covered by earlier ones. Patterns for which it is not known whether
+/// earlier ones cover them are reported to `err`.
 pub fn list_unreachable<T: Tables, Out: Write, Err: Write>(
     alloc: Global,
     tables: &T,
@@ -48,9 +49,8 @@ pub fn list_unreachable<T: Tables, Out: Write, Err: Write>(
     status
 }
 
-/// Writes a line for each pattern of a table that an earlier one is known to cover, and reports
-/// each for which it is not known whether an earlier one covers it. Returns the exit status:
-/// `NO_MATCH` if no line is written.
+/// Writes a line for each pattern of a table that earlier ones cover, and reports each for which it
+/// is not known whether they do. Returns the exit status: `NO_MATCH` if no line is written.
 fn print_unreachable<Out: Write, Err: Write>(
     alloc: Global,
     table: &[u8],
@@ -68,11 +68,11 @@ fn print_unreachable<Out: Write, Err: Write>(
     let Some(entries) = read_entries(alloc, table, err) else {
         return FAILED;
     };
-    let Some(patterns) = parts_of_each(alloc, &entries, base, err) else {
+    let Some(automata) = automata_of_each(alloc, &entries, base, err) else {
         return FAILED;
     };
-    let texts = texts_of(alloc, &entries, &patterns);
-    drop(patterns);
+    let texts = texts_of(alloc, &entries, &automata);
+    drop(automata);
     let Ok((text, doubts)) = texts else {
         let _ = err.write_all(b"out of memory\n");
         return FAILED;
@@ -88,20 +88,21 @@ fn print_unreachable<Out: Write, Err: Write>(
     }
 }
 
-/// Returns two texts: a line for each pattern that an earlier one is known to cover, and a line for
-/// each pattern for which it is not known whether an earlier one covers it.
+/// Returns two texts: a line for each pattern that earlier ones cover, and a line for each pattern
+/// for which that is not known.
 fn texts_of(
     alloc: Global,
     entries: &[Entry<'_>],
-    patterns: &[PatternParts],
+    automata: &[PatternAutomata],
 ) -> Result<(String, String), AllocError>
-    ensures unreached { IfOk result (λ texts.
-        AreUnreachedLines patterns.now (entries_view entries.now) (string_bytes texts.0)) }
-    ensures doubts { IfOk result (λ texts.
-        PrintsDoubts patterns.now (entries_view entries.now) (string_bytes texts.1)) }
+    requires { All AreAutomata automata.now }
+    ensures { IfOk result (λ texts. AreLinesOf automata.now (entries_view entries.now)
+        (string_bytes texts.0) (string_bytes texts.1)) }
 {
-    let text = unreached_text(alloc, entries, patterns)?;
-    let doubts = doubts_text(alloc, entries, patterns)?;
+    let all = references(alloc, automata)?;
+    let found = reach_of_each(alloc, &all, USUAL_LIMITS)?;
+    let text = unreached_text(alloc, entries, &found)?;
+    let doubts = doubts_text(alloc, entries, &found)?;
     Ok((text, doubts))
 }
 
@@ -113,19 +114,19 @@ fn status_of(text: &str) -> u8
     if text.is_empty() { NO_MATCH } else { DONE }
 }
 
-/// Compiles the pattern of each entry, and returns their parts. `None`: a pattern is rejected, or
-/// memory ran out, which is reported.
-fn parts_of_each<Err: Write>(
+/// Compiles the pattern of each entry, and returns the automata of their parts. `None`: a pattern
+/// is rejected, or memory ran out, which is reported.
+fn automata_of_each<Err: Write>(
     alloc: Global,
     entries: &[Entry<'_>],
     base: Option<&str>,
     err: &mut Err,
-) -> Option<Vec<PatternParts>>
-    ensures parts { IfSome result (λ parts.
-        ArePartsOfEach (option_copied base.entry) (entries_view entries.now) parts.items) }
-    ensures quiet { IfSome result (λ parts. err.new ≡ err.old) }
+) -> Option<Vec<PatternAutomata>>
+    ensures automata { IfSome result (λ all.
+        AreAutomataOfEach (option_copied base.entry) (entries_view entries.now) all.items) }
+    ensures quiet { IfSome result (λ all. err.new ≡ err.old) }
 {
-    let mut patterns = Vec::new(alloc);
+    let mut all = Vec::new(alloc);
     for entry in entries {
         let parts = match parts_of_text(alloc, entry.pattern, base) {
             Ok(parts) => parts,
@@ -134,54 +135,112 @@ fn parts_of_each<Err: Write>(
                 return None;
             }
         };
-        let Ok(()) = patterns.push(parts) else {
+        let Ok(()) = push_automata(alloc, &mut all, parts) else {
             let _ = err.write_all(b"out of memory\n");
             return None;
         };
     }
-    Some(patterns)
+    Some(all)
 }
 
-/// A line for each pattern that an earlier one is known to cover, by the line numbers in `entries`.
+/// Appends the automata of these parts.
+fn push_automata(
+    alloc: Global,
+    all: &mut Vec<PatternAutomata>,
+    parts: PatternParts,
+) -> Result<(), AllocError>
+    ensures { OnOk result (AreAppended parts all.old.items all.new.items) }
+{
+    let automata = PatternAutomata::new(alloc, parts)?;
+    all.push(automata)?;
+    Ok(())
+}
+
+/// A line for each pattern that earlier ones cover, by the line numbers in `entries`.
 fn unreached_text(
     alloc: Global,
     entries: &[Entry<'_>],
-    patterns: &[PatternParts],
+    found: &[Reach],
 ) -> Result<String, AllocError>
-    ensures { IfOk result (λ text.
-        AreUnreachedLines patterns.now (entries_view entries.now) (string_bytes text)) }
+    ensures { IfOk result (λ text. string_bytes text
+        ≡ lines_of (unreached_line (entries_view entries.now)) found.now) }
 {
-    let all = references(alloc, patterns)?;
-    let found = unreachable(alloc, &all)?;
     let mut text = String::new(alloc);
-    for shadowed in &found {
-        push_shadowed(alloc, &mut text, entries, *shadowed)?;
+    for index in 0..found.len() {
+        push_unreached(alloc, &mut text, entries, index, &found[index])?;
     }
     Ok(text)
 }
 
-/// References to the parts of each pattern.
-fn references(alloc: Global, patterns: &[PatternParts]) -> Result<Vec<&PatternParts>, AllocError>
-    ensures { IfOk result (λ all. map (λ parts. parts.now) all.items ≡ patterns.now) }
+/// References to the automata of each pattern.
+fn references(
+    alloc: Global,
+    automata: &[PatternAutomata],
+) -> Result<Vec<&PatternAutomata>, AllocError>
+    ensures { IfOk result (λ all. map (λ it. it.now) all.items ≡ automata.now) }
 {
-    patterns.iter().collect(alloc)
+    automata.iter().collect(alloc)
 }
 
-/// Appends a line with the line number of a pattern, and the line number of the first one that is
-/// known to cover it.
-fn push_shadowed(
+/// Appends a line for the pattern at the index, if earlier ones cover it: its line number, and
+/// those of the patterns that cover it together.
+fn push_unreached(
     alloc: Global,
     text: &mut String,
     entries: &[Entry<'_>],
-    shadowed: Shadowed,
+    index: usize,
+    reach: &Reach,
 ) -> Result<(), AllocError>
     ensures { OnOk result (string_bytes text.new
-        ≡ string_bytes text.old ++ unreached_line (entries_view entries.now) shadowed) }
+        ≡ string_bytes text.old ++ unreached_line (entries_view entries.now) index reach.now) }
 {
-    let pattern = number_at(entries, shadowed.pattern);
-    let by = number_at(entries, shadowed.by);
-    let line = format!(in alloc; "{pattern}\t{by}\n")?;
+    match reach {
+        Reach::Never(by) => push_covered(alloc, text, entries, index, by),
+        Reach::First(_) => Ok(()),
+        Reach::Unknown(_) => Ok(()),
+    }
+}
+
+/// Appends a line with the line number of the pattern at the index, and those at the indices `by`.
+fn push_covered(
+    alloc: Global,
+    text: &mut String,
+    entries: &[Entry<'_>],
+    index: usize,
+    by: &[usize],
+) -> Result<(), AllocError>
+    ensures { OnOk result (string_bytes text.new
+        ≡ string_bytes text.old ++ covered_line (entries_view entries.now) index by.now) }
+{
+    let number = number_at(entries, index);
+    let others = numbers_text(alloc, entries, by)?;
+    let line = format!(in alloc; "{number}{others}\n")?;
     text.push_str(&line)
+}
+
+/// The line numbers of the entries at these indices, with a tab before each.
+fn numbers_text(
+    alloc: Global,
+    entries: &[Entry<'_>],
+    indices: &[usize],
+) -> Result<String, AllocError>
+    ensures { IfOk result (λ text.
+        string_bytes text ≡ numbers_text (entries_view entries.now) indices.now) }
+{
+    let mut text = String::new(alloc);
+    for index in indices {
+        push_number(alloc, &mut text, number_at(entries, *index))?;
+    }
+    Ok(text)
+}
+
+/// Appends a tab and the number.
+fn push_number(alloc: Global, text: &mut String, number: u64) -> Result<(), AllocError>
+    ensures { OnOk result (string_bytes text.new
+        ≡ string_bytes text.old ++ tabbed number) }
+{
+    let next = format!(in alloc; "\t{number}")?;
+    text.push_str(&next)
 }
 
 /// The line number of the entry at an index. 0 if the index is out of range.

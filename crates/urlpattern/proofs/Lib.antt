@@ -9,5 +9,8 @@ pub mod NextLemmas
 pub mod PatternMapLemmas
 pub mod MapFinding
 pub mod RouteLemmas
-pub mod UnreachedLemmas
-pub mod NeverFirst
+pub mod RouteExamples
+pub mod RouteReachLemmas
+pub mod ListedParts
+pub mod ReachedLaws
+pub mod ContentionLemmas

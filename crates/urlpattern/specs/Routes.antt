@@ -1,25 +1,35 @@
 -- The routes of a router. `answer` is what an engine returns for a text.
 use Rattle.http_header.specs.Token.{IsToken}
 use Rattle.std.specs.Borrow.{Bor}
-use Rattle.std.specs.Prelude.{◌≡◌, ◌⊎◌, ◌+◌, ◌++◌, ◌∷◌, [], ◌<◌, ◌≤◌, ℕ, IsSomeAnd, IsTrue, List, MatchOption, None, Option, Result, Ok, Err, Some, codes, length, slice_get}
+use Rattle.std.specs.Prelude.{◌≡◌, ◌⊎◌, ◌+◌, ◌++◌, ◌∷◌, [], ◌<◌, ◌≤◌, Bool, true, false, ℕ, IfSome, IsSomeAnd, IsTrue, List, MatchOption, None, Option, Result, Ok, Err, Some, codes, length, option_map, slice_get}
 use Rattle.std.specs.Str.{chars}
+use Rattle.url.specs.Parts.{Parts}
+use Rattle.urlpattern.specs.FirstMatch.{CallsEngineBeforeMatch}
+use Rattle.urlpattern.specs.NextMatch.{NoneMatchBetween}
 use Rattle.urlpattern.specs.Paths.{IsPath}
+use Rattle.urlpattern.specs.PatternMaps.{entry_patterns}
 use Rattle.urlpattern.specs.declared.path_error.PathError.{PathError}
 use Rattle.urlpattern.specs.declared.path_error.PathError.TheVariants as paths
 use Rattle.urlpattern.specs.declared.router.UrlPatternRouter.{UrlPatternRouter}
 use Rattle.urlpattern.specs.declared.router.allowed_methods.AllowedMethods.{AllowedMethods}
 use Rattle.urlpattern.specs.declared.router.route.Route.{Route}
 use Rattle.urlpattern.specs.declared.router.route_error.RouteError.{RouteError}
-use Rattle.urlpattern.specs.declared.router.route_error.RouteError.TheVariants.{NotAMethod, OutOfMemory}
+use Rattle.urlpattern.specs.declared.router.route_error.RouteError.TheVariants.{NameTaken, NotAMethod, OutOfMemory}
 use Rattle.urlpattern.specs.declared.router.routed.Routed.{Routed}
 use Rattle.urlpattern.specs.declared.router.routed.Routed.TheVariants.{Found, MethodNotAllowed, NotFound}
 use Rattle.urlpattern_components.specs.Eight.{Texts}
+use Rattle.urlpattern_generate.specs.EncodedGroups.{encoded_groups}
+use Rattle.urlpattern_generate.specs.WriteSettings.{GivenView}
+use Rattle.urlpattern_generate.specs.declared.no_link.NoLink.{NoLink}
+use Rattle.urlpattern_init.specs.declared.init.UrlPatternMatchInput.TheVariants as inputs
 use Rattle.urlpattern_matches.specs.BorrowedMatches.{groups_view, pattern_captures_view}
 use Rattle.urlpattern_matches.specs.GroupTexts.{borrowed_texts}
 use Rattle.urlpattern_matches.specs.MatchInput.{pathname_alone}
 use Rattle.urlpattern_matches.specs.declared.captures.UrlPatternCaptures.{UrlPatternCaptures}
 use Rattle.urlpattern_meaning.specs.PartMeaning.{Captures}
-use Rattle.urlpattern_pattern.specs.Match.{AreGroupsInOrder, AreMatched, CallsAnEngine, DoesNotMatch, IsMatchOf}
+use Rattle.urlpattern_pattern.specs.EncodedLinks.{RejectsEncoded, ReturnsDecoded}
+use Rattle.urlpattern_pattern.specs.LinkedUrls.{IsLink}
+use Rattle.urlpattern_pattern.specs.Match.{AreGroupsInOrder, AreMatched, CallsAnEngine, DoesNotMatch, HasMatch, IsMatchOf}
 use Rattle.urlpattern_pattern.specs.Patterns.{pattern_view}
 use Rattle.urlpattern_pattern.specs.UrlPatterns.{UrlPattern}
 use Rattle.urlpattern_syntax.specs.Text.{text_of}
@@ -33,39 +43,79 @@ abbrev pub Routes : (E T : Type 0) → Type 0
 Routes E T = List (UrlPattern E × Route T)
 
 -- The route serves requests with this method, since it is its own, or since it has none.
-abbrev pub Takes : {T : Type 0} → Route T → (method : List ℕ) → Type 0
-Takes route method = MatchOption route.method (Unit {0}) (λ own. text_of own ≡ method)
+abbrev pub Takes : {T : Type 0} → (method : List ℕ) → Route T → Type 0
+Takes method route = MatchOption route.method (Unit {0}) (λ own. text_of own ≡ method)
 
 -- The route has this method.
-abbrev pub HasMethod : {T : Type 0} → Route T → (method : List ℕ) → Type 0
-HasMethod route method = IsSomeAnd route.method (λ own. text_of own ≡ method)
+abbrev pub HasMethod : {T : Type 0} → (method : List ℕ) → Route T → Type 0
+HasMethod method route = IsSomeAnd route.method (λ own. text_of own ≡ method)
 
--- The route does not answer requests with this method, or its pattern does not match the texts.
+-- The route has this method or, if `or_any` is true, serves every method.
+abbrev pub TakesBy : {T : Type 0} → (or_any : Bool) → (method : List ℕ) → Route T → Type 0
+TakesBy true method route = Takes method route
+TakesBy false method route = HasMethod method route
+
+-- The route is not one for which `Is` holds, or its pattern does not match the texts.
 abbrev pub DoesNotServe : {E T : Type 0} → (answer : E → List ℕ → Option Captures)
-    → (method : List ℕ) → Texts → UrlPattern E × Route T → Type 0
-DoesNotServe answer method texts (pattern, route) =
-    (¬ Takes route method) ⊎ DoesNotMatch answer (pattern_view pattern) texts
+    → (Is : Route T → Type 0) → Texts → UrlPattern E × Route T → Type 0
+DoesNotServe answer Is texts (pattern, route) =
+    (¬ Is route) ⊎ DoesNotMatch answer (pattern_view pattern) texts
 
--- No route before the index `end` serves requests with this method and matches the texts.
+-- No route before the index `end` for which `Is` holds matches the texts.
 abbrev pub NoneServesBefore : {E T : Type 0} → (answer : E → List ℕ → Option Captures)
-    → Routes E T → (method : List ℕ) → Texts → (end : ℕ) → Type 0
-NoneServesBefore {E} {T} answer routes method texts end =
+    → Routes E T → (Is : Route T → Type 0) → Texts → (end : ℕ) → Type 0
+NoneServesBefore {E} {T} answer routes Is texts end =
     (index : ℕ) (entry : UrlPattern E × Route T) → index < end
-    → slice_get routes index ≡ Some entry → DoesNotServe answer method texts entry
+    → slice_get routes index ≡ Some entry → DoesNotServe answer Is texts entry
 
--- `found` is the first route that serves requests with this method and matches the texts: its
--- index, its value, and the match. `None`: there is no such route.
-abbrev pub IsRouteFound : {E T : Type 0} → (answer : E → List ℕ → Option Captures)
-    → Routes E T → (method : List ℕ) → Texts → Option (ℕ × Bor T × UrlPatternCaptures) → Type 0
-IsRouteFound {E} {T} answer routes method texts (Some (index, value, captures)) =
-    ((entry : UrlPattern E × Route T) × (slice_get routes index ≡ Some entry)
-    × Takes entry.1 method
+-- `Is` holds for the route at an index, which matches the texts, with this value and this match.
+abbrev pub Serves : {E T : Type 0} → (answer : E → List ℕ → Option Captures) → Routes E T
+    → (Is : Route T → Type 0) → Texts → ℕ × Bor T × UrlPatternCaptures → Type 0
+Serves {E} {T} answer routes Is texts (index, value, captures) =
+    (entry : UrlPattern E × Route T) × (slice_get routes index ≡ Some entry)
+    × Is entry.1
     × (value.now ≡ entry.1.value)
     × IsMatchOf answer (pattern_view entry.0) texts (pattern_captures_view captures)
-    × AreGroupsInOrder answer (pattern_view entry.0) texts (groups_view captures))
-    × NoneServesBefore answer routes method texts index
-IsRouteFound answer routes method texts None =
-    NoneServesBefore answer routes method texts (length routes)
+    × AreGroupsInOrder answer (pattern_view entry.0) texts (groups_view captures)
+
+-- `found` is the first route for which `Is` holds that matches the texts: its index, its value, and
+-- the match. `None`: there is no such route.
+abbrev pub IsRouteFound : {E T : Type 0} → (answer : E → List ℕ → Option Captures)
+    → Routes E T → (Is : Route T → Type 0) → Texts → Option (ℕ × Bor T × UrlPatternCaptures)
+    → Type 0
+IsRouteFound answer routes Is texts (Some first) =
+    Serves answer routes Is texts first × NoneServesBefore answer routes Is texts first.0
+IsRouteFound answer routes Is texts None =
+    NoneServesBefore answer routes Is texts (length routes)
+
+-- No route at the index for which `Is` holds matches the texts.
+abbrev pub NoneServesAt : {E T : Type 0} → (answer : E → List ℕ → Option Captures) → Routes E T
+    → (Is : Route T → Type 0) → Texts → (index : ℕ) → Type 0
+NoneServesAt {E} {T} answer routes Is texts index =
+    (entry : UrlPattern E × Route T) → slice_get routes index ≡ Some entry
+    → DoesNotServe answer Is texts entry
+
+-- A route at the index may match the texts, and no route before the index does.
+abbrev pub IsCandidate : {E T : Type 0} → (answer : E → List ℕ → Option Captures) → Routes E T
+    → Texts → (index : ℕ) → Type 0
+IsCandidate answer routes texts index =
+    (index < length routes) × NoneMatchBetween answer (entry_patterns routes) texts 0 index
+
+-- `Is` holds for the route at the index, which calls an engine for the texts.
+abbrev pub CallsEngineAt : {E T : Type 0} → (answer : E → List ℕ → Option Captures) → Routes E T
+    → (Is : Route T → Type 0) → Texts → (index : ℕ) → Type 0
+CallsEngineAt {E} {T} answer routes Is texts index =
+    (entry : UrlPattern E × Route T) × (slice_get routes index ≡ Some entry)
+    × Is entry.1
+    × CallsAnEngine answer (pattern_view entry.0) texts
+
+-- Some route for which `Is` holds calls an engine for the texts, and no such route before it
+-- matches them.
+abbrev pub CallsEngineBeforeRoute : {E T : Type 0} → (answer : E → List ℕ → Option Captures)
+    → Routes E T → (Is : Route T → Type 0) → Texts → Type 0
+CallsEngineBeforeRoute answer routes Is texts =
+    (index : ℕ) × CallsEngineAt answer routes Is texts index
+    × NoneServesBefore answer routes Is texts index
 
 -- ---- a request
 
@@ -91,12 +141,6 @@ allowed_left methods = record {
 abbrev pub IsHead : {E T : Type 0} → UrlPatternRouter T E → (method : List ℕ) → Type 0
 IsHead router method = IsTrue router.head_as_get × (method ≡ codes "HEAD")
 
--- No route matches that serves a request with this method.
-pub record HasNoRoute {E T : Type 0} (answer : E → List ℕ → Option Captures)
-    (router : UrlPatternRouter T E) (method : List ℕ) (texts : Texts) : Type 0 where
-  pub own : IsRouteFound answer router.routes method texts None
-  pub get : IsHead router method → IsRouteFound answer router.routes (codes "GET") texts None
-
 -- Some route matches the texts, whatever its method.
 abbrev pub SomeMatches : {E T : Type 0} → (answer : E → List ℕ → Option Captures)
     → Routes E T → Texts → Type 0
@@ -104,17 +148,24 @@ SomeMatches {E} {T} answer routes texts =
     (index : ℕ) × (entry : UrlPattern E × Route T) × (slice_get routes index ≡ Some entry)
     × AreMatched answer (pattern_view entry.0) texts
 
--- `found` is the route that serves a request with this method and eight texts: the first for the
--- method, or, for `HEAD`, the first for `GET` if there is none. `None`: no route serves it.
-abbrev pub IsServed : {E T : Type 0} → (answer : E → List ℕ → Option Captures)
-    → UrlPatternRouter T E → (method : List ℕ) → Texts → Option (ℕ × Bor T × UrlPatternCaptures)
-    → Type 0
-IsServed answer router method texts (Some found) =
-    IsRouteFound answer router.routes method texts (Some found)
-    ⊎ (IsHead router method
-    × IsRouteFound answer router.routes method texts None
-    × IsRouteFound answer router.routes (codes "GET") texts (Some found))
-IsServed answer router method texts None = HasNoRoute answer router method texts
+-- `found` is the first route whose own method is `HEAD` that matches the texts or, if there is
+-- none, the first that serves `GET`.
+abbrev pub IsServedAsHead : {E T : Type 0} → (answer : E → List ℕ → Option Captures)
+    → Routes E T → Texts → Option (ℕ × Bor T × UrlPatternCaptures) → Type 0
+IsServedAsHead answer routes texts found =
+    IsSomeAnd found (λ own.
+    IsRouteFound answer routes (HasMethod (codes "HEAD")) texts (Some own))
+    ⊎ (IsRouteFound answer routes (HasMethod (codes "HEAD")) texts None
+    × IsRouteFound answer routes (Takes (codes "GET")) texts found)
+
+-- `found` is the route that serves a request with this method and eight texts. `None`: no route
+-- serves it.
+pub record IsServed {E T : Type 0} (answer : E → List ℕ → Option Captures)
+    (router : UrlPatternRouter T E) (method : List ℕ) (texts : Texts)
+    (found : Option (ℕ × Bor T × UrlPatternCaptures)) : Type 0 where
+  pub head : IsHead router method → IsServedAsHead answer router.routes texts found
+  pub other : ¬ IsHead router method
+      → IsRouteFound answer router.routes (Takes method) texts found
 
 -- What a router returns for a request with this method and eight texts. `Found`: the route that
 -- serves it. `MethodNotAllowed`: no route serves it, but some route matches, and the methods are
@@ -137,6 +188,37 @@ abbrev pub IsRoutedPath : {E T : Type 0} → (answer : E → List ℕ → Option
 IsRoutedPath answer router method path routed =
     IsPath path × IsRouted answer router method (pathname_alone path) routed
 
+-- An engine is called to find the route that serves a request with this method and eight texts: by
+-- a route for the method, or, for `HEAD` if no route of its own matches, by one for `GET`; and no
+-- such route before it matches.
+pub record CallsEngineOfServing {E T : Type 0} (answer : E → List ℕ → Option Captures)
+    (router : UrlPatternRouter T E) (method : List ℕ) (texts : Texts) : Type 0 where
+  pub head : IsHead router method
+      → CallsEngineBeforeRoute answer router.routes (HasMethod (codes "HEAD")) texts
+      ⊎ (IsRouteFound answer router.routes (HasMethod (codes "HEAD")) texts None
+      × CallsEngineBeforeRoute answer router.routes (Takes (codes "GET")) texts)
+  pub other : ¬ IsHead router method
+      → CallsEngineBeforeRoute answer router.routes (Takes method) texts
+
+-- An engine is called for a request with this method and eight texts: to find the route that serves
+-- it, or, if no route does, by any route before one matches.
+abbrev pub CallsEngineOfRequest : {E T : Type 0} → (answer : E → List ℕ → Option Captures)
+    → UrlPatternRouter T E → (method : List ℕ) → Texts → Type 0
+CallsEngineOfRequest answer router method texts =
+    CallsEngineOfServing answer router method texts
+    ⊎ (IsServed answer router method texts None
+    × CallsEngineBeforeMatch answer (entry_patterns router.routes) texts)
+
+-- What each error of a request for a path says. `NotAPath`: the text is no path. `OutOfMemory`: it
+-- is one, and an engine is called for the request.
+abbrev pub IsRoutePathError : {E T : Type 0} → (answer : E → List ℕ → Option Captures)
+    → UrlPatternRouter T E → (method path : List ℕ) → PathError → Type 0
+IsRoutePathError answer router method path paths.NotAPath = ¬ IsPath path
+IsRoutePathError answer router method path paths.OutOfMemory =
+    IsPath path × CallsEngineOfRequest answer router method (pathname_alone path)
+
+-- ---- the methods of the routes that match
+
 -- Some route calls an engine for the texts.
 abbrev pub CallsEngineOfRoutes : {E T : Type 0} → (answer : E → List ℕ → Option Captures)
     → RoutesLeft E T → Type 0
@@ -144,23 +226,13 @@ CallsEngineOfRoutes {E} {T} answer left =
     (index : ℕ) × (entry : UrlPattern E × Route T) × (slice_get left.routes index ≡ Some entry)
     × CallsAnEngine answer (pattern_view entry.0) left.texts
 
--- What each error of a request for a path says. `NotAPath`: the text is no path. `OutOfMemory`: it
--- is one, and some route calls an engine for it.
-abbrev pub IsRoutePathError : {E T : Type 0} → (answer : E → List ℕ → Option Captures)
-    → Routes E T → (path : List ℕ) → PathError → Type 0
-IsRoutePathError answer routes path paths.NotAPath = ¬ IsPath path
-IsRoutePathError answer routes path paths.OutOfMemory =
-    IsPath path × CallsEngineOfRoutes answer (all_routes routes (pathname_alone path))
-
--- ---- the methods of the routes that match
-
 -- A route before the index `end` has this method and matches the texts.
 abbrev pub HasMethodBefore : {E T : Type 0} → (answer : E → List ℕ → Option Captures)
     → RoutesLeft E T → (method : List ℕ) → (end : ℕ) → Type 0
 HasMethodBefore {E} {T} answer left method end =
     (index : ℕ) × (entry : UrlPattern E × Route T) × (index < end)
     × (slice_get left.routes index ≡ Some entry)
-    × HasMethod entry.1 method
+    × HasMethod method entry.1
     × AreMatched answer (pattern_view entry.0) left.texts
 
 -- The route has no method, or one that a route before the index `end` that matches has.
@@ -168,7 +240,7 @@ abbrev pub HasNoNewMethod : {E T : Type 0} → (answer : E → List ℕ → Opti
     → RoutesLeft E T → (end : ℕ) → Route T → Type 0
 HasNoNewMethod answer left end route =
     (route.method ≡ None)
-    ⊎ ((method : List ℕ) × HasMethod route method × HasMethodBefore answer left method end)
+    ⊎ ((method : List ℕ) × HasMethod method route × HasMethodBefore answer left method end)
 
 -- The entry, whose index is `index`, does not match the texts, has no method, or has one that an
 -- earlier entry that matches has.
@@ -190,7 +262,7 @@ pub record IsNextMethod {E T : Type 0} (answer : E → List ℕ → Option Captu
     (left : RoutesLeft E T) (index : ℕ) (method : List ℕ) : Type 0 where
   pub later : left.from ≤ index
   pub has : (entry : UrlPattern E × Route T) × (slice_get left.routes index ≡ Some entry)
-      × HasMethod entry.1 method
+      × HasMethod method entry.1
       × AreMatched answer (pattern_view entry.0) left.texts
   pub once : ¬ HasMethodBefore answer left method index
   pub before : NoneAddsMethod answer left index
@@ -210,24 +282,98 @@ YieldsMethod answer old (Some (Err error)) new =
 YieldsMethod answer old None new =
     NoneAddsMethod answer old (length old.routes) × (new ≡ old)
 
+-- ---- the names of routes
+
+-- The route has this name.
+abbrev pub HasName : {T : Type 0} → Route T → (name : List ℕ) → Type 0
+HasName route name = IsSomeAnd route.name (λ own. text_of own ≡ name)
+
+-- No route before the index `end` has this name.
+abbrev pub NoneIsNamedBefore : {E T : Type 0} → Routes E T → (name : List ℕ) → (end : ℕ) → Type 0
+NoneIsNamedBefore {E} {T} routes name end =
+    (index : ℕ) (entry : UrlPattern E × Route T) → index < end
+    → slice_get routes index ≡ Some entry → ¬ HasName entry.1 name
+
+-- No route at the index has this name.
+abbrev pub NoneIsNamedAt : {E T : Type 0} → Routes E T → (name : List ℕ) → (index : ℕ) → Type 0
+NoneIsNamedAt {E} {T} routes name index =
+    (entry : UrlPattern E × Route T) → slice_get routes index ≡ Some entry → ¬ HasName entry.1 name
+
+-- The entry at the index is the first whose route has this name.
+abbrev pub IsFirstNamed : {E T : Type 0} → Routes E T → (name : List ℕ) → (index : ℕ)
+    → UrlPattern E × Route T → Type 0
+IsFirstNamed routes name index entry =
+    (slice_get routes index ≡ Some entry)
+    × HasName entry.1 name
+    × NoneIsNamedBefore routes name index
+
+-- `found` is the first route with this name: its index, its pattern, and the route. `None`: no
+-- route has the name.
+abbrev pub IsRouteNamed : {E T : Type 0} → Routes E T → (name : List ℕ)
+    → Option (ℕ × Bor (UrlPattern E) × Bor (Route T)) → Type 0
+IsRouteNamed routes name (Some (index, pattern, route)) =
+    IsFirstNamed routes name index (pattern.now, route.now)
+IsRouteNamed routes name None = NoneIsNamedBefore routes name (length routes)
+
+-- Some route has this name, and `Is` is true of the pattern of the first one.
+abbrev pub OfRouteNamed : {E T : Type 0} → Routes E T → (name : List ℕ) → (UrlPattern E → Type 0)
+    → Type 0
+OfRouteNamed {E} {T} routes name Is =
+    (index : ℕ) × (entry : UrlPattern E × Route T)
+    × IsFirstNamed routes name index entry
+    × Is entry.0
+
+-- The URL is the link of the first route with this name for the values of `groups`, which are
+-- percent-encoded: its pattern matches the URL, and what it captures decodes to exactly these
+-- values. `None`: no route has the name.
+abbrev pub IsRouteLink : {E T : Type 0} → (answer : E → List ℕ → Option Captures) → Routes E T
+    → (name : List ℕ) → List GivenView → Option Parts → Type 0
+IsRouteLink answer routes name groups (Some url) = OfRouteNamed routes name (λ pattern.
+    IsLink answer pattern (encoded_groups groups) url
+    × ReturnsDecoded answer pattern groups url
+    × HasMatch answer (pattern_view pattern) (inputs.Url url))
+IsRouteLink answer routes name groups None = NoneIsNamedBefore routes name (length routes)
+
+-- The error says why the pattern of the first route with this name has no link for the values of
+-- `groups`.
+abbrev pub RejectsRouteLink : {E T : Type 0} → (answer : E → List ℕ → Option Captures)
+    → Routes E T → (name : List ℕ) → List GivenView → NoLink → Type 0
+RejectsRouteLink answer routes name groups error =
+    OfRouteNamed routes name (λ pattern.
+    RejectsEncoded answer pattern (encoded_groups groups) error)
+
 -- ---- adding a route
 
--- `new` has a further route after those of `old`: the pattern, with this method and value.
-abbrev pub AppendsRoute : {E T : Type 0} → (old : UrlPatternRouter T E)
-    → (method : Option (List ℕ)) → UrlPattern E → (value : T) → (new : UrlPatternRouter T E)
-    → Type 0
-AppendsRoute {E} {T} old method pattern value new =
-    (route : Route T) × (new ≡ record old { routes = old.routes ++ (pattern, route) ∷ [] })
-    × MatchOption method (route.method ≡ None) (HasMethod route)
-    × (route.value ≡ value)
+-- The route has this name, method and value.
+pub record IsRoute {T : Type 0} (name method : Option (List ℕ)) (value : T) (route : Route T)
+    : Type 0 where
+  pub has_name : option_map (λ own. text_of own) route.name ≡ name
+  pub has_method : option_map (λ own. text_of own) route.method ≡ method
+  pub has_value : route.value ≡ value
 
--- What each error of adding a route says. `NotAMethod`: the method is no token. `OutOfMemory`: it
--- is one.
-abbrev pub IsRouteError : (method : List ℕ) → RouteError → Type 0
-IsRouteError method NotAMethod = ¬ IsToken method
-IsRouteError method OutOfMemory = IsToken method
+-- `new` has a further route after those of `old`: the pattern, with this name, method and value.
+abbrev pub AppendsRoute : {E T : Type 0} → (old : UrlPatternRouter T E)
+    → (name method : Option (List ℕ)) → UrlPattern E → (value : T) → (new : UrlPatternRouter T E)
+    → Type 0
+AppendsRoute {E} {T} old name method pattern value new =
+    (route : Route T) × IsRoute name method value route
+    × (new ≡ record old { routes = old.routes ++ (pattern, route) ∷ [] })
+
+-- No route has the name, if there is one.
+abbrev pub IsNewName : {E T : Type 0} → Routes E T → (name : Option (List ℕ)) → Type 0
+IsNewName routes name = IfSome name (λ name. NoneIsNamedBefore routes name (length routes))
+
+-- What each error of adding a route says. `NameTaken`: some route has the name. `NotAMethod`: none
+-- has it, and the method is no token. `OutOfMemory`: none has it, and the method is a token.
+abbrev pub IsRouteError : {E T : Type 0} → Routes E T → (name : Option (List ℕ))
+    → (method : List ℕ) → RouteError → Type 0
+IsRouteError {E} {T} routes name method NameTaken =
+    IsSomeAnd name (λ name. OfRouteNamed routes name (λ pattern. Unit {0}))
+IsRouteError routes name method NotAMethod = IsNewName routes name × (¬ IsToken method)
+IsRouteError routes name method OutOfMemory = IsNewName routes name × IsToken method
 
 -- The text as which the error is printed.
 abbrev pub route_error_text : RouteError → List ℕ
+route_error_text NameTaken = codes "another route has the name"
 route_error_text NotAMethod = codes "the method is not a token, such as `GET`"
 route_error_text OutOfMemory = codes "out of memory"

@@ -7,6 +7,7 @@
 //! <https://urlpattern.spec.whatwg.org/>
 #![tactic(auto)]
 
+mod contention;
 mod list;
 mod map;
 mod path;
@@ -18,10 +19,10 @@ pub mod rules;
 pub mod theorem;
 
 pub use list::{UrlPatternList, UrlPatternMatches};
-pub use map::{UrlPatternMap, UrlPatternMapIter};
+pub use map::{UrlPatternMap, UrlPatternMapIter, UrlPatternMapMatches};
 pub use path::is_path;
 pub use path_error::PathError;
-pub use router::{AllowedMethods, Route, RouteError, Routed, UrlPatternRouter};
+pub use router::{AllowedMethods, Route, RouteError, RouteReaches, Routed, UrlPatternRouter};
 pub use urlpattern_canonical::canonicalize_and_process;
 pub use urlpattern_components::{ComponentName, Eight};
 pub use urlpattern_diagnosis::{Diagnosis, Fault, Span, Subject};
@@ -37,3 +38,4 @@ pub use urlpattern_matches::{
 pub use urlpattern_parser::{parser, tokenizer};
 pub use urlpattern_pattern::{CompareError, UrlPattern};
 pub use urlpattern_syntax::{Error, RegexSyntax, error};
+pub use urlpattern_values::{DecodeError, decode, encode};

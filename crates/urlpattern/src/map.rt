@@ -9,22 +9,27 @@ ghost use Rattle.std.specs.Prelude.{◌≡◌, ◌==◌, ◌++◌, [], ◌∷◌
 ghost use Rattle.urlpattern_init.specs.Inheritance.{texts_of_url};
 ghost use Rattle.urlpattern_init.specs.declared.init.UrlPatternMatchInput.TheVariants as inputs;
 ghost use Rattle.urlpattern.specs.FirstMatch.{CallsEngineBeforeMatch, HasGroupsInOrder, IsFirstMatch};
+ghost use Rattle.urlpattern.specs.MapMatches.{all_entries, entries_left};
 ghost use Rattle.urlpattern.specs.PatternMaps.{entry_patterns, first_entry_view, AppendsUntilRefused, HasValueAt, without_value};
-ghost use Rattle.urlpattern.specs.Unreached.{AreUnreached, LacksParts};
+ghost use Rattle.urlpattern.specs.Contending.{AreContentionsBy};
+ghost use Rattle.urlpattern.specs.Reached.{AreReachedBy, LacksParts};
 ghost use Rattle.urlpattern_pattern.specs.UrlPatterns.{UrlPattern};
 ghost use Rattle.urlpattern_syntax.specs.Errors.{OnlyOutOfMemory};
 
 mod finding;
 mod iter;
+mod matches;
 
+use crate::contention::Contention;
 use crate::list::UrlPatternList;
 pub use iter::UrlPatternMapIter;
+pub use matches::UrlPatternMapMatches;
 use std::alloc::Global;
 use std::marker::Model;
 use url::Url;
-use urlpattern_compare::Shadowed;
+use urlpattern_compare::{Limits, Reach};
 use urlpattern_matcher::regexp::RegExp;
-use urlpattern_matches::UrlPatternCaptures;
+use urlpattern_matches::{UrlPatternCaptures, url_texts};
 use urlpattern_pattern::{CompareError, UrlPattern};
 use urlpattern_syntax::Error;
 
@@ -184,16 +189,41 @@ impl<T, R: RegExp> UrlPatternMap<T, R> {
         Ok(self.with_value(self.patterns.first_captures(alloc, url)?))
     }
 
-    /// Lists each pattern that an earlier one is known to cover, with the first such pattern, as
-    /// `UrlPatternList::unreachable` does.
+    /// Iterates over all matches of a URL, in the order of the patterns, each with the index of its
+    /// pattern and the pattern's value. The matches borrow from the map and the URL.
+    ///
+    /// If an engine runs out of memory, the last item is that error.
+    pub fn matches<'m, 'u>(
+        &'m self,
+        alloc: Global,
+        url: &'u Url,
+    ) -> UrlPatternMapMatches<'m, 'u, T, R>
+        ensures { entries_left result ≡ all_entries self.now (texts_of_url url.now) }
+    {
+        UrlPatternMapMatches::new(self, alloc, url_texts(url))
+    }
+
+    /// Returns whether each pattern is the first match of some texts, in order, as
+    /// `UrlPatternList::reach_of_each` does.
     ///
     /// The error is `NoParts` if a pattern has no parts, else `OutOfMemory`.
-    pub fn unreachable(&self, alloc: Global) -> Result<Vec<Shadowed>, CompareError>
+    pub fn reach_of_each(&self, alloc: Global, limits: Limits) -> Result<Vec<Reach>, CompareError>
         ensures found { IfOk result (λ found.
-            AreUnreached R.RegExp (keys_of self.now) found.items) }
+            AreReachedBy R.RegExp limits (keys_of self.now) found.items) }
         ensures missing { IfErr result (LacksParts (keys_of self.now)) }
     {
-        self.patterns.unreachable(alloc)
+        self.patterns.reach_of_each(alloc, limits)
+    }
+
+    /// Returns the pairs of patterns that contend, as `UrlPatternList::contending` does.
+    ///
+    /// The error is `NoParts` if a pattern has no parts, else `OutOfMemory`.
+    pub fn contending(&self, alloc: Global, limits: Limits) -> Result<Vec<Contention>, CompareError>
+        ensures found { IfOk result (λ found.
+            AreContentionsBy R.RegExp limits (keys_of self.now) found.items) }
+        ensures missing { IfErr result (LacksParts (keys_of self.now)) }
+    {
+        self.patterns.contending(alloc, limits)
     }
 }
 

@@ -4,15 +4,14 @@ ghost use Rattle.std.specs.Str.{chars};
 ghost use Rattle.urlpattern.specs.Paths.{IsPath};
 
 use urlpattern_canonical::canonicalize_and_process::begins_with_slash;
-use urlpattern_matches::is_line;
 
 /// Whether a text is a path by itself: whether it begins with `/`, and has no `?`, no `#` and no
 /// line feed.
 pub fn is_path(text: &str) -> bool
     ensures { IsTrue result ↔ IsPath (chars text.now) }
 {
-    if !begins_with_slash(text) || !is_line(text) {
+    if !begins_with_slash(text) {
         return false;
     }
-    text.chars().all(|c| c != '?' && c != '#')
+    text.chars().all(|c| c != '\n' && c != '?' && c != '#')
 }

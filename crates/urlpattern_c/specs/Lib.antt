@@ -1,3 +1,4 @@
 pub mod Handles
 pub mod Memory
 pub mod Returns
+pub mod TextReturns

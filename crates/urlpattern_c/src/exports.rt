@@ -57,7 +57,8 @@ pub extern "C" fn urlpattern_add_init(
     status.number()
 }
 
-/// Frees the patterns. The handle is then empty, and freeing it again does nothing.
+/// Frees the patterns, unless another handle has them. The handle is then empty, and freeing it
+/// again does nothing.
 #[unsafe(no_mangle)]
 pub extern "C" fn urlpattern_free(alloc: Global, patterns: &mut Patterns)
     ensures { patterns.new.slot.held ≡ None }
@@ -65,8 +66,7 @@ pub extern "C" fn urlpattern_free(alloc: Global, patterns: &mut Patterns)
     drop(patterns.take(alloc));
 }
 
-/// Whether the pattern at an index matches a URL: 0 if it matches, 1 if it does not or the text is
-/// not a URL.
+/// Whether the pattern at an index matches a URL: 1 if it matches, 0 if it does not.
 #[unsafe(no_mangle)]
 pub extern "C" fn urlpattern_test(
     alloc: Global,
@@ -85,8 +85,8 @@ pub extern "C" fn urlpattern_test(
     status.number()
 }
 
-/// Finds the first pattern that matches a URL, and writes its index. Returns 1 if no pattern
-/// matches or the text is not a URL.
+/// Finds the first pattern that matches a URL, and writes its index. Returns 0 if no pattern
+/// matches.
 #[unsafe(no_mangle)]
 pub extern "C" fn urlpattern_first(
     alloc: Global,
@@ -198,7 +198,7 @@ pub extern "C" fn urlpattern_first_captures(
 }
 
 /// Writes to `buffer` the URL of the pattern at an index, with the groups that `given` cuts out of
-/// `text`, and its length in bytes to `needed`. Returns 3 if there is no URL, and then writes the
+/// `text`, and its length in bytes to `needed`. Returns 6 if there is no URL, and then writes the
 /// reason in its place.
 #[unsafe(no_mangle)]
 pub extern "C" fn urlpattern_link(
@@ -263,8 +263,8 @@ pub extern "C" fn urlpattern_component(
     status.number()
 }
 
-/// Whether the pattern at an index has a custom regular expression: 0 if it has one, 1 if it has
-/// none, 5 if there is no such pattern.
+/// Whether the pattern at an index has a custom regular expression: 1 if it has one, 0 if it has
+/// none, 8 if there is no such pattern.
 #[unsafe(no_mangle)]
 pub extern "C" fn urlpattern_has_regexp_groups(
     alloc: Global,
@@ -281,7 +281,7 @@ pub extern "C" fn urlpattern_has_regexp_groups(
 }
 
 /// Whether each component of the pattern at an index has a meaning: its custom regular expressions
-/// are simple, and if it has one, its case is kept. 0 if each has one, 1 if not, 5 if there is no
+/// are simple, and if it has one, its case is kept. 1 if each has one, 0 if not, 8 if there is no
 /// such pattern.
 #[unsafe(no_mangle)]
 pub extern "C" fn urlpattern_has_meaning(
@@ -299,7 +299,7 @@ pub extern "C" fn urlpattern_has_meaning(
 }
 
 /// Whether the pattern at `index` covers the asked one, the pattern at `asked` of the same handle:
-/// 0 if it does, 1 if not, 7 if it is not known. Writes the number of a component in which the two
+/// 1 if it does, 0 if not, 10 if it is not known. Writes the number of a component in which the two
 /// differ, or because of which it is not known, or else 8.
 #[unsafe(no_mangle)]
 pub extern "C" fn urlpattern_covers_within(
@@ -319,8 +319,8 @@ pub extern "C" fn urlpattern_covers_within(
     status.number()
 }
 
-/// Whether the pattern at `index` covers the asked one, the pattern of `others` at `asked`: 0 if it
-/// does, 1 if not, 7 if it is not known. Writes the number of a component in which the two differ,
+/// Whether the pattern at `index` covers the asked one, the pattern of `others` at `asked`: 1 if it
+/// does, 0 if not, 10 if it is not known. Writes the number of a component in which the two differ,
 /// or because of which it is not known, or else 8.
 #[unsafe(no_mangle)]
 pub extern "C" fn urlpattern_covers_between(
@@ -345,7 +345,7 @@ pub extern "C" fn urlpattern_covers_between(
 }
 
 /// Writes to `buffer` why a constructor string or its base URL is rejected, the length of that in
-/// bytes to `needed`, and to `place` where the fault is. Returns 1 if neither is rejected.
+/// bytes to `needed`, and to `place` where the fault is. Returns 0 if neither is rejected.
 #[unsafe(no_mangle)]
 pub extern "C" fn urlpattern_diagnose(
     alloc: Global,
@@ -364,8 +364,8 @@ pub extern "C" fn urlpattern_diagnose(
 }
 
 /// Writes to `buffer` why an init in JSON is rejected, the length of that in bytes to `needed`, and
-/// to `place` in which of its texts and where the fault is. Returns 1 if the init is not rejected,
-/// 3 if the JSON is not an init or its base URL is rejected.
+/// to `place` in which of its texts and where the fault is. Returns 0 if the init is not rejected,
+/// 6 if the JSON is not an init or its base URL is rejected.
 #[unsafe(no_mangle)]
 pub extern "C" fn urlpattern_diagnose_init(
     alloc: Global,
@@ -384,7 +384,7 @@ pub extern "C" fn urlpattern_diagnose_init(
 /// The version of the interface: 1,000 times its first number, plus its second.
 #[unsafe(no_mangle)]
 pub extern "C" fn urlpattern_version() -> u32
-    ensures { result ≡ 1000 }
+    ensures { result ≡ 2000 }
 {
     version()
 }

@@ -1,5 +1,5 @@
 //! The handle with patterns that C keeps.
-ghost use Rattle.std.specs.Prelude.{◌≡◌, is_some};
+ghost use Rattle.std.specs.Prelude.{◌≡◌, ◌==◌, is_some};
 
 use crate::box_parts::BoxParts;
 use crate::slot::Slot;
@@ -7,15 +7,18 @@ use std::alloc::Global;
 use std::mem;
 use urlpattern_ffi::PatternBox;
 
+/// The number that a handle has which has patterns: the version of the interface.
+const MADE: u32 = 2000;
+
 /// A handle to patterns in order. C makes a handle by writing zeros: it is empty, and owns no
-/// memory.
+/// memory. So is a handle with any other number than `MADE`, as of another version.
 #[repr(C)]
 #[derive(Drop)]
 pub struct Patterns {
-    /// Whether the slot has patterns.
-    is_made: bool,
+    /// `MADE` if the slot has patterns, and else any other number.
+    made_by: u32,
     pub(crate) slot: Slot,
-    ghost agrees: { is_made ≡ is_some slot.held },
+    ghost agrees: { (made_by == 2000) ≡ is_some slot.held },
 }
 
 impl Patterns {
@@ -28,7 +31,7 @@ impl Patterns {
         ensures { result.slot.held ≡ None }
     {
         Patterns {
-            is_made: false,
+            made_by: 0,
             slot: Slot::empty(),
         }
     }
@@ -38,8 +41,8 @@ impl Patterns {
         ensures taken { boxed_patterns result ≡ patterns_in self.old }
         ensures none_left { self.new.slot.held ≡ None }
     {
-        let Patterns { is_made, slot } = mem::replace(self, Patterns::empty());
-        if is_made {
+        let Patterns { made_by, slot } = mem::replace(self, Patterns::empty());
+        if made_by == MADE {
             Some(slot.into_box_parts(alloc).into_box())
         } else {
             None
@@ -52,7 +55,7 @@ impl Patterns {
     {
         *self = match kept {
             Some(kept) => Patterns {
-                is_made: true,
+                made_by: MADE,
                 slot: Slot::of(BoxParts::of(kept)),
             },
             None => Patterns::empty(),

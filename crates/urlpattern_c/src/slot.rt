@@ -54,3 +54,5 @@ impl Slot {
         }
     }
 }
+
+unsafe impl Send for Slot {}

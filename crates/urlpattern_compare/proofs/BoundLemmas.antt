@@ -1,31 +1,32 @@
 -- A question about common texts needs at most as many sets of states, and as many texts, as there
 -- are lists of flags.
-use Rattle.std.proofs.Common.{◌≡◌, ◌∙◌, ◌<◌, ◌≤◌, ◌+◌, ◌*◌, ◌^◌, ℕ, zero, suc, Bool, true, false, List, [], ◌∷◌, ◌++◌, Option, Some, None, ap, arith, get_or, length, length-append, map, refl, subst, sym, take, take_at, drop, drop_at}
+use Rattle.std.proofs.Common.{◌≡◌, ◌∙◌, ◌<◌, ◌≤◌, ◌+◌, ◌^◌, ℕ, zero, suc, Bool, true, List, [], ◌∷◌, ◌++◌, Option, Some, None, ap, arith, get_or, inl, inr, length, length-append, map, refl, subst, sym, take, take_at, drop, drop_at}
 use Rattle.std.proofs.lemmas.List.{length-map}
 use Rattle.std.proofs.lemmas.List.Elements.{All-cons, All-contains, All-head, All-nil, All-tail}
 use Rattle.std.proofs.lemmas.List.Sums.{sum_by-cons}
 use Rattle.std.proofs.Math.Nat.{pow-le-pow_right}
 use Rattle.std.specs.List.{All, sum_by}
+use Rattle.std.specs.Prelude.{IsTrue}
+use Rattle.urlpattern_compare.proofs.CommonLemmas.{accepts_means}
 use Rattle.urlpattern_compare.proofs.ConditionLemmas.{length_after}
 use Rattle.urlpattern_compare.proofs.DependsLemmas.{slice_contains}
 use Rattle.urlpattern_compare.proofs.Numbers.{at_most, code, code_below, code_one, doubled, doubled_is}
 use Rattle.urlpattern_compare.proofs.TakenLemmas.{automata_of}
 use Rattle.urlpattern_compare.proofs.WorkLemmas.{parts_states}
-use Rattle.urlpattern_compare.specs.Candidates.{TextAt}
-use Rattle.urlpattern_compare.specs.CommonLaws.{FewNeedFewTexts, SmallHaveAutomata, SmallNeedFewSets, joint_size}
+use Rattle.urlpattern_compare.specs.Candidates.{LackLines, TextAt}
+use Rattle.urlpattern_compare.specs.CommonLaws.{AreCounted, FewNeedFewTexts, MatchesAnything, SmallHaveAutomata, SmallNeedFewSets, joint_size}
 use Rattle.urlpattern_compare.specs.CommonTexts.{AcceptsAlike, AreAutomata, IsAutomatonOrLacks, LacksBy, LeadsAlike, TakeAlike}
 use Rattle.urlpattern_compare.specs.Conditions.{accepts, states_after}
-use Rattle.urlpattern_compare.specs.Making.{Made}
 use Rattle.urlpattern_compare.specs.TextSearch.{AreApart}
 use Rattle.urlpattern_compare.specs.WorkBounds.{component_size}
 use Rattle.urlpattern_compare.specs.declared.common_texts.PatternAutomata.{PatternAutomata}
 use Rattle.urlpattern_compare.specs.declared.coverage.Reason.TheVariants as reasons
 use Rattle.urlpattern_compare.specs.declared.parts_automaton.PartsAutomaton.{PartsAutomaton}
-use Rattle.urlpattern_components.proofs.EightLemmas.{of_each}
-use Rattle.urlpattern_components.specs.Eight.{at, components}
+use Rattle.urlpattern_components.specs.Eight.{at}
 use Rattle.urlpattern_components.specs.declared.eight.ComponentName.{ComponentName}
 use Rattle.urlpattern_syntax.specs.Options.{options_view}
 use Rattle.urlpattern_syntax.specs.Parts.{parts_view}
+use Rattle.urlpattern_syntax.specs.Text.{lacks, line_feed}
 use Rattle.urlpattern_syntax.specs.declared.parts.ComponentParts.{ComponentParts}
 use native.Mathlib.Nat as nat
 
@@ -80,9 +81,7 @@ own_alike (Some automaton) text other e = e
 
 own_within : (component : ComponentParts) (found : Option PartsAutomaton) → IsAutomatonOrLacks component found → own_width found ≤ component_size component
 own_within component None made = omega arith
-own_within component (Some automaton) made =
-    let states : automaton.states ≡ component_size component = ap (λ (m : Made). m.count) made.made ∙ parts_states (options_view component.options) (parts_view component.parts.items) in
-    omega arith
+own_within component (Some automaton) made = let size = made.size in omega arith
 
 abbrev sets : List PatternAutomata → ComponentName → (text : List ℕ) → List Bool
 sets [] name text = []
@@ -145,34 +144,64 @@ same_flags : {X : Type 0} (f g : X → Bool) (xs : List X) → map f xs ≡ map 
 same_flags f g [] e = All-nil (λ x. f x ≡ g x)
 same_flags f g (x ∷ xs) e = All-cons (λ it. f it ≡ g it) x xs (ap first_flag e) (same_flags f g xs (ap rest_flags e))
 
-abbrev own_flags : PatternAutomata → TextAt → List Bool
-own_flags it texts = map (λ name. taken (at it.automata name) (texts name)) components
+-- A component that matches anything accepts both texts.
+anything_alike : (component : ComponentParts) (found : Option PartsAutomaton) (text other : List ℕ) → IsAutomatonOrLacks component found → MatchesAnything component →
+    IsTrue (lacks line_feed text) → IsTrue (lacks line_feed other) → AcceptsAlike text other found
+anything_alike component None text other made anything line other_line = tt
+anything_alike component (Some automaton) text other made anything line other_line =
+    (accepts_means component automaton text made).1 (anything made.known text line) ∙ sym ((accepts_means component automaton other made).1 (anything made.known other other_line))
 
-abbrev flags : List PatternAutomata → TextAt → List Bool
-flags [] texts = []
-flags (it ∷ others) texts = own_flags it texts ++ flags others texts
+-- No two values of those of which `P` holds are alike.
+apart_among : {X : Type 0} (P : X → Type 0) (R : X → X → Type 0) (xs : List X) → All P xs → AreApart R xs → AreApart (λ x y. P x → P y → R x y) xs
+apart_among P R [] all apart = tt
+apart_among P R (x ∷ xs) all (first, apart) =
+    let rest = All-tail P x xs all in
+    (λ k d lt near. first k d lt (near (All-head P x xs all) (rest k d lt)), apart_among P R xs rest apart)
 
-flags_long : (patterns : List PatternAutomata) (texts : TextAt) → length (flags patterns texts) ≡ 8 * length patterns
-flags_long [] texts = refl
-flags_long (it ∷ others) texts =
-    let own : length (own_flags it texts) ≡ 8 = length-map components (λ name. taken (at it.automata name) (texts name)) in
-    let rest = flags_long others texts in
-    let all = length-append (own_flags it texts) (flags others texts) in
-    omega arith
+module _ (counted : PatternAutomata → List ComponentName) where
+  abbrev own_flags : PatternAutomata → TextAt → List Bool
+  own_flags it texts = map (λ name. taken (at it.automata name) (texts name)) (counted it)
 
-flags_alike : (patterns : List PatternAutomata) (texts others : TextAt) → flags patterns texts ≡ flags patterns others → TakeAlike (automata_of patterns) texts others
-flags_alike [] texts others e = All-nil (λ automata. (name : ComponentName) → AcceptsAlike (texts name) (others name) (at automata name))
-flags_alike (it ∷ patterns) texts others e =
-    let long : (text : TextAt) → length (own_flags it text) ≡ 8 = λ text. length-map components (λ name. taken (at it.automata name) (text name)) in
-    let two = pieces 8 (own_flags it texts) (own_flags it others) (flags patterns texts) (flags patterns others) (long texts) (long others) e in
-    let each = same_flags (λ name. taken (at it.automata name) (texts name)) (λ name. taken (at it.automata name) (others name)) components two.0 in
-    All-cons (λ automata. (name : ComponentName) → AcceptsAlike (texts name) (others name) (at automata name)) it.automata (automata_of patterns)
-    (λ name. taken_alike (at it.automata name) (texts name) (others name) (of_each (λ n. taken (at it.automata n) (texts n) ≡ taken (at it.automata n) (others n)) each name))
-    (flags_alike patterns texts others two.1)
+  abbrev flags : List PatternAutomata → TextAt → List Bool
+  flags [] texts = []
+  flags (it ∷ others) texts = own_flags it texts ++ flags others texts
+
+  own_flags_long : (it : PatternAutomata) (texts : TextAt) → length (own_flags it texts) ≡ length (counted it)
+  own_flags_long it texts = length-map (counted it) (λ name. taken (at it.automata name) (texts name))
+
+  flags_long : (patterns : List PatternAutomata) (texts : TextAt) → length (flags patterns texts) ≡ sum_by (λ it. length (counted it)) patterns
+  flags_long [] texts = refl
+  flags_long (it ∷ others) texts =
+      let own = own_flags_long it texts in
+      let rest = flags_long others texts in
+      let all = length-append (own_flags it texts) (flags others texts) in
+      let sum = sum_by-cons (λ (p : PatternAutomata). length (counted p)) it others in
+      omega arith
+
+  own_taken_alike : (it : PatternAutomata) (texts others : TextAt) → AreAutomata it → AreCounted (counted it) it → LackLines texts → LackLines others → own_flags it texts ≡ own_flags it others →
+      (name : ComponentName) → AcceptsAlike (texts name) (others name) (at it.automata name)
+  own_taken_alike it texts others made are lines other_lines e name =
+      let found = at it.automata name in
+      elim (are name) [
+        | inl has ↦ taken_alike found (texts name) (others name)
+            (All-contains (λ n. taken (at it.automata n) (texts n) ≡ taken (at it.automata n) (others n)) (counted it) name
+            (same_flags (λ n. taken (at it.automata n) (texts n)) (λ n. taken (at it.automata n) (others n)) (counted it) e) has)
+        | inr anything ↦ anything_alike (at it.parts.components name) found (texts name) (others name) (made name) anything (lines name) (other_lines name)
+      ]
+
+  flags_alike : (patterns : List PatternAutomata) (texts others : TextAt) → All AreAutomata patterns → All (λ it. AreCounted (counted it) it) patterns → LackLines texts → LackLines others →
+      flags patterns texts ≡ flags patterns others → TakeAlike (automata_of patterns) texts others
+  flags_alike [] texts others made are lines other_lines e = All-nil (λ automata. (name : ComponentName) → AcceptsAlike (texts name) (others name) (at automata name))
+  flags_alike (it ∷ patterns) texts others made are lines other_lines e =
+      let two = pieces (length (counted it)) (own_flags it texts) (own_flags it others) (flags patterns texts) (flags patterns others) (own_flags_long it texts) (own_flags_long it others) e in
+      All-cons (λ automata. (name : ComponentName) → AcceptsAlike (texts name) (others name) (at automata name)) it.automata (automata_of patterns)
+      (own_taken_alike it texts others (All-head AreAutomata it patterns made) (All-head (λ p. AreCounted (counted p) p) it patterns are) lines other_lines two.0)
+      (flags_alike patterns texts others (All-tail AreAutomata it patterns made) (All-tail (λ p. AreCounted (counted p) p) it patterns are) lines other_lines two.1)
 
 pub few_texts : FewNeedFewTexts
-few_texts all_of none_of limits few (found, many, apart) =
-    let most = few_values (TakeAlike (automata_of none_of)) (flags none_of) (8 * length none_of) found (flags_alike none_of) (flags_long none_of) apart in
+few_texts all_of none_of limits counted made are few (found, many, lines, taken, apart) =
+    let most = few_values (λ texts others. LackLines texts → LackLines others → TakeAlike (automata_of none_of) texts others) (flags counted none_of) (sum_by (λ it. length (counted it)) none_of) found
+    (λ texts others e line other_line. flags_alike counted none_of texts others made are line other_line e) (flags_long counted none_of) (apart_among LackLines (TakeAlike (automata_of none_of)) found lines apart) in
     omega arith
 
 -- ---- states

@@ -1,19 +1,26 @@
 -- Worked examples of common texts.
-use Rattle.std.proofs.Common.{◌≡◌, ℕ, Bool, true, false, List, [], ◌∷◌, arith, codes, refl}
+use Rattle.std.proofs.Common.{◌≡◌, ℕ, Bool, true, false, List, [], ◌∷◌, arith, codes, refl, subst, sym}
 use Rattle.std.proofs.lemmas.Bool.{false≢true}
 use Rattle.std.proofs.lemmas.List.Elements.{All-cons, All-head, All-nil}
 use Rattle.std.specs.List.{All}
+use Rattle.urlpattern_compare.proofs.ComponentLemmas.{wildcard_means}
 use Rattle.urlpattern_compare.specs.Candidates.{AreLines, TextAt}
-use Rattle.urlpattern_compare.specs.CommonTexts.{AreCommon, AreMeanings, MayBeCommon, MayBeNothing, MeanAlike, MeansByParts, MeansEach, PatternMeaning}
-use Rattle.urlpattern_compare.specs.Comparing.{IsKnown}
+use Rattle.urlpattern_compare.specs.CommonLaws.{MatchesAnything}
+use Rattle.urlpattern_compare.specs.CommonTexts.{AcceptsAlike, AreCommon, AreMeanings, MayBeCommon, MayBeNothing, MeanAlike, MeansByParts, MeansEach, NeedsManyTexts, PatternMeaning, TakeAlike}
+use Rattle.urlpattern_compare.specs.Comparing.{IsKnown, anything_part}
 use Rattle.urlpattern_compare.specs.Conditions.{states_by}
+use Rattle.urlpattern_compare.specs.MeantTexts.{MeansText}
 use Rattle.urlpattern_compare.specs.Searching.{is_in}
 use Rattle.urlpattern_compare.specs.TextSearch.{AreApart, with_named_from}
+use Rattle.urlpattern_compare.specs.declared.common_texts.PatternAutomata.{PatternAutomata}
 use Rattle.urlpattern_compare.specs.declared.parts_automaton.Edge.{Edge}
 use Rattle.urlpattern_compare.specs.declared.parts_automaton.Test.TheVariants.{AnyBut, Only}
 use Rattle.urlpattern_compare.specs.declared.pattern_parts.PatternParts.{PatternParts}
 use Rattle.urlpattern_components.specs.Eight.{at}
 use Rattle.urlpattern_components.specs.declared.eight.ComponentName.{ComponentName}
+use Rattle.urlpattern_syntax.specs.Options.{options_view}
+use Rattle.urlpattern_syntax.specs.Parts.{parts_view}
+use Rattle.urlpattern_syntax.specs.declared.parts.ComponentParts.{ComponentParts}
 
 -- ---- sets of states
 
@@ -50,6 +57,20 @@ two_are_apart = (All-cons (λ (m : ℕ). ¬ (1 ≡ m)) 2 [] (λ e. omega (arith,
 
 one_is_not_apart_from_itself : (n : ℕ) → ¬ AreApart (λ (x y : ℕ). x ≡ y) (n ∷ n ∷ [])
 one_is_not_apart_from_itself n apart = All-head (λ (m : ℕ). ¬ (n ≡ m)) n [] apart.0 refl
+
+-- ---- how many texts are tried
+
+-- If no pattern must not match, all texts are taken alike, and one try decides.
+one_try_decides : (all_of : List PatternAutomata) → ¬ NeedsManyTexts all_of [] 1
+one_try_decides all_of ([], many, lines, taken, apart) = absurd (omega arith)
+one_try_decides all_of (texts ∷ [], many, lines, taken, apart) = absurd (omega arith)
+one_try_decides all_of (texts ∷ others ∷ more, many, lines, taken, apart) =
+    All-head (λ other. ¬ TakeAlike [] texts other) others more apart.0 (All-nil (λ automata. (name : ComponentName) → AcceptsAlike (texts name) (others name) (at automata name)))
+
+-- A full wildcard without prefix, suffix and modifier matches anything.
+a_wildcard_matches_anything : (component : ComponentParts) → parts_view component.parts.items ≡ anything_part ∷ [] → MatchesAnything component
+a_wildcard_matches_anything component are known text line =
+    subst (λ parts. MeansText (options_view component.options) parts text) (sym are) (wildcard_means (options_view component.options) text line)
 
 -- ---- common texts
 

@@ -12,12 +12,13 @@ use Rattle.urlpattern_compare.proofs.CandidateLemmas.{all_back, all_front}
 use Rattle.urlpattern_compare.proofs.DecidedLemmas.{fine_text}
 use Rattle.urlpattern_compare.proofs.PartsRead.{parts_accepted, parts_within}
 use Rattle.urlpattern_compare.proofs.StateSets.{leads_moved, leads_starts, length_moved, length_starts}
+use Rattle.urlpattern_compare.proofs.WorkLemmas.{parts_states}
 use Rattle.urlpattern_compare.specs.Automata.{AcceptsText, IsWithin}
 use Rattle.urlpattern_compare.specs.Candidates.{AreLines, LackLines, TextAt, text_at}
 use Rattle.urlpattern_compare.specs.CommonTexts.{AreAutomata, AreCommon, AreMeanings, AreTaken, HasAutomata, IsAutomatonOf, IsAutomatonOrLacks, IsLack, IsLackOf, IsSameIn, IsSure, LacksBy, MeanAlike, MeansByParts, MeansEach, PatternMeaning, Takes, TakesAll, TakesEach, parts_of, string_at}
 use Rattle.urlpattern_compare.specs.Comparing.{AreSame, IsKnown, IsUnknownBy, MeansIn}
 use Rattle.urlpattern_compare.specs.Conditions.{accepts, states_by}
-use Rattle.urlpattern_compare.specs.Making.{HasManyStates, made, made_view}
+use Rattle.urlpattern_compare.specs.Making.{HasManyStates, Made, made, made_view}
 use Rattle.urlpattern_compare.specs.Searching.{LeadsIn, is_in, moved, starts_of}
 use Rattle.urlpattern_compare.specs.TextSearch.{IsLine}
 use Rattle.urlpattern_compare.specs.declared.common_texts.Lack.{Lack}
@@ -51,14 +52,19 @@ accepts_text automaton text within =
     let by = leads_by automaton.edges.items (starts_of automaton) text (λ k d lt. subst (λ n. (get_or automaton.edges.items k d).to < n) (sym (length_starts automaton)) (within.edges k d lt)) in
     (λ leads. by.0 (starts.0 leads), λ has. starts.1 (by.1 has))
 
--- The automaton of a component accepts the texts that its parts mean.
-pub accepts_means : (component : ComponentParts) (automaton : PartsAutomaton) (text : List ℕ) → IsAutomatonOf component automaton → IsTrue (accepts automaton text) ↔ MeansIn component text
-accepts_means component automaton text is =
+-- An automaton that is made of a component's parts accepts the texts that they mean.
+made_means : (component : ComponentParts) (automaton : PartsAutomaton) (text : List ℕ) → IsKnown component → made_view automaton ≡ made (options_view component.options) (parts_view component.parts.items) →
+    IsTrue (accepts automaton text) ↔ MeansIn component text
+made_means component automaton text known is =
     let options = options_view component.options in
     let parts = parts_view component.parts.items in
-    let here = accepts_text automaton text (parts_within options parts automaton is.made) in
-    let meant = parts_accepted options parts automaton is.known.generated is.made text in
+    let here = accepts_text automaton text (parts_within options parts automaton is) in
+    let meant = parts_accepted options parts automaton known.generated is text in
     (λ has. meant.0 (here.1 has), λ means. here.0 (meant.1 means))
+
+-- The automaton of a component accepts the texts that its parts mean.
+pub accepts_means : (component : ComponentParts) (automaton : PartsAutomaton) (text : List ℕ) → IsAutomatonOf component automaton → IsTrue (accepts automaton text) ↔ MeansIn component text
+accepts_means component automaton text is = is.means text
 
 -- ---- one component
 
@@ -212,7 +218,11 @@ pub automaton_found : (component : ComponentParts) (result : Result (Option Part
     IfOk result (λ found. IfNone found (HasManyStates (options_view component.options) (parts_view component.parts.items))) → IfOk result (IsAutomatonOrLacks component)
 automaton_found component (Err e) known is many = is
 automaton_found component (Ok None) known is many = (reasons.TooMany, many)
-automaton_found component (Ok (Some automaton)) known is many = record { known = known; made = is }
+automaton_found component (Ok (Some automaton)) known is many = record {
+  known = known;
+  means = λ text. made_means component automaton text known is;
+  size = ap (λ (m : Made). m.count) is ∙ parts_states (options_view component.options) (parts_view component.parts.items);
+}
 
 pub lacks_if : (component : ComponentParts) (found : Option PartsAutomaton) → IsAutomatonOrLacks component found → ¬ IsSome found → (reason : Reason) × LacksBy component reason
 lacks_if component None made none = made

@@ -13,11 +13,12 @@ pub mod PartTexts
 pub mod PartsRead
 pub mod AnswerLemmas
 pub mod ComponentLemmas
-pub mod ShadowedLemmas
+pub mod ListedLemmas
 pub mod OrderLemmas
 pub mod PatternPartLemmas
 pub mod NamelessParts
 pub mod SameParts
+pub mod HashLemmas
 pub mod DecidedLemmas
 pub mod CommonLemmas
 pub mod CoverageLemmas
@@ -31,3 +32,4 @@ pub mod SmallLemmas
 pub mod CommonExamples
 pub mod WorkExamples
 pub mod TogetherLemmas
+pub mod ReachLemmas

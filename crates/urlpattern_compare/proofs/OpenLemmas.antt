@@ -38,6 +38,7 @@ IsNear refused tried it = (texts : TextAt) × MeetsEach it.conditions.items text
 -- The open candidates, and the texts that were tried: all are apart.
 pub record AreOpen (first : List Condition) (refused : List (Vec Condition Global)) (candidates : List Candidate) (tried : List TextAt) : Type 0 where
   pub each : All (IsOpen first (all_conditions first refused)) candidates
+  pub tried_lines : All LackLines tried
   pub met : All (MeetsEach first) tried
   pub tried_apart : AreApart (MeetAlike refused) tried
   pub far : All (λ it. All (λ one. ¬ IsNear refused one it) tried) candidates
@@ -98,6 +99,9 @@ module _ (first : List Condition) (refused : List (Vec Condition Global)) (rest 
   parent_far : All (λ one. ¬ IsNear refused one parent) tried
   parent_far = all_last (λ (it : Candidate). All (λ one. ¬ IsNear refused one it) tried) rest parent opened.far
 
+  tried_lines : All LackLines (texts_now ∷ tried)
+  tried_lines = All-cons LackLines texts_now tried parent_open.lines opened.tried_lines
+
   tried_met : All (MeetsEach first) (texts_now ∷ tried)
   tried_met = All-cons (MeetsEach first) texts_now tried (parent_open.within texts_now parent_open.met) opened.met
 
@@ -134,6 +138,7 @@ module _ (first : List Condition) (refused : List (Vec Condition Global)) (rest 
         record {
           each = All-append (IsOpen first all) rest more (all_front (IsOpen first all) rest (parent ∷ []) opened.each)
               (All-weaker (IsCandidateOf parent.conditions.items them.items) (IsOpen first all) child_open more children);
+          tried_lines = tried_lines;
           met = tried_met;
           tried_apart = tried_apart;
           far = All-append (λ (it : Candidate). All (λ one. ¬ IsNear refused one it) (texts_now ∷ tried)) rest more rest_far
@@ -180,6 +185,7 @@ pub many_tried : (first : List Condition) (refused : List (Vec Condition Global)
 many_tried first refused limits rest parent tried doubt is = (
   text_at parent.texts ∷ tried,
   (let before = is.counted in omega arith),
+  tried_lines first refused rest parent tried is.opened,
   tried_met first refused rest parent tried is.opened,
   tried_apart first refused rest parent tried is.opened,
 )
@@ -216,6 +222,7 @@ first_dividing it refused limits lines met =
           within = λ texts meets. meets;
           among = λ k d lt. let one = get_or first k d in (one, first_among first refused one (Contains-get_or first k d lt), refl, refl);
         }) (All-nil (IsOpen first all));
+        tried_lines = All-nil LackLines;
         met = All-nil (MeetsEach first);
         tried_apart = tt;
         far = All-cons (λ (one : Candidate). All (λ other. ¬ IsNear refused other one) []) it [] (All-nil (λ other. ¬ IsNear refused other it)) (All-nil (λ (one : Candidate). All (λ other. ¬ IsNear refused other one) []));

@@ -2,7 +2,7 @@
 use Rattle.std.proofs.Common.{◌≡◌, ◌≢◌, ◌∙◌, ◌↔◌, ◌⊎◌, ℕ, Bool, true, false, List, ap, inl, inr, refl, subst, sym, true≢false, ◌+◌, ◌<◌, get_or, length, take}
 use Rattle.std.proofs.lemmas.List.{get_or-map, length-map, take_more_same}
 use Rattle.std.specs.List.{list_any}
-use Rattle.std.specs.Prelude.{IsTrue, not, String, encode_utf8_all, string_bytes}
+use Rattle.std.specs.Prelude.{IsTrue, map, not, String, encode_utf8_all, string_bytes}
 use Rattle.std.specs.Str.{chars}
 use Rattle.std.specs.Cmp.Lexicographic.{bytes_decides}
 use Rattle.std.specs.String.{string_eq}
@@ -11,7 +11,8 @@ use Rattle.urlpattern_compare.specs.Answers.{is_custom_part}
 use Rattle.urlpattern_meaning.specs.PartMeaning.{PartsMean}
 use Rattle.urlpattern_compare.proofs.AnswerLemmas.{custom, generated}
 use Rattle.urlpattern_compare.proofs.NamelessParts.{all_nameless, generated_renamed, renamed, unnamed_views}
-use Rattle.urlpattern_compare.specs.Comparing.{AreSame, IsCaseKeptOrGenerated, IsKnown, MeansAllOf, unnamed, unnamed_view}
+use Rattle.urlpattern_compare.specs.Comparing.{AreSame, IsCaseKeptOrGenerated, IsKnown, MeansAllOf}
+use Rattle.urlpattern_compare.specs.EqualParts.{AreEqual}
 use Rattle.urlpattern_syntax.specs.declared.parts.ComponentParts.{ComponentParts}
 use Rattle.urlpattern_syntax.proofs.StringTexts.{text_bytes}
 use Rattle.urlpattern_syntax.specs.declared.parser.Part.{Part}
@@ -30,23 +31,23 @@ same_text string other =
 
 -- ---- lists of parts
 
-pub unnamed_more : (parts others : List Part) (i : ℕ) (part other : Part) → i < length parts → i < length others → part ≡ get_or parts i part → other ≡ get_or others i other
-    → take i (unnamed parts) ≡ take i (unnamed others) → unnamed_view part ≡ unnamed_view other → take (i + 1) (unnamed parts) ≡ take (i + 1) (unnamed others)
-unnamed_more parts others i part other within within_others at_i at_others same now =
-    let d = unnamed_view part in
-    let here : get_or (unnamed parts) i d ≡ unnamed_view part = get_or-map unnamed_view parts i part d within ∙ ap unnamed_view (sym at_i) in
-    let there : get_or (unnamed others) i d ≡ unnamed_view other = get_or-map unnamed_view others i other d within_others ∙ ap unnamed_view (sym at_others) in
-    take_more_same (unnamed parts) (unnamed others) i d (subst (λ (n : ℕ). i < n) (sym (length-map parts unnamed_view)) within)
-    (subst (λ (n : ℕ). i < n) (sym (length-map others unnamed_view)) within_others) same (here ∙ now ∙ sym there)
+module _ (view : Part → PartView) (parts others : List Part) (i : ℕ) (part other : Part) (within : i < length parts) (within_others : i < length others)
+    (at_i : part ≡ get_or parts i part) (at_others : other ≡ get_or others i other) where
+  here : get_or (map view parts) i (view part) ≡ view part
+  here = get_or-map view parts i part (view part) within ∙ ap view (sym at_i)
 
--- A part that differs makes the lists differ.
-pub unnamed_apart : (parts others : List Part) (i : ℕ) (part other : Part) → i < length parts → i < length others → part ≡ get_or parts i part → other ≡ get_or others i other
-    → unnamed_view part ≢ unnamed_view other → unnamed parts ≢ unnamed others
-unnamed_apart parts others i part other within within_others at_i at_others apart same =
-    let d = unnamed_view part in
-    let here : get_or (unnamed parts) i d ≡ unnamed_view part = get_or-map unnamed_view parts i part d within ∙ ap unnamed_view (sym at_i) in
-    let there : get_or (unnamed others) i d ≡ unnamed_view other = get_or-map unnamed_view others i other d within_others ∙ ap unnamed_view (sym at_others) in
-    apart (sym here ∙ ap (λ (views : List PartView). get_or views i d) same ∙ there)
+  there : get_or (map view others) i (view part) ≡ view other
+  there = get_or-map view others i other (view part) within_others ∙ ap view (sym at_others)
+
+  -- The lists are equal up to another part.
+  pub views_more : take i (map view parts) ≡ take i (map view others) → view part ≡ view other → take (i + 1) (map view parts) ≡ take (i + 1) (map view others)
+  views_more same now =
+      take_more_same (map view parts) (map view others) i (view part) (subst (λ (n : ℕ). i < n) (sym (length-map parts view)) within)
+      (subst (λ (n : ℕ). i < n) (sym (length-map others view)) within_others) same (here ∙ now ∙ sym there)
+
+  -- A part that differs makes the lists differ.
+  pub views_apart : view part ≢ view other → map view parts ≢ map view others
+  views_apart apart same = apart (sym here ∙ ap (λ (views : List PartView). get_or views i (view part)) same ∙ there)
 
 -- ---- components
 
@@ -86,6 +87,14 @@ same_flips component other same =
         | inr generated ↦ inr (generated_renamed others parts (sym (same_nameless component other same)) generated)
       ];
     }
+
+-- Components with equal parts are equal but for names.
+pub equal_same : (component other : ComponentParts) → AreEqual component other → IsCaseKeptOrGenerated component → AreSame component other
+equal_same component other equal kept = record {
+  options = equal.options;
+  parts = unnamed_views component.parts.items ∙ ap all_nameless equal.parts ∙ sym (unnamed_views other.parts.items);
+  kept_or_generated = kept;
+}
 
 -- Equal parts mean the same texts, where these are known.
 pub same_within : (component asked : ComponentParts) → AreSame component asked → IsKnown component → MeansAllOf component asked

@@ -204,11 +204,13 @@ sets_needed patterns all name most of_some (own, within, (texts, many, apart)) =
       apart,
 )
 
-pub texts_needed : (all_of none_of : List PatternAutomata) (is_sure : Bool) (first : List Condition) (lists : List (Vec Condition Global)) (most : ℕ) → AreLists all_of none_of is_sure lists →
-    HasManyTexts first lists most → NeedsManyTexts (automata_of none_of) most
-texts_needed all_of none_of is_sure first lists most are (found, many, met, apart) = (
+pub texts_needed : (all_of none_of : List PatternAutomata) (is_sure : Bool) (first : List Condition) (lists : List (Vec Condition Global)) (most : ℕ) →
+    ((texts : TextAt) → MeetsEach first texts ↔ All (λ pattern. TakesAll pattern texts) all_of) → AreLists all_of none_of is_sure lists → HasManyTexts first lists most → NeedsManyTexts all_of none_of most
+texts_needed all_of none_of is_sure first lists most meant are (found, many, lines, met, apart) = (
   found,
   many,
+  lines,
+  All-weaker (MeetsEach first) (λ texts. All (λ pattern. TakesAll pattern texts) all_of) (λ texts. (meant texts).0) found met,
   apart_weaker (MeetAlike lists) (TakeAlike (automata_of none_of)) found
       (λ texts others alike k d lt j e there.
       let it = get_or (get_or lists k d).items j e in
@@ -243,4 +245,4 @@ found_taken all_of none_of is_sure limits first lists founds.Nothing on meant ar
     })
 found_taken all_of none_of is_sure limits first lists (founds.TooManySets name) on meant are many =
     sets_needed (all_of ++ none_of) (all_conditions first lists) name limits.sets (all_of_some all_of none_of is_sure first lists on are.of_patterns) many
-found_taken all_of none_of is_sure limits first lists founds.TooManyTexts on meant are many = texts_needed all_of none_of is_sure first lists limits.texts are many
+found_taken all_of none_of is_sure limits first lists founds.TooManyTexts on meant are many = texts_needed all_of none_of is_sure first lists limits.texts meant are many

@@ -184,12 +184,13 @@ abbrev pub MeetAlike : (refused : List (Vec Condition Global)) → (texts others
 MeetAlike refused texts others =
     All (λ them. AlikeBy them.items texts others) refused
 
--- More than `most` times eight texts exist that meet the conditions `first`, no two of which meet
--- the same conditions of `refused`.
+-- More than `most` times eight texts exist, without line feeds, that meet the conditions `first`,
+-- and no two of which meet the same conditions of `refused`.
 abbrev pub HasManyTexts : (first : List Condition) → (refused : List (Vec Condition Global))
     → (most : ℕ) → Type 0
 HasManyTexts first refused most =
     (found : List TextAt) × (most < length found)
+    × All LackLines found
     × All (MeetsEach first) found
     × AreApart (MeetAlike refused) found
 

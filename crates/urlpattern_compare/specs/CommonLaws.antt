@@ -1,7 +1,8 @@
 -- Laws of common texts: that meanings exist, and how much work a question takes at most.
-use Rattle.std.specs.Prelude.{◌≢◌, ◌⊎◌, ◌++◌, ◌*◌, ◌^◌, ◌≤◌, ℕ, All, List, length}
+use Rattle.std.specs.Prelude.{◌≢◌, ◌⊎◌, ◌++◌, ◌^◌, ◌≤◌, ℕ, All, Contains, IsTrue, List, length}
 use Rattle.std.specs.List.{sum_by}
 use Rattle.urlpattern_compare.specs.CommonTexts.{AreAutomata, AreMeanings, IsDoubt, IsLack, PatternMeaning, SomeHasManyStates, parts_of}
+use Rattle.urlpattern_compare.specs.Comparing.{IsKnown, MeansIn}
 use Rattle.urlpattern_compare.specs.WorkBounds.{component_size}
 use Rattle.urlpattern_compare.specs.declared.candidates.Limits.{Limits}
 use Rattle.urlpattern_compare.specs.declared.common_texts.Doubt.TheVariants as doubts
@@ -11,6 +12,8 @@ use Rattle.urlpattern_compare.specs.declared.coverage.Reason.TheVariants as reas
 use Rattle.urlpattern_compare.specs.declared.parts_automaton.TheConstants.{MOST_STATES}
 use Rattle.urlpattern_components.specs.declared.eight.ComponentName.{ComponentName}
 use Rattle.urlpattern_components.specs.Eight.{at}
+use Rattle.urlpattern_syntax.specs.Text.{lacks, line_feed}
+use Rattle.urlpattern_syntax.specs.declared.parts.ComponentParts.{ComponentParts}
 
 -- Some meanings exist of any patterns, unless a component needs too many states.
 abbrev pub MeaningsExist : Type 0
@@ -40,10 +43,26 @@ SmallNeedFewSets =
     → 2 ^ joint_size (all_of ++ none_of) name ≤ limits.sets
     → ¬ IsDoubt all_of none_of limits (doubts.TooManySets name)
 
+-- If its parts tell what the component matches, it matches any text without line feeds, as `*`
+-- does.
+abbrev pub MatchesAnything : ComponentParts → Type 0
+MatchesAnything component =
+    IsKnown component
+    → (text : List ℕ) → IsTrue (lacks line_feed text) → MeansIn component text
+
+-- Each component of the pattern is among `counted`, or matches anything.
+abbrev pub AreCounted : (counted : List ComponentName) → PatternAutomata → Type 0
+AreCounted counted it =
+    (name : ComponentName)
+    → Contains counted name ⊎ MatchesAnything (at it.parts.components name)
+
 -- Not too many texts have to be tried if 2 to the power of the number of components of `none_of` is
--- at most `limits.texts`.
+-- at most `limits.texts`, where components that match anything need not be counted.
 abbrev pub FewNeedFewTexts : Type 0
 FewNeedFewTexts =
     (all_of none_of : List PatternAutomata) (limits : Limits)
-    → 2 ^ (8 * length none_of) ≤ limits.texts
+    (counted : PatternAutomata → List ComponentName)
+    → All AreAutomata none_of
+    → All (λ it. AreCounted (counted it) it) none_of
+    → 2 ^ sum_by (λ it. length (counted it)) none_of ≤ limits.texts
     → ¬ IsDoubt all_of none_of limits doubts.TooManyTexts

@@ -4,8 +4,9 @@ use Rattle.std.specs.declared.alloc.Global.{Global}
 use Rattle.urlpattern_compare.specs.Candidates.{AreLines, LackLines, MeetsEach, TextAt, text_at}
 use Rattle.urlpattern_compare.specs.Comparing.{AreSame, IsKnown, IsUnknownBy, MeansIn}
 use Rattle.urlpattern_compare.specs.Conditions.{accepts, states_after}
-use Rattle.urlpattern_compare.specs.Making.{HasManyStates, made, made_view}
+use Rattle.urlpattern_compare.specs.Making.{HasManyStates}
 use Rattle.urlpattern_compare.specs.TextSearch.{AreApart, IsLine}
+use Rattle.urlpattern_compare.specs.WorkBounds.{component_size}
 use Rattle.urlpattern_compare.specs.declared.candidates.FoundTexts.{FoundTexts}
 use Rattle.urlpattern_compare.specs.declared.candidates.FoundTexts.TheVariants as founds
 use Rattle.urlpattern_compare.specs.declared.candidates.Limits.{Limits}
@@ -96,18 +97,31 @@ TakeAlike patterns texts others =
     (λ automata. (name : ComponentName)
     → AcceptsAlike (texts name) (others name) (at automata name)) patterns
 
--- More than `most` times eight texts exist no two of which the components of `patterns` take alike.
-abbrev pub NeedsManyTexts : List (Eight (Option PartsAutomaton)) → (most : ℕ) → Type 0
-NeedsManyTexts patterns most =
-    (found : List TextAt) × (most < length found) × AreApart (TakeAlike patterns) found
+-- The automaton, if there is one, accepts the text.
+abbrev pub Takes : Option PartsAutomaton → (text : List ℕ) → Type 0
+Takes automaton text = MatchOption automaton (Unit {0}) (λ it. IsTrue (accepts it text))
+
+-- Each component of the pattern takes its text.
+abbrev pub TakesAll : PatternAutomata → TextAt → Type 0
+TakesAll pattern texts = (name : ComponentName) → Takes (at pattern.automata name) (texts name)
+
+-- More than `most` times eight texts exist, without line feeds, that each pattern of `all_of`
+-- takes, and no two of which the components of `none_of` take alike.
+abbrev pub NeedsManyTexts : (all_of none_of : List PatternAutomata) → (most : ℕ) → Type 0
+NeedsManyTexts all_of none_of most =
+    (found : List TextAt) × (most < length found)
+    × All LackLines found
+    × All (λ texts. All (λ pattern. TakesAll pattern texts) all_of) found
+    × AreApart (TakeAlike (map (λ it. it.automata) none_of)) found
 
 -- ---- the answer
 
--- The automaton accepts the texts that the component matches.
+-- The automaton accepts the texts that the component matches, and has as many states as the size of
+-- the component.
 pub record IsAutomatonOf (component : ComponentParts) (automaton : PartsAutomaton) : Type 0 where
   pub known : IsKnown component
-  pub made : made_view automaton
-      ≡ made (options_view component.options) (parts_view component.parts.items)
+  pub means : (text : List ℕ) → IsTrue (accepts automaton text) ↔ MeansIn component text
+  pub size : automaton.states ≡ component_size component
 
 -- `reason` is why a component has no automaton.
 abbrev pub LacksBy : ComponentParts → Reason → Type 0
@@ -154,7 +168,7 @@ IsDoubt all_of none_of limits (doubts.NoneOf lack) = IsLack none_of lack
 IsDoubt all_of none_of limits (doubts.TooManySets name) =
     NeedsManySets (map (λ it. it.automata) (all_of ++ none_of)) name limits.sets
 IsDoubt all_of none_of limits doubts.TooManyTexts =
-    NeedsManyTexts (map (λ it. it.automata) none_of) limits.texts
+    NeedsManyTexts all_of none_of limits.texts
 
 -- The texts of eight strings.
 abbrev pub string_at : Eight (String Global) → TextAt
@@ -180,7 +194,8 @@ MayBeCommon all_of none_of =
     (all none : List PatternMeaning) × AreMeanings all_of none_of all none
     × ((texts : TextAt) × AreCommon all none texts)
 
--- No eight texts are, if unknown components match what some meanings say.
+-- No eight texts are matched by each pattern of `all_of`, and by no pattern of `none_of`, if
+-- unknown components match what some meanings say.
 abbrev pub MayBeNothing : (all_of none_of : List PatternParts) → Type 0
 MayBeNothing all_of none_of =
     (all none : List PatternMeaning) × AreMeanings all_of none_of all none
@@ -206,14 +221,6 @@ DependsIfUnknown all_of none_of (answers.Unknown (doubts.NoneOf lack)) = Depends
 DependsIfUnknown all_of none_of answer = Unit {0}
 
 -- ---- steps
-
--- The automaton, if there is one, accepts the text.
-abbrev pub Takes : Option PartsAutomaton → (text : List ℕ) → Type 0
-Takes automaton text = MatchOption automaton (Unit {0}) (λ it. IsTrue (accepts it text))
-
--- Each component of the pattern takes its text.
-abbrev pub TakesAll : PatternAutomata → TextAt → Type 0
-TakesAll pattern texts = (name : ComponentName) → Takes (at pattern.automata name) (texts name)
 
 -- A pattern of `all_of` has the same component as the pattern, but for names.
 abbrev pub IsSameIn : (all_of : List PatternAutomata) → PatternAutomata → ComponentName → Type 0
@@ -280,12 +287,15 @@ pub record AreTaken (all_of none_of : List PatternAutomata) (is_sure : Bool) (te
       (λ pattern. (IsTrue is_sure → IsSure all_of pattern) → ¬ TakesEach all_of pattern texts)
       none_of
 
--- Some eight texts are.
+-- Some eight texts are taken by each pattern of `all_of`, and by none of `none_of`; with `is_sure`
+-- patterns of `none_of` that are not sure do not count.
 abbrev pub SomeAreTaken : (all_of none_of : List PatternAutomata) → (is_sure : Bool) → Type 0
 SomeAreTaken all_of none_of is_sure =
     (texts : TextAt) × AreLines texts × AreTaken all_of none_of is_sure texts
 
--- What each result of `find_taken` says.
+-- What each result of `find_taken` says. Texts: the texts are taken by each pattern of `all_of`,
+-- and by none of `none_of` that counts. Nothing: there are no such texts. TooManySets,
+-- TooManyTexts: the question needs more than the limits allow.
 abbrev pub IsFoundTaken : (all_of none_of : List PatternAutomata) → (is_sure : Bool) → Limits
     → FoundTexts → Type 0
 IsFoundTaken all_of none_of is_sure limits (founds.Texts texts) =
@@ -295,7 +305,7 @@ IsFoundTaken all_of none_of is_sure limits founds.Nothing =
 IsFoundTaken all_of none_of is_sure limits (founds.TooManySets name) =
     NeedsManySets (map (λ it. it.automata) (all_of ++ none_of)) name limits.sets
 IsFoundTaken all_of none_of is_sure limits founds.TooManyTexts =
-    NeedsManyTexts (map (λ it. it.automata) none_of) limits.texts
+    NeedsManyTexts all_of none_of limits.texts
 
 -- Each component of the pattern has an automaton.
 abbrev pub HasAutomata : PatternAutomata → Type 0

@@ -1,7 +1,7 @@
 -- How patterns are compared, by the texts that their parts match. Parts *mean* a text if they can
 -- match it, one after the other; the *asked* pattern is the one of which it is asked whether
 -- another pattern covers it. Only texts without line feed are compared.
-use Rattle.std.specs.Prelude.{◌≡◌, ◌<◌, ◌⊎◌, ◌++◌, ℕ, All, Bool, true, Option, None, Contains, List, [], ◌∷◌, IsSomeAnd, IsTrue, MatchOption, false, map, take, Some, String}
+use Rattle.std.specs.Prelude.{◌≡◌, ◌⊎◌, ℕ, All, Bool, true, Option, List, [], ◌∷◌, IsSomeAnd, IsTrue, MatchOption, false, map, take, Some, String}
 use Rattle.std.specs.declared.alloc.Global.{Global}
 use Rattle.std.specs.List.{slice_get}
 use Rattle.std.specs.Str.{all_scalars}
@@ -15,7 +15,6 @@ use Rattle.urlpattern_compare.specs.declared.coverage.Reason.{Reason}
 use Rattle.urlpattern_compare.specs.declared.coverage.Reason.TheVariants as reasons
 use Rattle.urlpattern_meaning.specs.PartMeaning.{AreGenerated}
 use Rattle.urlpattern_syntax.specs.declared.parts.ComponentParts.{ComponentParts}
-use Rattle.urlpattern_compare.specs.declared.shadowed.Shadowed.{Shadowed}
 use Rattle.urlpattern_compare.specs.declared.pattern_parts.Parting.{Parting}
 use Rattle.urlpattern_compare.specs.declared.pattern_parts.PatternCovering.{PatternCovering}
 use Rattle.urlpattern_compare.specs.declared.pattern_parts.PatternCovering.TheVariants as answers
@@ -295,12 +294,6 @@ abbrev pub DecidesCovering : (pattern asked : PatternParts) → Bool → Type 0
 DecidesCovering pattern asked true = IsCovered pattern asked
 DecidesCovering pattern asked false = IsNotKnownToCover asked pattern
 
--- The list with a further entry: the index `pattern`, and `by`, the index of a pattern that covers
--- that pattern. None: no entry is added.
-abbrev pub with_found : List Shadowed → (pattern : ℕ) → (by : Option ℕ) → List Shadowed
-with_found found pattern None = found
-with_found found pattern (Some by) = found ++ record { pattern = pattern; by = by } ∷ []
-
 -- The pattern at `index` covers the asked one.
 abbrev pub CoversAt : List PatternParts → (asked : PatternParts) → (index : ℕ) → Type 0
 CoversAt patterns asked index =
@@ -312,34 +305,3 @@ abbrev pub IsFirstCovering : List PatternParts → (asked : PatternParts) → Op
 IsFirstCovering patterns asked found =
     MatchOption found (All (IsNotKnownToCover asked) patterns) (λ index.
     CoversAt patterns asked index × All (IsNotKnownToCover asked) (take index patterns))
-
--- `found.by` is the index of the first pattern that is known to cover the pattern at the index
--- `found.pattern`, and is less than that index.
-abbrev pub IsShadowed : List PatternParts → Shadowed → Type 0
-IsShadowed patterns found =
-    (found.by < found.pattern)
-    × ((asked : PatternParts) × (slice_get patterns found.pattern ≡ Some asked)
-    × IsFirstCovering (take found.pattern patterns) asked (Some found.by))
-
--- The indices of the covered patterns ascend.
-abbrev pub AreInOrder : List Shadowed → Type 0
-AreInOrder [] = Unit {0}
-AreInOrder (one ∷ others) = All (λ other. one.pattern < other.pattern) others × AreInOrder others
-
--- `found` lists `asked`, the pattern at `index`, or no earlier pattern is known to cover `asked`.
-abbrev pub IsListed : List PatternParts → List Shadowed → (index : ℕ) → PatternParts → Type 0
-IsListed patterns found index asked =
-    ((by : ℕ) × Contains found (record { pattern = index; by = by }))
-    ⊎ All (IsNotKnownToCover asked) (take index patterns)
-
--- `found` lists each pattern that an earlier pattern is known to cover.
-abbrev pub ListsEachShadowed : List PatternParts → List Shadowed → Type 0
-ListsEachShadowed patterns found =
-    (index : ℕ) (asked : PatternParts) → slice_get patterns index ≡ Some asked
-    → IsListed patterns found index asked
-
--- `found` is the result of `unreachable`: the patterns that an earlier pattern is known to cover,
--- in order, each with the first such pattern.
-abbrev pub AreUnreachable : List PatternParts → List Shadowed → Type 0
-AreUnreachable patterns found =
-    All (IsShadowed patterns) found × AreInOrder found × ListsEachShadowed patterns found

@@ -1,5 +1,5 @@
--- Patterns that cover another one, the asked one, only together.
-use Rattle.std.specs.Prelude.{◌≡◌, ◌≢◌, ◌<◌, ℕ, All, Bool, true, false, Contains, List, [], ◌∷◌, ◌++◌, Some, length, slice_get}
+-- Patterns that cover another one, the asked one, together.
+use Rattle.std.specs.Prelude.{◌≢◌, ◌<◌, ◌≤◌, ℕ, zero, suc, All, Bool, true, false, List, [], ◌∷◌, ◌++◌, length, slice_get, take}
 use Rattle.std.specs.List.{flat_map}
 use Rattle.std.specs.Option.{option_to_list}
 use Rattle.urlpattern_compare.specs.Candidates.{TextAt}
@@ -35,24 +35,18 @@ DecidesTogether limits patterns asked false = MayNotCover limits patterns asked
 abbrev pub at_each : {X : Type 0} → List X → List ℕ → List X
 at_each xs indices = flat_map (λ index. option_to_list (slice_get xs index)) indices
 
--- The indices, with a further one, unless the others are known to cover without it.
-abbrev pub with_needed : List ℕ → (covers : Bool) → (index : ℕ) → List ℕ
-with_needed kept true index = kept
-with_needed kept false index = kept ++ index ∷ []
-
 -- The indices ascend.
 abbrev pub AreAscending : List ℕ → Type 0
 AreAscending [] = Unit {0}
 AreAscending (index ∷ others) = All (λ other. index < other) others × AreAscending others
 
--- The index cannot be left out of `by`: some of the patterns, among them those at the other indices
--- of `by`, are not known to cover the asked one.
-abbrev pub IsNeeded : Limits → List PatternAutomata → (asked : PatternAutomata)
-    → (by : List ℕ) → (index : ℕ) → Type 0
-IsNeeded limits patterns asked by index =
-    (others : List PatternAutomata) × MayNotCover limits others asked
-    × ((other : ℕ) (pattern : PatternAutomata) → Contains by other → other ≢ index
-    → slice_get patterns other ≡ Some pattern → Contains others pattern)
+-- None of the indices can be left out: without it, the patterns at the later indices and all that
+-- are before it are not known to cover the asked one.
+abbrev pub AreNeeded : Limits → List PatternAutomata → (asked : PatternAutomata) → List ℕ → Type 0
+AreNeeded limits patterns asked [] = Unit {0}
+AreNeeded limits patterns asked (index ∷ later) =
+    MayNotCover limits (take index patterns ++ at_each patterns later) asked
+    × AreNeeded limits patterns asked later
 
 -- The patterns at the indices `by`, which ascend, cover the asked one, and no index can be left
 -- out.
@@ -61,4 +55,32 @@ pub record IsLeastCover (limits : Limits) (patterns : List PatternAutomata)
   pub within : All (λ index. index < length patterns) by
   pub ascending : AreAscending by
   pub cover : AreCovering (at_each patterns by) asked
-  pub needed : All (IsNeeded limits patterns asked by) by
+  pub needed : AreNeeded limits patterns asked by
+
+-- ---- steps
+
+-- The index of the last of so many patterns. 0 if there is none.
+abbrev pub before_last : (count : ℕ) → ℕ
+before_last zero = 0
+before_last (suc index) = index
+
+-- The indices, after that of the last of `count` patterns, if there is one.
+abbrev pub with_last : (count : ℕ) → (by : List ℕ) → List ℕ
+with_last zero by = by
+with_last (suc index) by = index ∷ by
+
+-- The first `count` patterns but the last of them, together with those at the indices `by`, are not
+-- known to cover the asked one.
+abbrev pub NeedsLast : Limits → List PatternAutomata → (asked : PatternAutomata) → (by : List ℕ)
+    → (count : ℕ) → Type 0
+NeedsLast limits patterns asked by zero = Unit {0}
+NeedsLast limits patterns asked by (suc index) =
+    MayNotCover limits (take index patterns ++ at_each patterns by) asked
+
+-- The first `count` patterns, which are at most `end`, cover the asked one together with those at
+-- the indices `by`, and one pattern fewer are not known to.
+pub record IsFewest (limits : Limits) (patterns : List PatternAutomata) (asked : PatternAutomata)
+    (by : List ℕ) (end count : ℕ) : Type 0 where
+  pub within : count ≤ end
+  pub cover : AreCovering (take count patterns ++ at_each patterns by) asked
+  pub needed : NeedsLast limits patterns asked by count

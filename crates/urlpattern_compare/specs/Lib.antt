@@ -6,6 +6,8 @@ pub mod MeantTexts
 pub mod Searching
 pub mod Comparing
 pub mod ComparingSteps
+pub mod EqualParts
+pub mod PartsHash
 pub mod Order
 pub mod DecidedComparisons
 pub mod WorkBounds
@@ -15,3 +17,4 @@ pub mod Candidates
 pub mod CommonTexts
 pub mod CommonLaws
 pub mod CoveringTogether
+pub mod Reaching

@@ -20,6 +20,12 @@ pub struct Limits {
     pub texts: usize,
 }
 
+/// Limits that no table of patterns is known to reach.
+pub const USUAL_LIMITS: Limits = Limits {
+    sets: 10_000,
+    texts: 1_000,
+};
+
 /// What a search for eight texts found.
 #[derive(Debug, Drop)]
 pub(crate) enum FoundTexts {

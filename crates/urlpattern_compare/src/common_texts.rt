@@ -4,11 +4,13 @@ ghost use Rattle.std.specs.Prelude.{◌≡◌, ◌↔◌, ◌++◌, ◌∷◌, [
 ghost use Rattle.urlpattern_components.specs.Eight.{at};
 ghost use Rattle.urlpattern_compare.specs.Candidates.{AreLines, LackLines, MeetsEach, TextAt, text_at};
 ghost use Rattle.urlpattern_compare.specs.CommonTexts.{AreAdded, AreAutomata, AreLists, AreTaken, DependsIfUnknown, HasAutomata, IsAutomatonOrLacks, IsCommonAnswer, IsConditionOf, IsFoundTaken, IsLack, IsSure, SomeAreTaken, TakesAll, TakesEach, TakesIn, string_at};
+ghost use Rattle.urlpattern_compare.specs.EqualParts.{AreEqualParts};
 ghost use Rattle.urlpattern_syntax.specs.Text.{text_of};
 
 use crate::candidates::{FoundTexts, Limits, find_texts};
 use crate::component_coverage::unknown;
 use crate::condition::Condition;
+use crate::copies::copy_of;
 use crate::coverage::Reason;
 use crate::lacks::{first_lack, is_same_in, is_sure_of};
 use crate::parts_automaton::{PartsAutomaton, make};
@@ -28,7 +30,8 @@ pub enum Common {
     Unknown(Doubt),
 }
 
-/// A component of which nothing is known, or that needs too many states.
+/// A component without automaton, maybe one of several: nothing is known of it, or it needs too
+/// many states.
 #[derive(Clone, Copy, Debug, PartialEq, Eq)]
 pub struct Lack {
     /// The index of the pattern in its list.
@@ -42,9 +45,11 @@ pub struct Lack {
 /// Why it is not known whether texts exist that some patterns match, and others do not.
 #[derive(Clone, Copy, Debug, PartialEq, Eq)]
 pub enum Doubt {
-    /// Whether there are such texts depends on what a component of a pattern of `all_of` matches.
+    /// Whether there are such texts depends on what components without automaton match. This is one
+    /// of them, of a pattern of `all_of`; others may decide.
     AllOf(Lack),
-    /// Whether there are such texts depends on what a component of a pattern of `none_of` matches.
+    /// Whether there are such texts depends on what components without automaton match. This is one
+    /// of them, of a pattern of `none_of`; others may decide.
     NoneOf(Lack),
     /// The automata of this component need more sets of states than [`Limits`] allows.
     TooManySets(ComponentName),
@@ -70,6 +75,15 @@ impl PatternAutomata {
     {
         let automata = automata_of(alloc, &parts)?;
         Ok(PatternAutomata { parts, automata })
+    }
+
+    /// Makes the automata of the pattern with these parts, of which it keeps a copy.
+    pub fn of(alloc: Global, parts: &PatternParts) -> Result<Self, AllocError>
+        ensures automata { IfOk result AreAutomata }
+        ensures parts { IfOk result (λ it. AreEqualParts parts.now it.parts) }
+    {
+        let copy = copy_of(alloc, parts)?;
+        PatternAutomata::new(alloc, copy)
     }
 }
 

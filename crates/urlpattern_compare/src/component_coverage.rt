@@ -211,7 +211,7 @@ fn common_with_anything(alloc: Global, component: &ComponentParts) -> Result<Ove
 }
 
 /// Whether two options are equal.
-fn are_same_options(options: &Options, others: &Options) -> bool
+pub(crate) fn are_same_options(options: &Options, others: &Options) -> bool
     ensures { IsTrue result ↔ options_view options.now ≡ options_view others.now }
 {
     options.delimiter_code_point == others.delimiter_code_point
@@ -247,7 +247,7 @@ fn is_same_part(part: &Part, other: &Part) -> bool
 }
 
 /// Whether two texts are equal.
-fn is_same_text(text: &String, other: &String) -> bool
+pub(crate) fn is_same_text(text: &String, other: &String) -> bool
     ensures { IsTrue result ↔ text_of text.now ≡ text_of other.now }
 {
     text == other

@@ -79,7 +79,7 @@ fn rank_of(part: &Part) -> Rank<'_>
 }
 
 /// Returns the rank of a kind: the more specific, the greater.
-fn kind_rank(kind: &PartType) -> u8
+pub(crate) fn kind_rank(kind: &PartType) -> u8
     ensures { result ≡ kind_rank kind.now }
 {
     match kind {
@@ -91,7 +91,7 @@ fn kind_rank(kind: &PartType) -> u8
 }
 
 /// Returns the rank of a modifier: the more specific, the greater.
-fn modifier_rank(modifier: PartModifier) -> u8
+pub(crate) fn modifier_rank(modifier: PartModifier) -> u8
     ensures { result ≡ modifier_rank modifier }
 {
     match modifier {

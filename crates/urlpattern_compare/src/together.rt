@@ -1,35 +1,107 @@
-//! Patterns that cover another one only together.
+//! Patterns that cover another one together.
 
-ghost use Rattle.std.specs.Prelude.{◌≡◌, ◌++◌, ◌∷◌, [], All, IfOk, MatchOption, OnOk, drop, map};
+ghost use Rattle.std.specs.Prelude.{◌≡◌, ◌<◌, ◌++◌, ◌∷◌, [], All, IfOk, OnOk, map, take};
 ghost use Rattle.urlpattern_compare.specs.CommonTexts.{AreAutomata};
-ghost use Rattle.urlpattern_compare.specs.CoveringTogether.{AreCovering, DecidesTogether, IsLeastCover, MayNotCover, at_each, with_needed};
+ghost use Rattle.urlpattern_compare.specs.CoveringTogether.{AreCovering, DecidesTogether, IsFewest, IsLeastCover, at_each, before_last, with_last};
 
 use crate::candidates::Limits;
 use crate::common_texts::{Common, PatternAutomata, find_common};
 use std::alloc::{AllocError, Global};
 
-/// Returns the indices of some of `patterns`, in order, that cover `asked` together: of any eight
-/// texts without line feeds that `asked` matches, one of them matches all eight. None of the
-/// indices can be left out. `None`: `patterns` are not known to cover `asked`, even all of them.
-pub fn covering_together<'a>(
+/// Returns the indices of some of `patterns`, in order, that cover `asked` together. All of them
+/// together do.
+///
+/// None of the indices can be left out: without it, the patterns at the later ones and all that are
+/// before it are not known to cover `asked`.
+pub(crate) fn least_cover<'a>(
     alloc: Global,
     patterns: &[&'a PatternAutomata],
     asked: &'a PatternAutomata,
     limits: Limits,
-) -> Result<Option<Vec<usize>>, AllocError>
+) -> Result<Vec<usize>, AllocError>
     requires patterns { All AreAutomata (map (λ it. it.now) patterns.now) }
     requires asked { AreAutomata asked.now }
-    ensures { IfOk result (λ found. MatchOption found
-        (MayNotCover limits (map (λ it. it.now) patterns.now) asked.now)
-        (λ by. IsLeastCover limits (map (λ it. it.now) patterns.now) asked.now by.items)) }
+    requires covered { AreCovering (map (λ it. it.now) patterns.now) asked.now }
+    ensures { IfOk result (λ by.
+        IsLeastCover limits (map (λ it. it.now) patterns.now) asked.now by.items) }
 {
-    let covers = are_covering(alloc, patterns, asked, limits)?;
-    if covers {
-        let by = least_cover(alloc, patterns, asked, limits)?;
-        Ok(Some(by))
-    } else {
-        Ok(None)
+    let mut by = Vec::new(alloc);
+    let mut end = patterns.len();
+    while end > 0 {
+        let count = fewest(alloc, patterns, asked, limits, &by, end)?;
+        let last = insert_last(&mut by, count)?;
+        end = last;
     }
+    Ok(by)
+}
+
+/// Inserts the index of the last of `count` patterns before the indices `by`, and returns that
+/// index. 0 if there is no pattern.
+fn insert_last(by: &mut Vec<usize>, count: usize) -> Result<usize, AllocError>
+    ensures by { OnOk result (by.new.items ≡ with_last count by.old.items) }
+    ensures last { IfOk result (λ last. last ≡ before_last count) }
+{
+    if count == 0 {
+        return Ok(0);
+    }
+    by.insert(0, count - 1)?;
+    Ok(count - 1)
+}
+
+/// Returns how many of the first `end` patterns cover `asked` together with those at the indices
+/// `by`, where one fewer are not known to. All `end` do.
+fn fewest<'a>(
+    alloc: Global,
+    patterns: &[&'a PatternAutomata],
+    asked: &'a PatternAutomata,
+    limits: Limits,
+    by: &[usize],
+    end: usize,
+) -> Result<usize, AllocError>
+    requires patterns { All AreAutomata (map (λ it. it.now) patterns.now) }
+    requires asked { AreAutomata asked.now }
+    requires some { 0 < end }
+    requires covered { AreCovering (take end (map (λ it. it.now) patterns.now)
+        ++ at_each (map (λ it. it.now) patterns.now) by.now) asked.now }
+    ensures { IfOk result
+        (IsFewest limits (map (λ it. it.now) patterns.now) asked.now by.now end) }
+{
+    let covers = do_cover(alloc, patterns, asked, limits, 0, by)?;
+    if covers {
+        return Ok(0);
+    }
+    let mut low = 0;
+    let mut high = end;
+    while low + 1 < high {
+        let middle = low + (high - low) / 2;
+        let covers = do_cover(alloc, patterns, asked, limits, middle, by)?;
+        if covers {
+            high = middle;
+        } else {
+            low = middle;
+        }
+    }
+    Ok(high)
+}
+
+/// Whether the first `count` of `patterns` and those at the indices `by` are known to cover `asked`
+/// together. `false`: they do not, or that is not known.
+fn do_cover<'a>(
+    alloc: Global,
+    patterns: &[&'a PatternAutomata],
+    asked: &'a PatternAutomata,
+    limits: Limits,
+    count: usize,
+    by: &[usize],
+) -> Result<bool, AllocError>
+    requires patterns { All AreAutomata (map (λ it. it.now) patterns.now) }
+    requires asked { AreAutomata asked.now }
+    ensures { IfOk result
+        (DecidesTogether limits (take count (map (λ it. it.now) patterns.now)
+        ++ at_each (map (λ it. it.now) patterns.now) by.now) asked.now) }
+{
+    let some = first_and_at(alloc, patterns, count, by)?;
+    are_covering(alloc, &some, asked, limits)
 }
 
 /// Whether `patterns` are known to cover `asked` together. `false`: they do not, or that is not
@@ -56,70 +128,37 @@ fn are_covering<'a>(
     }
 }
 
-/// Returns the indices of those of `patterns` that are left when each, in order, is left out if the
-/// others are known to cover `asked` without it. All of them together cover `asked`.
-fn least_cover<'a>(
+/// Returns the first `count` of `patterns`, and those at the indices `by`.
+fn first_and_at<'a>(
     alloc: Global,
     patterns: &[&'a PatternAutomata],
-    asked: &'a PatternAutomata,
-    limits: Limits,
-) -> Result<Vec<usize>, AllocError>
-    requires patterns { All AreAutomata (map (λ it. it.now) patterns.now) }
-    requires asked { AreAutomata asked.now }
-    requires covered { AreCovering (map (λ it. it.now) patterns.now) asked.now }
-    ensures { IfOk result (λ by.
-        IsLeastCover limits (map (λ it. it.now) patterns.now) asked.now by.items) }
-{
-    let mut kept = Vec::new(alloc);
-    for index in 0..patterns.len() {
-        let others = others_of(alloc, patterns, &kept, index + 1)?;
-        let covers = are_covering(alloc, &others, asked, limits)?;
-        push_needed(&mut kept, covers, index)?;
-    }
-    Ok(kept)
-}
-
-/// Appends the index, unless the others are known to cover without it.
-fn push_needed(kept: &mut Vec<usize>, covers: bool, index: usize) -> Result<(), AllocError>
-    ensures { OnOk result (kept.new.items ≡ with_needed kept.old.items covers index) }
-{
-    if !covers {
-        kept.push(index)?;
-    }
-    Ok(())
-}
-
-/// Returns those of `patterns` at the indices `kept`, and all from the index `after` on.
-fn others_of<'a>(
-    alloc: Global,
-    patterns: &[&'a PatternAutomata],
-    kept: &[usize],
-    after: usize,
+    count: usize,
+    by: &[usize],
 ) -> Result<Vec<&'a PatternAutomata>, AllocError>
-    ensures { IfOk result (λ others.
-        others.items ≡ at_each patterns.now kept.now ++ drop after patterns.now) }
+    ensures { IfOk result (λ some.
+        some.items ≡ take count patterns.now ++ at_each patterns.now by.now) }
 {
-    let mut others = Vec::new(alloc);
-    for index in kept {
-        push_at(&mut others, patterns, *index)?;
+    let mut some = Vec::new(alloc);
+    for first in 0..count {
+        push_at(&mut some, patterns, first)?;
     }
-    for later in after..patterns.len() {
-        others.push(patterns[later])?;
+    for index in by {
+        push_at(&mut some, patterns, *index)?;
     }
-    Ok(others)
+    Ok(some)
 }
 
 /// Appends the pattern at the index, if there is one.
 fn push_at<'a>(
-    others: &mut Vec<&'a PatternAutomata>,
+    some: &mut Vec<&'a PatternAutomata>,
     patterns: &[&'a PatternAutomata],
     index: usize,
 ) -> Result<(), AllocError>
     ensures { OnOk result
-        (others.new.items ≡ others.old.items ++ at_each patterns.now (index ∷ [])) }
+        (some.new.items ≡ some.old.items ++ at_each patterns.now (index ∷ [])) }
 {
     if index < patterns.len() {
-        others.push(patterns[index])?;
+        some.push(patterns[index])?;
         Ok(())
     } else {
         Ok(())

@@ -35,7 +35,7 @@ use Rattle.urlpattern_expressions.specs.Expressions.{config_for}
 use Rattle.urlpattern_engine.specs.GrammarReadings.{ValuesReturnAsRead}
 use Rattle.urlpattern_meaning.proofs.FirstResults.{first_agrees, took_all}
 use Rattle.urlpattern_engine.proofs.AutomatonLemmas.{automaton_as_read}
-use Rattle.urlpattern_engine.proofs.GrammarResults.{first_as_read, read_answer_is, read_by_default, reads_some, regex_as_read, regex_some}
+use Rattle.urlpattern_engine.proofs.GrammarResults.{AreAlike, read_answer_is, read_by_default, reads_some, regex_as_read, regex_some, tree_first_as_read}
 
 -- ---- the result of a value
 
@@ -98,32 +98,40 @@ module _ (ignore_case : Bool) (regexp : List ℕ) (strategy : Strategy) (made : 
     | inr read ↦ absurd (read.is_custom generated)
   ]
 
-  module _ (kept : ignore_case ≡ false) (fine : IsTrue (all_scalars text)) where
-    -- If case is kept, a value returns the first match of what the grammar reads.
-    pub expression_as_read : IsSome (read default_config regexp) → expression_result ignore_case strategy text ≡ read_result false regexp text
+  module _ (alike : AreAlike ignore_case regexp text) (fine : IsTrue (all_scalars text)) where
+    -- A value returns the first match of what the grammar reads.
+    pub expression_as_read : IsSome (read (config_for ignore_case) regexp) → expression_result ignore_case strategy text ≡ read_result ignore_case regexp text
     expression_as_read some = elim (form_of ignore_case regexp strategy made) [
       | inl own ↦
-          own.answers text ∙ ap (λ b. first_way_by b own.tree text) kept
-          ∙ first_as_read regexp own.tree own.is_tree (expression_good ignore_case regexp strategy made) some text fine
-      | inr read ↦ read.answers text fine ∙ ap (λ b. read_result b regexp text) kept
+          own.answers text
+          ∙ tree_first_as_read ignore_case regexp own.tree own.is_tree (expression_good ignore_case regexp strategy made) some text fine alike
+      | inr read ↦ read.answers text fine
     ]
 
-    -- If case is kept, a value returns the first match of a tree of its text.
-    pub expression_first : (tree : Items) → IsTreeOf regexp tree → expression_result ignore_case strategy text ≡ first_way tree text
+    -- A value returns the first match of a tree of its text.
+    pub expression_first : (tree : Items) → IsTreeOf regexp tree → expression_result ignore_case strategy text ≡ first_way_by ignore_case tree text
     expression_first tree is = elim (form_of ignore_case regexp strategy made) [
-      | inl own ↦
-          own.answers text ∙ ap (λ b. first_way_by b own.tree text) kept ∙ ap (λ t. first_way t text) (trees_are_one regexp own.tree tree own.is_tree is)
+      | inl own ↦ own.answers text ∙ ap (λ t. first_way_by ignore_case t text) (trees_are_one regexp own.tree tree own.is_tree is)
       | inr custom ↦
-          let some = subst (λ (b : Bool). IsSome (read (config_for b) regexp)) kept custom.is_read in
-          expression_as_read some ∙ sym (first_as_read regexp tree is (expression_good ignore_case regexp strategy made) some text fine)
+          custom.answers text fine
+          ∙ sym (tree_first_as_read ignore_case regexp tree is (expression_good ignore_case regexp strategy made) custom.is_read text fine alike)
     ]
+
+-- If case is kept, a value returns the first match of what the grammar reads.
+pub kept_as_read : (ignore_case : Bool) (regexp : List ℕ) (strategy : Strategy) → IsExpressionOf ignore_case regexp strategy → (text : List ℕ) → ignore_case ≡ false → IsTrue (all_scalars text)
+    → IsSome (read default_config regexp) → expression_result ignore_case strategy text ≡ read_result false regexp text
+kept_as_read ignore_case regexp strategy made text kept fine some =
+    expression_as_read ignore_case regexp strategy made text (inl kept) fine (subst (λ (b : Bool). IsSome (read (config_for b) regexp)) (sym kept) some)
+    ∙ ap (λ b. read_result b regexp text) kept
 
 -- ---- values
 
 pub pattern_regexp_first : (regexp flags : List ℕ) (tree : Items) (value : PatternRegexp) (text : List ℕ) → ignores_case flags ≡ false → IsTreeOf regexp tree → IsPatternRegexpOf regexp flags value → IsTrue (all_scalars text)
     → pattern_result value text ≡ first_way tree text
 unfolding pattern_result
-pattern_regexp_first regexp flags tree value text keeps is made fine = expression_first value.ignore_case regexp value.strategy made.of_text text (made.by_flags ∙ keeps) fine tree is
+pattern_regexp_first regexp flags tree value text keeps is made fine =
+    expression_first value.ignore_case regexp value.strategy made.of_text text (inl (made.by_flags ∙ keeps)) fine tree is
+    ∙ ap (λ b. first_way_by b tree text) (made.by_flags ∙ keeps)
 
 -- If case is kept, a value returns the first match of the tree of its text, and follows the text.
 pub answers_first_of : (regexp flags : List ℕ) (value : PatternRegexp) → ignores_case flags ≡ false → IsPatternRegexpOf regexp flags value → ReturnsFirst regexp (pattern_result value)
@@ -153,7 +161,7 @@ pub pattern_regexp_same : ValuesReturnAlike pattern_engine regex_engine KeepsCas
 unfolding pattern_result
 pattern_regexp_same regexp flags value regex text keeps made also fine =
     let by_case = read_by_default regexp regex also in
-    expression_as_read value.ignore_case regexp value.strategy made.of_text text (made.by_flags ∙ keeps) fine (regex_some false regexp regex by_case)
+    kept_as_read value.ignore_case regexp value.strategy made.of_text text (made.by_flags ∙ keeps) fine (regex_some false regexp regex by_case)
     ∙ sym (regex_as_read false regexp regex by_case text fine)
 
 -- ---- what the grammar reads
@@ -166,7 +174,7 @@ pub pattern_values_read : ValuesReturnAsRead pattern_engine KeepsCase
 unfolding pattern_result
 pattern_values_read regexp flags value keeps made =
     if_some (read default_config regexp) _ (λ found e text fine.
-    expression_as_read value.ignore_case regexp value.strategy made.of_text text (made.by_flags ∙ keeps) fine (ap is_some e)
+    kept_as_read value.ignore_case regexp value.strategy made.of_text text (made.by_flags ∙ keeps) fine (ap is_some e)
     ∙ read_answer_is false regexp found e text)
 
 pub regex_values_read : ValuesReturnAsRead regex_engine (λ flags. ⊤)

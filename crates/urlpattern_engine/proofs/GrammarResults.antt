@@ -1,8 +1,8 @@
 -- The results of trees, of values of `regex`, and of the dialect are those of what the grammar
 -- reads.
-use Rattle.std.proofs.Common.{◌≡◌, ℕ, ◌+◌, ◌-◌, ◌*◌, List, map, length, Option, Some, None, IsSome, IsSomeAnd, is_some, option_map, true, Bool, false, true≢false, refl, sym, ap, subst, suc, arith, codes, ◌∙◌, ◌++◌}
+use Rattle.std.proofs.Common.{◌≡◌, ℕ, ◌+◌, ◌-◌, ◌*◌, List, map, length, Option, Some, None, IsSome, IsSomeAnd, is_some, option_map, true, Bool, false, true≢false, refl, sym, ap, subst, suc, arith, codes, ◌∙◌, ◌++◌, ◌⊎◌, inl, inr}
 use Rattle.std.specs.List.{range_with_len}
-use Rattle.std.specs.Prelude.{IsTrue, encode_utf8_all, option_and_then}
+use Rattle.std.specs.Prelude.{IsAscii, IsTrue, encode_utf8_all, option_and_then}
 use Rattle.std.specs.Str.{all_scalars, chars}
 use Rattle.std.proofs.lemmas.List.{length-replicate}
 use lib.Utf8.{scalars}
@@ -14,7 +14,7 @@ use Rattle.regex_hir.proofs.OptionLemmas.{value_of_IsSome}
 use Rattle.regex_syntax.specs.Brackets.{Nested}
 use Rattle.regex_syntax.specs.Captures.{SameCaptures}
 use Rattle.regex_syntax.specs.Grammar.{Names, read}
-use Rattle.regex_syntax.specs.Verdict.{default_config, Reads}
+use Rattle.regex_syntax.specs.Verdict.{Reads}
 use Rattle.regex_syntax.specs.declared.Config.{Config}
 use Rattle.regex_syntax.proofs.CapturesLemmas.{alike_of_same}
 use Rattle.regex.specs.Strings.{regex_names, regex_source}
@@ -28,7 +28,12 @@ use Rattle.urlpattern_engine.proofs.TreeSearch.{found_is_first}
 use Rattle.urlpattern_engine.proofs.TreesRead.{re_of, scalars_parts}
 use Rattle.urlpattern_meaning.specs.Dialect.{IsTreeOf, Items, group_count, items_text}
 use Rattle.urlpattern_meaning.specs.PartMeaning.{Captures}
-use Rattle.urlpattern_meaning.specs.Ways.{first_way}
+use Rattle.urlpattern_meaning.specs.Matching.{is_same_character}
+use Rattle.urlpattern_meaning.specs.Ways.{first_way_by, ways_as}
+use Rattle.urlpattern_meaning.proofs.WaysJoined.{first_of}
+use Rattle.urlpattern_engine.proofs.AsciiWays.{front_ascii, items_alike}
+use Rattle.urlpattern_engine.proofs.FoldedCharacters.{grammar_same-ascii}
+use Rattle.urlpattern_engine.proofs.AtomsRead.{grammar_same, same_if_kept}
 use Rattle.urlpattern_engine.specs.Automatons.{IsRegexReadAs, read_result}
 use Rattle.urlpattern_expressions.specs.Expressions.{config_for}
 use Rattle.urlpattern_engine.specs.GrammarReadings.{re_result}
@@ -95,23 +100,43 @@ pub read_answer_is : (ignore_case : Bool) (regexp : List ℕ) (found : Nested Re
     → read_result ignore_case regexp text ≡ re_result found.0.value (length found.1) text
 read_answer_is ignore_case regexp found e text = ap (option_and_then (λ (pattern, names). re_result pattern.value (length names) text)) e
 
--- The first match of a tree of the dialect is that of what is read in its text.
-pub first_as_read : (regexp : List ℕ) (tree : Items) → IsTreeOf regexp tree → scalars regexp ≡ true → IsSome (read default_config regexp)
-    → (text : List ℕ) → IsTrue (all_scalars text) → first_way tree text ≡ read_result false regexp text
-first_as_read regexp tree is all some text fine =
+-- The first match of a tree of the dialect, with the grammar's test of characters, is that of what
+-- is read in its text.
+pub first_as_read : (ignore_case : Bool) (regexp : List ℕ) (tree : Items) → IsTreeOf regexp tree → scalars regexp ≡ true → IsSome (read (config_for ignore_case) regexp)
+    → (text : List ℕ) → IsTrue (all_scalars text) → first_of (ways_as (grammar_same ignore_case) tree text) ≡ read_result ignore_case regexp text
+first_as_read ignore_case regexp tree is all some text fine =
     let whole : scalars (codes "^" ++ items_text tree ++ codes "$") ≡ true = ap scalars (sym is.0) ∙ all in
     let good : scalars (items_text tree) ≡ true = (scalars_parts (items_text tree) (codes "$") whole).0 in
-    let value = value_of_IsSome (read default_config regexp) some in
+    let config = config_for ignore_case in
+    let re = re_of ignore_case tree in
+    let value = value_of_IsSome (read config regexp) some in
     let found = value.0 in
-    let same = tree_reads tree is.1 good found (ap (read default_config) (sym is.0) ∙ value.1) in
+    let same = tree_reads ignore_case tree is.1 good found (ap (read config) (sym is.0) ∙ value.1) in
     let none : Option (List ℕ) = None in
     let count : length found.1 - 1 ≡ group_count tree =
     omega (arith, ap (λ (f : Nested Re × Names). length f.1) same.0, length-replicate (suc (group_count tree)) none) in
     sym
-    (answers_alike found.0.value (re_of tree) (alike_of_same same.1.matches) text fine (length found.1)
-    ∙ ap (λ n. option_map (λ m. group_texts (encode_utf8_all text) n (group_of m)) (find_str (re_of tree) (encode_utf8_all text) 0)) count
-    ∙ found_is_first tree is.1 text fine)
-    ∙ sym (read_answer_is false regexp found value.1 text)
+    (answers_alike found.0.value re (alike_of_same same.1.matches) text fine (length found.1)
+    ∙ ap (λ n. option_map (λ m. group_texts (encode_utf8_all text) n (group_of m)) (find_str re (encode_utf8_all text) 0)) count
+    ∙ found_is_first (grammar_same ignore_case) tree is.1 text fine)
+    ∙ sym (read_answer_is ignore_case regexp found value.1 text)
+
+-- The grammar's test of characters is that of trees: case is kept, or the expression and the text
+-- are ASCII.
+abbrev pub AreAlike : (ignore_case : Bool) (regexp text : List ℕ) → Type 0
+AreAlike ignore_case regexp text = (ignore_case ≡ false) ⊎ (IsAscii regexp × IsAscii text)
+
+-- The first match of a tree of the dialect is then that of what is read in its text.
+pub tree_first_as_read : (ignore_case : Bool) (regexp : List ℕ) (tree : Items) → IsTreeOf regexp tree → scalars regexp ≡ true → IsSome (read (config_for ignore_case) regexp)
+    → (text : List ℕ) → IsTrue (all_scalars text) → AreAlike ignore_case regexp text → first_way_by ignore_case tree text ≡ read_result ignore_case regexp text
+unfolding first_way_by
+tree_first_as_read false regexp tree is all some text fine (inl kept) =
+    ap (λ same. first_of (ways_as same tree text)) (sym same_if_kept) ∙ first_as_read false regexp tree is all some text fine
+tree_first_as_read true regexp tree is all some text fine (inl kept) = absurd (true≢false kept)
+tree_first_as_read ignore_case regexp tree is all some text fine (inr (spelled, ascii)) =
+    let inside : IsAscii (items_text tree) = front_ascii (items_text tree) (codes "$") (λ i. subst IsAscii is.0 spelled (suc i)) in
+    ap first_of (sym (items_alike (grammar_same ignore_case) (is_same_character ignore_case) (grammar_same-ascii ignore_case) tree inside text ascii).0)
+    ∙ first_as_read ignore_case regexp tree is all some text fine
 
 -- ---- values of the crate `regex`
 

@@ -6,12 +6,15 @@ pub mod EngineLaws
 pub mod AlikeLaws
 pub mod LargeLemmas
 pub mod RejectionLemmas
+pub mod WaysCounted
 pub mod WayResults
 pub mod GroupSlots
 pub mod LoopAttempts
 pub mod TreeAttempts
 pub mod TreeSearch
+pub mod AsciiWays
 pub mod AtomsRead
+pub mod FoldedCharacters
 pub mod ItemsRead
 pub mod TreeTextsRead
 pub mod TreesRead

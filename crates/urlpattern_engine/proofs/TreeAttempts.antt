@@ -7,11 +7,12 @@ use Rattle.regex_hir.proofs.Utf8Lemmas.{InScalarRange-of_IsScalar}
 use Rattle.regex_syntax.specs.Sets.{members}
 use Rattle.regex_syntax.proofs.SetLemmas.{in_ranges-members}
 use Rattle.urlpattern_meaning.specs.PartMeaning.{Captures}
-use Rattle.urlpattern_meaning.specs.Dialect.{character_of, Quantifier, Once, Optional, ZeroOrMore, OneOrMore, LazyOneOrMore, Items, Nothing, Item, Atom, Literal, Dot, AnyBut, Captured, Grouped, atom_group_count, AllowsGroups, AreItems, IsAtom, IsQuantified, Means, AtomMeans}
+use Rattle.urlpattern_meaning.specs.Dialect.{character_of, Quantifier, Once, Optional, ZeroOrMore, OneOrMore, LazyOneOrMore, Items, Nothing, Item, Atom, Literal, Dot, AnyBut, Captured, Grouped, group_count, atom_group_count, AllowsGroups, AreItems, IsAtom, IsQuantified}
 use Rattle.urlpattern_syntax.specs.Text.{line_feed}
-use Rattle.urlpattern_meaning.specs.Ways.{Way, WaysByText, empty_way, one_that, looped, quantified_ways, ways, atom_ways}
+use Rattle.urlpattern_meaning.specs.Ways.{Way, WaysByText, empty_way, one_that, looped, quantified_ways, ways_as, atom_ways_as}
 use Rattle.urlpattern_meaning.proofs.WayLists.{Every, every-weaker}
-use Rattle.urlpattern_meaning.proofs.WaysSound.{IsSound, AreSound, nil_of_zero, taken-count, atom-count, taken-sound, ways-sound, atom-sound}
+use Rattle.urlpattern_meaning.proofs.WaysSound.{IsSound, AreSound, nil_of_zero, taken-count, taken-sound}
+use Rattle.urlpattern_engine.proofs.WaysCounted.{HasCaptures, cuts_items, cuts_atom}
 use Rattle.urlpattern_engine.proofs.WayResults.{Writes, at, Gave, gave-append, gave-continued, gave-empty_way, gave-capturing}
 use Rattle.urlpattern_engine.proofs.LoopAttempts.{Suits, leaf, looped-suits}
 
@@ -22,19 +23,21 @@ re_taken ZeroOrMore a = alt (plus true a) empty
 re_taken OneOrMore a = plus true a
 re_taken LazyOneOrMore a = plus false a
 
-abbrev mutual
-  pub re_items : ℕ → Items → Re
-  re_items g Nothing = empty
-  re_items g (Item atom quantifier items) = cat (re_taken quantifier (re_atom g atom)) (re_items (g + atom_group_count atom) items)
+-- `same` says whether a character of the text matches one that is written.
+module _ (same : (c written : ℕ) → Bool) where
+  abbrev mutual
+    pub re_items : ℕ → Items → Re
+    re_items g Nothing = empty
+    re_items g (Item atom quantifier items) = cat (re_taken quantifier (re_atom g atom)) (re_items (g + atom_group_count atom) items)
 
-  pub re_atom : ℕ → Atom → Re
-  re_atom g (Literal character) = char_in (members (λ c. c == character_of character))
-  re_atom g Dot = char_in (members (λ c. not (c == line_feed)))
-  re_atom g (AnyBut character) = char_in (members (λ c. not (c == character_of character)))
-  re_atom g (Captured items) = group g (re_items (suc g) items)
-  re_atom g (Grouped items) = re_items g items
+    pub re_atom : ℕ → Atom → Re
+    re_atom g (Literal character) = char_in (members (λ c. same c (character_of character)))
+    re_atom g Dot = char_in (members (λ c. not (c == line_feed)))
+    re_atom g (AnyBut character) = char_in (members (λ c. not (same c (character_of character))))
+    re_atom g (Captured items) = group g (re_items (suc g) items)
+    re_atom g (Grouped items) = re_items g items
 
-module _ (Shown : ℕ → Captures → Writes → Type 0)
+module _ (same : (c written : ℕ) → Bool) (Shown : ℕ → Captures → Writes → Type 0)
     (shown-append : (g : ℕ) (c d : Captures) (own more : Writes) → Shown g c own → Shown (g + length c) d more → Shown g (c ++ d) (own ++ more))
     (shown-empty_way : (g n : ℕ) (text : List ℕ) → Shown g (empty_way n text).captures [])
     (whole : List ℕ) (good : scalars whole ≡ true)
@@ -82,28 +85,28 @@ module _ (Shown : ℕ → Captures → Writes → Type 0)
   mutual
     unfolding attempt
 
-    pub items-fit : (tree : Items) → AreItems tree → (g : ℕ) → Fits g (ways tree) (attempt hay (re_items g tree))
+    pub items-fit : (tree : Items) → AreItems tree → (g : ℕ) → Fits g (ways_as same tree) (attempt hay (re_items same g tree))
     items-fit Nothing h g before text e k = gave-empty_way Shown shown-append shown-empty_way g 0 before text k
     items-fit (Item atom quantifier items) h g before text e k =
         let groups = atom_group_count atom in
-        let Taken = IsQuantified quantifier groups (AtomMeans atom) in
-        let b : Rest = attempt hay (re_items (g + groups) items) k in
-        gave-continued Shown shown-append shown-empty_way g before k b (ways items) (quantified_ways quantifier groups (atom_ways atom) text)
-        (attempt hay (re_taken quantifier (re_atom g atom)) b (at before))
-        (every-weaker (IsSound text Taken) _ (quantified_ways quantifier groups (atom_ways atom) text)
-        (λ way p. subst (λ n. Shows (g + n) (before ++ way.taken) k (ways items way.rest) (b (at (before ++ way.taken))))
-        (sym (taken-count quantifier groups (AtomMeans atom) h.1 (atom-count atom h.0) way.taken way.captures p.1))
+        let Taken = IsQuantified quantifier groups (HasCaptures groups) in
+        let b : Rest = attempt hay (re_items same (g + groups) items) k in
+        gave-continued Shown shown-append shown-empty_way g before k b (ways_as same items) (quantified_ways quantifier groups (atom_ways_as same atom) text)
+        (attempt hay (re_taken quantifier (re_atom same g atom)) b (at before))
+        (every-weaker (IsSound text Taken) _ (quantified_ways quantifier groups (atom_ways_as same atom) text)
+        (λ way p. subst (λ n. Shows (g + n) (before ++ way.taken) k (ways_as same items way.rest) (b (at (before ++ way.taken))))
+        (sym (taken-count quantifier groups (HasCaptures groups) h.1 (λ t c p. p) way.taken way.captures p.1))
         (items-fit items h.2 (g + groups) (before ++ way.taken) way.rest (append_assoc before way.taken way.rest ∙ ap (λ t. before ++ t) (sym p.0) ∙ e) k))
-        (taken-sound quantifier groups (atom_ways atom) (AtomMeans atom) h.1 (atom-count atom h.0) (atom-sound atom h.0) text))
-        (taken-fits g quantifier groups (atom_ways atom) (re_atom g atom) (AtomMeans atom) h.1 (atom-sound atom h.0) (atom-count atom h.0) (atom-fits atom h.0 g) before text e b)
+        (taken-sound quantifier groups (atom_ways_as same atom) (HasCaptures groups) h.1 (λ t c p. p) (cuts_atom same atom h.0) text))
+        (taken-fits g quantifier groups (atom_ways_as same atom) (re_atom same g atom) (HasCaptures groups) h.1 (cuts_atom same atom h.0) (λ t c p. p) (atom-fits atom h.0 g) before text e b)
 
-    pub atom-fits : (atom : Atom) → IsAtom atom → (g : ℕ) → Fits g (atom_ways atom) (attempt hay (re_atom g atom))
-    atom-fits (Literal c) h g before text e k = character g (λ d. d == character_of c) before text e k
+    pub atom-fits : (atom : Atom) → IsAtom atom → (g : ℕ) → Fits g (atom_ways_as same atom) (attempt hay (re_atom same g atom))
+    atom-fits (Literal c) h g before text e k = character g (λ d. same d (character_of c)) before text e k
     atom-fits Dot h g before text e k = character g (λ d. not (d == line_feed)) before text e k
-    atom-fits (AnyBut c) h g before text e k = character g (λ d. not (d == character_of c)) before text e k
+    atom-fits (AnyBut c) h g before text e k = character g (λ d. not (same d (character_of c))) before text e k
     atom-fits (Captured items) h g before text e k =
-        gave-capturing Shown shown-append shown-empty_way g before (λ way. (before ++ way.taken) ++ way.rest ≡ whole) (shown-capturing g before) k (ways items text)
-        (attempt hay (re_items (suc g) items) (λ j. write (2 * g + 1) j (k j)) (at before))
-        (every-weaker (IsSound text (Means items)) _ (ways items text) (λ way p. append_assoc before way.taken way.rest ∙ ap (λ t. before ++ t) (sym p.0) ∙ e) (ways-sound items h text))
+        gave-capturing Shown shown-append shown-empty_way g before (λ way. (before ++ way.taken) ++ way.rest ≡ whole) (shown-capturing g before) k (ways_as same items text)
+        (attempt hay (re_items same (suc g) items) (λ j. write (2 * g + 1) j (k j)) (at before))
+        (every-weaker (IsSound text (HasCaptures (group_count items))) _ (ways_as same items text) (λ way p. append_assoc before way.taken way.rest ∙ ap (λ t. before ++ t) (sym p.0) ∙ e) (cuts_items same items h text))
         (items-fit items h (suc g) before text e (λ j. write (2 * g + 1) j (k j)))
     atom-fits (Grouped items) h g before text e k = items-fit items h g before text e k

@@ -1,5 +1,5 @@
 -- How deep the text of a tree is nested for the crate `regex`, and why it may be rejected.
-use Rattle.std.proofs.Common.{◌≡◌, ℕ, suc, ◌+◌, ◌^◌, ◌≤◌, ◌<◌, ◌⊎◌, max, List, [], ◌∷◌, ◌++◌, length, replicate, Some, None, refl, sym, ap, ◌∙◌, arith, codes, chars, nat_lt, if◌then◌else◌, true, inl, inr, ⊎_elim}
+use Rattle.std.proofs.Common.{◌≡◌, ℕ, suc, ◌+◌, ◌^◌, ◌≤◌, ◌<◌, ◌⊎◌, max, List, [], ◌∷◌, ◌++◌, length, replicate, Some, None, refl, sym, ap, ◌∙◌, arith, codes, chars, nat_lt, if◌then◌else◌, true, false, inl, inr, ⊎_elim}
 use Rattle.std.proofs.lemmas.Bool.{cond_both}
 use Rattle.std.proofs.lemmas.Option.{none-some}
 use Rattle.std.proofs.lemmas.Str.{chars-encodes}
@@ -46,20 +46,20 @@ one_at_most : {A : Type 0} (all : List A) → (if nat_lt 1 (length all) then 1 e
 one_at_most all = cond_both (nat_lt 1 (length all)) 1 0 (λ n. n ≤ 1) (λ _. omega arith) (λ _. omega arith)
 
 mutual
-  parts_depth : (tree : Items) (g : ℕ) → deepest (parts g tree) ≤ items_depth tree
+  parts_depth : (tree : Items) (g : ℕ) → deepest (parts false g tree) ≤ items_depth tree
   parts_depth Nothing g = omega arith
   parts_depth (Item a q tree) g =
-      omega (arith, repeated_depth q (part g a), part_depth a g, parts_depth tree (g + atom_group_count a))
+      omega (arith, repeated_depth q (part false g a), part_depth a g, parts_depth tree (g + atom_group_count a))
 
-  part_depth : (a : Atom) (g : ℕ) → (part g a).depth ≤ atom_depth a
+  part_depth : (a : Atom) (g : ℕ) → (part false g a).depth ≤ atom_depth a
   part_depth (Literal ch) g = omega arith
   part_depth Dot g = omega arith
   part_depth (AnyBut ch) g = omega arith
-  part_depth (Captured tree) g = omega (arith, one_at_most (parts (suc g) tree), parts_depth tree (suc g))
-  part_depth (Grouped tree) g = omega (arith, one_at_most (parts g tree), parts_depth tree g)
+  part_depth (Captured tree) g = omega (arith, one_at_most (parts false (suc g) tree), parts_depth tree (suc g))
+  part_depth (Grouped tree) g = omega (arith, one_at_most (parts false g tree), parts_depth tree g)
 
-pub whole_depth : (tree : Items) → (whole tree).depth ≤ items_depth tree + 1
-whole_depth tree = omega (arith, deepest_push (parts 1 tree) last_line, one_at_most ((first_line ∷ parts 1 tree) ++ last_line ∷ []), parts_depth tree 1)
+pub whole_depth : (tree : Items) → (whole false tree).depth ≤ items_depth tree + 1
+whole_depth tree = omega (arith, deepest_push (parts false 1 tree) last_line, one_at_most ((first_line ∷ parts false 1 tree) ++ last_line ∷ []), parts_depth tree 1)
 
 -- The text of a tree is rejected only if memory ran out, it has too many groups, or it is nested
 -- too deep.
@@ -71,12 +71,12 @@ refused_tree tree h good kind r =
     let source = codes "^" ++ items_text tree ++ codes "$" in
     ⊎_elim
     (λ (few : suc (group_count tree) ≤ 2 ^ 32).
-    let e : read default_config (chars (encodes source)) ≡ Some (whole tree, replicate (suc (group_count tree)) None) =
-    ap (read default_config) (chars-encodes source (scalars-append (items_text tree) (codes "$") good refl)) ∙ tree_is_read tree h good few in
+    let e : read default_config (chars (encodes source)) ≡ Some (whole false tree, replicate (suc (group_count tree)) None) =
+    ap (read default_config) (chars-encodes source (scalars-append (items_text tree) (codes "$") good refl)) ∙ tree_is_read false tree h good few in
     elim r [
       | inl memory ↦ inl memory
       | inr (inl none) ↦ absurd (none-some _ (sym none ∙ e))
-      | inr (inr deep) ↦ let over : 250 < (whole tree).depth = rw e at deep.1 in inr (inr (omega (arith, whole_depth tree)))
+      | inr (inr deep) ↦ let over : 250 < (whole false tree).depth = rw e at deep.1 in inr (inr (omega (arith, whole_depth tree)))
     ])
     (λ (large : 2 ^ 32 < suc (group_count tree)). inr (inl large))
     (within (suc (group_count tree)) (2 ^ 32))

@@ -1,5 +1,5 @@
 -- A search for the pattern of a tree, between `^` and `$`, has the captures of the first match.
-use Rattle.std.proofs.Common.{◌≡◌, ℕ, zero, suc, ◌+◌, ◌*◌, ◌≤◌, ◌<◌, List, [], ◌∷◌, ◌++◌, map, find, length, Option, Some, None, option_map, true, false, cond, if◌then◌else◌, ◌==◌, refl, sym, ap, ap₂, ◌∙◌, subst, append-nil, length-append, inl, inr, arith, ne_eqb}
+use Rattle.std.proofs.Common.{◌≡◌, ℕ, Bool, zero, suc, ◌+◌, ◌*◌, ◌≤◌, ◌<◌, List, [], ◌∷◌, ◌++◌, map, find, length, Option, Some, None, option_map, true, false, cond, if◌then◌else◌, ◌==◌, refl, sym, ap, ap₂, ◌∙◌, subst, append-nil, length-append, inl, inr, arith, ne_eqb}
 use Rattle.std.proofs.lemmas.Bool.{cond-true, cond-false, cond_both}
 use Rattle.std.proofs.lemmas.Option.{none-some, same_Some, slice_get_past, slice_get-get_or}
 use Rattle.std.proofs.lemmas.Str.{encodes-append, length-le-encodes, IsCharBoundary-start}
@@ -17,11 +17,12 @@ use Rattle.regex_hir.proofs.OptionLemmas.{option_or-None}
 use Rattle.regex_hir.proofs.TextLemmas.{byte_before-zero, byte_before-add-one}
 use Rattle.regex.specs.Writes.{both, group_of}
 use Rattle.urlpattern_meaning.specs.PartMeaning.{Captures}
-use Rattle.urlpattern_meaning.specs.Dialect.{Items, group_count, AreItems, Means}
-use Rattle.urlpattern_meaning.specs.Ways.{Way, ways, first_way, first_way_by}
+use Rattle.urlpattern_meaning.specs.Dialect.{Items, group_count, AreItems}
+use Rattle.urlpattern_meaning.specs.Ways.{Way, ways_as}
 use Rattle.urlpattern_meaning.proofs.WayLists.{Every}
 use Rattle.urlpattern_meaning.proofs.WaysJoined.{first_of, takes_all}
-use Rattle.urlpattern_meaning.proofs.WaysSound.{IsSound, ways-sound, means-count}
+use Rattle.urlpattern_meaning.proofs.WaysSound.{IsSound}
+use Rattle.urlpattern_engine.proofs.WaysCounted.{HasCaptures, cuts_items}
 use Rattle.urlpattern_engine.proofs.WayResults.{at, Gave}
 use Rattle.urlpattern_engine.proofs.GroupSlots.{Shown, Spans, text_at, shown-append, shown-empty_way, shown-capturing}
 use Rattle.urlpattern_engine.proofs.TreeAttempts.{re_items, items-fit}
@@ -124,16 +125,16 @@ found_at_start hay count at_place (Some t) e later = ap (option_map (λ m. texts
 
 -- ---- the pattern of a tree
 
-module _ (tree : Items) (h : AreItems tree) (text : List ℕ) (good : scalars text ≡ true) where
+module _ (same : (c written : ℕ) → Bool) (tree : Items) (h : AreItems tree) (text : List ℕ) (good : scalars text ≡ true) where
   abbrev hay : List ℕ
   hay = encodes text
 
   abbrev pattern : Re
-  pattern = cat (look Start) (cat (re_items 1 tree) (look End))
+  pattern = cat (look Start) (cat (re_items same 1 tree) (look End))
 
   -- The result for the items and the anchor at the end.
   abbrev inside_lines : Option Trace
-  inside_lines = attempt hay (re_items 1 tree) (to_end hay) 0
+  inside_lines = attempt hay (re_items same 1 tree) (to_end hay) 0
 
   abbrev at_place : Rest
   at_place i = if is_boundary hay i then attempt hay pattern accept i else None
@@ -147,9 +148,9 @@ module _ (tree : Items) (h : AreItems tree) (text : List ℕ) (good : scalars te
   later_on i p le = cond_both (is_boundary hay i) _ None (λ (o : Option Trace). o ≡ None) (λ _. cond-false (holds Start hay i) _ None (not_start hay i p le)) (λ _. refl)
 
   -- The groups of the result are the captures of the first match.
-  pub found_is_first : option_map (λ m. texts_from hay m 1 (group_count tree)) (find_str pattern hay 0) ≡ first_way tree text
-  unfolding first_way_by find_str
+  pub found_is_first : option_map (λ m. texts_from hay m 1 (group_count tree)) (find_str pattern hay 0) ≡ first_of (ways_as same tree text)
+  unfolding find_str
   found_is_first =
       found_at_start hay (group_count tree) at_place inside_lines at_start later_on
-      ∙ first_shown text (Means tree) (group_count tree) (means-count tree h) (ways tree text) inside_lines (ways-sound tree h text)
-      (items-fit (Shown hay) (shown-append hay) (shown-empty_way hay) text good (shown-capturing text good) tree h 1 [] text refl (to_end hay))
+      ∙ first_shown text (HasCaptures (group_count tree)) (group_count tree) (λ t c p. p) (ways_as same tree text) inside_lines (cuts_items same tree h text)
+      (items-fit same (Shown hay) (shown-append hay) (shown-empty_way hay) text good (shown-capturing text good) tree h 1 [] text refl (to_end hay))

@@ -23,9 +23,10 @@ use regex_compile::compile;
 use regex_extract::is_anchored_start;
 use regex_hir::Hir;
 use regex_nfa::Nfa;
-use regex_syntax::{Config, ErrorKind, Parsed};
+use regex_syntax::{ErrorKind, Parsed};
 use regex_vm::{Backtracker, Declined, PikeVm};
 use std::alloc::Global;
+use urlpattern_expressions::config_for;
 use urlpattern_matcher::regexp::RegExp;
 use urlpattern_syntax::error::{OutOfMemory, RegExpError};
 
@@ -199,15 +200,6 @@ pub(crate) fn read_expression(
             _ => RegExpError::Pattern,
         }),
     }
-}
-
-/// The default options of `regex_syntax`, except that case may be ignored.
-fn config_for(ignore_case: bool) -> Config
-    ensures { result ≡ config_for ignore_case }
-{
-    let mut config = Config::default();
-    config.flags.case_insensitive = ignore_case;
-    config
 }
 
 /// Compiles an expression to a `regex::Regex` with the default options, except that case may be

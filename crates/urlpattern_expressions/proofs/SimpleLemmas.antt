@@ -1,11 +1,12 @@
 -- Whether an expression is simple follows from its signs and from what the grammar reads.
-use Rattle.std.proofs.Common.{◌≡◌, ◌≢◌, ℕ, ◌<◌, ◌≤◌, Bool, true, false, ◌&&◌, ◌||◌, not, nat_le, List, [], ◌∷◌, ◌↔◌, length, ◌∙◌, drop, get_or, ◌+◌, ap, subst, Option, Some, None, inl, inr, refl, sym, arith, true≢false}
+use Rattle.std.proofs.Common.{◌≡◌, ◌≢◌, ◌⊎◌, ℕ, ◌<◌, ◌≤◌, Bool, true, false, ◌&&◌, ◌||◌, nat_le, All, List, [], ◌∷◌, ◌↔◌, length, ◌∙◌, drop, get_or, ◌+◌, ap, subst, Option, Some, None, Result, Ok, Err, inl, inr, refl, sym, arith, true≢false}
 use Rattle.std.proofs.lemmas.Bool.Decides.{nat_tests}
 use Rattle.std.proofs.lemmas.List.{at_drop_more}
 use Rattle.std.proofs.lemmas.List.Elements.{All-cons, All-head, All-nil, All-tail, All-weaker}
+use Rattle.std.proofs.lemmas.Str.{chars-IsAscii, encodes-chars, encodes-IsAscii}
 use Rattle.std.specs.List.{list_any}
-use Rattle.std.specs.Prelude.{IfSome, IsSomeAnd, IsTrue}
-use Rattle.std.specs.Str.{chars}
+use Rattle.std.specs.Prelude.{IfOk, IfSome, IsSomeAnd, IsTrue, MatchBool}
+use Rattle.std.specs.Str.{chars, IsAscii, IsNotAscii, IsUtf8}
 use Rattle.regex_hir.specs.Meaning.{meaning}
 use Rattle.regex_hir.specs.Re.{Re}
 use Rattle.regex_hir.specs.Text.{is_some_and}
@@ -13,10 +14,11 @@ use Rattle.regex_hir.specs.declared.hir.Hir.{Hir}
 use Rattle.regex_syntax.specs.Brackets.{Nested}
 use Rattle.regex_syntax.specs.Captures.{SameCaptures}
 use Rattle.regex_syntax.specs.Grammar.{Names, group_count, read}
-use Rattle.regex_syntax.specs.Verdict.{Reads, Refuses, default_config}
+use Rattle.regex_syntax.specs.Verdict.{Reads, Refuses}
 use Rattle.regex_syntax.specs.declared.error.ErrorKind.{ErrorKind}
 use Rattle.regex_syntax.specs.declared.error.ErrorKind.TheVariants.{OutOfMemory}
-use Rattle.urlpattern_expressions.specs.SimpleExpressions.{AreSimple, HasSimpleExpression, HaveMeaningByCase, has_simple_signs, is_custom_kind, is_custom_part, is_simple}
+use Rattle.urlpattern_expressions.specs.Expressions.{config_for}
+use Rattle.urlpattern_expressions.specs.SimpleExpressions.{AreOfAscii, AreSimple, AreSimpleBy, HasSimpleExpressionBy, HaveMeaningByCase, has_simple_signs, is_custom_kind, is_custom_part, is_simple_by}
 use Rattle.urlpattern_meaning.specs.PartMeaning.{AreGenerated}
 use Rattle.urlpattern_syntax.specs.declared.parser.PartType.{PartType}
 use Rattle.urlpattern_syntax.specs.Options.{OptionsView}
@@ -24,9 +26,9 @@ use Rattle.urlpattern_syntax.specs.Parts.{PartView, part_view, parts_view}
 use Rattle.urlpattern_syntax.specs.declared.parser.Part.{Part}
 use Rattle.urlpattern_syntax.specs.Text.{line_feed}
 
-pub signs_missing : (expression : List ℕ) → has_simple_signs line_feed expression ≡ false → false ≡ is_simple expression
-unfolding is_simple
-signs_missing expression h = rw h refl
+pub signs_missing : (ignore_case : Bool) (expression : List ℕ) → has_simple_signs line_feed expression ≡ false → false ≡ is_simple_by ignore_case expression
+unfolding is_simple_by
+signs_missing ignore_case expression h = rw h refl
 
 -- Whether what was read nests no deeper than the limit.
 shallow : Option (Nested Re × Names) → Bool
@@ -44,27 +46,28 @@ deep_read None h = refl
 deep_read (Some (pattern, names)) h = let lt : 250 < pattern.depth = h in grind (arith, nat_tests)
 
 -- An expression that `parse` reads is simple if its signs are.
-pub simple_read : (text : List ℕ) (hir : Hir) (names : Names) → has_simple_signs line_feed (chars text) ≡ true → Reads default_config text hir names → true ≡ is_simple (chars text)
-unfolding is_simple Reads shallow
-simple_read text hir names signs reads =
+pub simple_read : (ignore_case : Bool) (text : List ℕ) (hir : Hir) (names : Names) → has_simple_signs line_feed (chars text) ≡ true → Reads (config_for ignore_case) text hir names
+    → true ≡ is_simple_by ignore_case (chars text)
+unfolding is_simple_by Reads shallow
+simple_read ignore_case text hir names signs reads =
     rw (
       signs,
-      shallow_read (read default_config (chars text))
+      shallow_read (read (config_for ignore_case) (chars text))
           (λ pattern found. (pattern.depth ≤ 250) × SameCaptures (meaning hir) pattern.value × (names ≡ found) × (group_count (meaning hir) ≤ length names))
           (λ pattern found is. is.0) reads,
     ) refl
 
 -- An expression that `parse` refuses is not simple, unless memory ran out.
-pub not_simple : (text : List ℕ) (kind : ErrorKind) → ¬ (kind ≡ OutOfMemory) → Refuses default_config text kind → false ≡ is_simple (chars text)
-unfolding is_simple Refuses shallow
-not_simple text kind other refuses = by (has_simple_signs line_feed (chars text)) (refused refuses)
+pub not_simple : (ignore_case : Bool) (text : List ℕ) (kind : ErrorKind) → ¬ (kind ≡ OutOfMemory) → Refuses (config_for ignore_case) text kind → false ≡ is_simple_by ignore_case (chars text)
+unfolding is_simple_by Refuses shallow
+not_simple ignore_case text kind other refuses = by (has_simple_signs line_feed (chars text)) (refused refuses)
   where
-    refused : Refuses default_config text kind → shallow (read default_config (chars text)) ≡ false
+    refused : Refuses (config_for ignore_case) text kind → shallow (read (config_for ignore_case) (chars text)) ≡ false
     refused (inl memory) = absurd (other memory)
     refused (inr (inl none)) = ap shallow none
-    refused (inr (inr (nests, deep))) = deep_read (read default_config (chars text)) deep
+    refused (inr (inr (nests, deep))) = deep_read (read (config_for ignore_case) (chars text)) deep
 
-    by : (signs : Bool) → shallow (read default_config (chars text)) ≡ false → false ≡ signs && shallow (read default_config (chars text))
+    by : (signs : Bool) → shallow (read (config_for ignore_case) (chars text)) ≡ false → false ≡ signs && shallow (read (config_for ignore_case) (chars text))
     by true h = sym h
     by false h = refl
 
@@ -73,16 +76,19 @@ not_simple text kind other refuses = by (has_simple_signs line_feed (chars text)
 abbrev IsNoCustom : PartView → Type 0
 IsNoCustom part = part.kind ≢ PartType.Regexp
 
-simple_kind : (kind : PartType) (value : List ℕ) → kind ≢ PartType.Regexp → HasSimpleExpression kind value
-simple_kind PartType.FixedText value other = tt
-simple_kind PartType.Regexp value other = absurd (other refl)
-simple_kind PartType.SegmentWildcard value other = tt
-simple_kind PartType.FullWildcard value other = tt
+simple_kind : (ignore_case : Bool) (kind : PartType) (value : List ℕ) → kind ≢ PartType.Regexp → HasSimpleExpressionBy ignore_case kind value
+simple_kind ignore_case PartType.FixedText value other = tt
+simple_kind ignore_case PartType.Regexp value other = absurd (other refl)
+simple_kind ignore_case PartType.SegmentWildcard value other = tt
+simple_kind ignore_case PartType.FullWildcard value other = tt
+
+generated_simple_by : (ignore_case : Bool) (parts : List PartView) → AreGenerated parts → AreSimpleBy ignore_case parts
+generated_simple_by ignore_case parts generated =
+    All-weaker IsNoCustom (λ part. HasSimpleExpressionBy ignore_case part.kind part.value) (λ part other. simple_kind ignore_case part.kind part.value other) parts generated
 
 -- Parts without a custom one are simple.
 pub generated_simple : (parts : List PartView) → AreGenerated parts → AreSimple parts
-generated_simple parts generated =
-    All-weaker (λ part. part.kind ≢ PartType.Regexp) (λ part. HasSimpleExpression part.kind part.value) (λ part other. simple_kind part.kind part.value other) parts generated
+generated_simple = generated_simple_by false
 
 -- ---- custom parts
 
@@ -113,19 +119,42 @@ some_custom (part ∷ parts) some are = some_by part parts (is_custom_part part)
 
 -- ---- where case is ignored
 
--- Where case is ignored, parts have a meaning exactly if none is custom.
-pub ignored_meaning : (options : OptionsView) (parts : List Part) (custom : Bool) → options.ignore_case ≡ true → custom ≡ list_any is_custom_part parts → IsTrue (not custom) ↔ HaveMeaningByCase options (parts_view parts)
-ignored_meaning options parts true ignored is = (
-  λ never. absurd (true≢false (sym never)),
-  λ have. absurd (elim have.by_case [ inl kept ↦ true≢false (sym ignored ∙ kept) | inr generated ↦ some_custom parts (sym is) generated ]),
-)
-ignored_meaning options parts false ignored is =
-    let generated = none_custom parts (sym is) in
-    (λ is. record { simple = generated_simple (parts_view parts) generated; by_case = inr generated }, λ have. refl)
+-- Parts have a meaning exactly if they are simple, if case is kept, none is custom or all texts are
+-- ASCII.
+pub simple_meaning : (options : OptionsView) (parts : List Part) → (options.ignore_case ≡ false) ⊎ ((list_any is_custom_part parts ≡ false) ⊎ AreOfAscii options (parts_view parts))
+    → AreSimpleBy options.ignore_case (parts_view parts) ↔ HaveMeaningByCase options (parts_view parts)
+simple_meaning options parts (inl kept) = (λ simple. record { simple = simple; by_case = inl kept }, λ have. have.simple)
+simple_meaning options parts (inr (inl none)) = (λ simple. record { simple = simple; by_case = inr (inl (none_custom parts none)) }, λ have. have.simple)
+simple_meaning options parts (inr (inr ascii)) = (λ simple. record { simple = simple; by_case = inr (inr ascii) }, λ have. have.simple)
 
--- Where case is kept, parts have a meaning exactly if they are simple.
-pub kept_meaning : (options : OptionsView) (parts : List PartView) → options.ignore_case ≡ false → AreSimple parts ↔ HaveMeaningByCase options parts
-kept_meaning options parts kept = (λ simple. record { simple = simple; by_case = inl kept }, λ have. have.simple)
+-- Where case is ignored, parts with a custom one have no meaning unless all texts are ASCII.
+pub no_meaning : (options : OptionsView) (parts : List Part) → options.ignore_case ≡ true → list_any is_custom_part parts ≡ true → ¬ AreOfAscii options (parts_view parts)
+    → IsTrue false ↔ HaveMeaningByCase options (parts_view parts)
+no_meaning options parts ignored some other = (λ never. absurd (true≢false (sym never)), λ have. absurd (refuted have.by_case))
+  where
+    refuted : (options.ignore_case ≡ false) ⊎ (AreGenerated (parts_view parts) ⊎ AreOfAscii options (parts_view parts)) → ⊥
+    refuted (inl kept) = true≢false (sym ignored ∙ kept)
+    refuted (inr (inl generated)) = some_custom parts some generated
+    refuted (inr (inr ascii)) = other ascii
+
+-- A result that decides a premise decides what is equivalent to it.
+pub decides_same : {X : Type 0} (result : Result Bool X) (P Q : Type 0) → P ↔ Q → IfOk result (λ b. IsTrue b ↔ P) → IfOk result (λ b. IsTrue b ↔ Q)
+decides_same (Ok b) P Q same h = (λ is. same.0 (h.0 is), λ other. h.1 (same.1 other))
+decides_same (Err error) P Q same h = tt
+
+-- ---- texts of ASCII
+
+-- A text is ASCII exactly if its bytes are.
+pub ascii_text : (bytes : List ℕ) → IsUtf8 bytes → (ascii : Bool) → MatchBool ascii (IsAscii bytes) (IsNotAscii bytes) → IsTrue ascii ↔ IsAscii (chars bytes)
+ascii_text bytes text true is = (λ same. subst IsAscii (sym (chars-IsAscii bytes is)) is, λ low. refl)
+ascii_text bytes text false (i, high) = (
+  λ never. absurd (true≢false (sym never)),
+  λ low.
+      let same : chars bytes ≡ bytes = sym (encodes-IsAscii (chars bytes) low) ∙ encodes-chars bytes text in
+      let here = subst IsAscii same low i in
+      let never : ⊥ = omega (arith, high, here) in
+      absurd never,
+)
 
 -- ---- the parts that are left
 
@@ -134,20 +163,17 @@ pub next_part : (parts : List Part) (index : ℕ) (part : Part) → index < leng
     → parts_view (drop index parts) ≡ part_view part ∷ parts_view (drop (index + 1) parts)
 next_part parts index part within is = at_drop_more parts_view parts index part within ∙ ap (λ p. part_view p ∷ parts_view (drop (index + 1) parts)) (sym is)
 
-abbrev IsSimplePart : PartView → Type 0
-IsSimplePart part = HasSimpleExpression part.kind part.value
-
-module _ (part : PartView) (parts all : List PartView) (next : List PartView) (cut : next ≡ part ∷ parts) (decides : AreSimple next ↔ AreSimple all) where
-  -- A simple part leaves the decision to those after it.
-  pub goes_on : IsSimplePart part → AreSimple parts ↔ AreSimple all
-  goes_on simple = (
-    λ rest. decides.0 (subst AreSimple (sym cut) (All-cons IsSimplePart part parts simple rest)),
-    λ every. All-tail IsSimplePart part parts (subst AreSimple cut (decides.1 every)),
+module _ (Is : PartView → Type 0) (part : PartView) (parts all : List PartView) (next : List PartView) (cut : next ≡ part ∷ parts) (decides : All Is next ↔ All Is all) where
+  -- A part that meets the condition leaves the decision to those after it.
+  pub goes_on : Is part → All Is parts ↔ All Is all
+  goes_on is = (
+    λ rest. decides.0 (subst (All Is) (sym cut) (All-cons Is part parts is rest)),
+    λ every. All-tail Is part parts (subst (All Is) cut (decides.1 every)),
   )
 
-  -- A part that is not simple decides.
-  pub ends : ¬ IsSimplePart part → ¬ AreSimple all
-  ends other every = other (All-head IsSimplePart part parts (subst AreSimple cut (decides.1 every)))
+  -- A part that does not meet it decides.
+  pub ends : ¬ Is part → ¬ All Is all
+  ends other every = other (All-head Is part parts (subst (All Is) cut (decides.1 every)))
 
 pub no_longer : (b : Bool) → b ≡ false → IsTrue b → ⊥
 no_longer true e h = absurd (true≢false e)

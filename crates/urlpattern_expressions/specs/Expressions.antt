@@ -59,13 +59,17 @@ matches_characters (plus greedy inner) = matches_characters inner
 abbrev pub comment_sign : ℕ
 comment_sign = 0x23
 
--- Whether the expression stands alone: the grammar reads it as steps that match characters, and it
--- has no `#`, after which the text that follows could be a comment.
-unfoldable pub is_self_contained : (expression : List ℕ) → Bool
-is_self_contained expression =
+-- Whether the expression stands alone where case is ignored or kept: the grammar reads it as steps
+-- that match characters, and it has no `#`, after which the text that follows could be a comment.
+unfoldable pub is_self_contained_by : (ignore_case : Bool) → (expression : List ℕ) → Bool
+is_self_contained_by ignore_case expression =
     lacks comment_sign expression
-    && is_some_and (read default_config expression) (λ (pattern, names). matches_characters
-    pattern.value)
+    && is_some_and (read (config_for ignore_case) expression) (λ
+    (pattern, names). matches_characters pattern.value)
+
+-- Whether the expression stands alone where case is kept.
+abbrev pub is_self_contained : (expression : List ℕ) → Bool
+is_self_contained = is_self_contained_by false
 
 -- ---- expressions that capture nothing
 
@@ -77,11 +81,15 @@ is_groupless (group number inner) = false
 is_groupless (plus greedy inner) = is_groupless inner
 is_groupless pattern = true
 
--- Whether the grammar reads the expression without a group that captures. A group that is repeated
--- zero times is not in the pattern, but has a number too.
-unfoldable pub captures_nothing : (expression : List ℕ) → Bool
-captures_nothing expression =
+-- Whether the grammar reads the expression, where case is ignored or kept, without a group that
+-- captures. A group that is repeated zero times is not in the pattern, but has a number too.
+unfoldable pub captures_nothing_by : (ignore_case : Bool) → (expression : List ℕ) → Bool
+captures_nothing_by ignore_case expression =
     is_some_and (branches (2 * length expression + 2)
-    (record { config = default_config; names = None ∷ []; text = expression })) (λ
+    (record { config = config_for ignore_case; names = None ∷ []; text = expression })) (λ
     (patterns, end).
     (length end.names == 1) && is_groupless (join alt_all patterns).value)
+
+-- Whether the grammar reads the expression, where case is kept, without a group that captures.
+abbrev pub captures_nothing : (expression : List ℕ) → Bool
+captures_nothing = captures_nothing_by false

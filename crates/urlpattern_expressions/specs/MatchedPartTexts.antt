@@ -1,6 +1,6 @@
 -- The texts that parts match, custom parts included, whatever they capture.
-use Rattle.std.specs.Prelude.{◌≡◌, All, ℕ, List, [], ◌∷◌, ◌++◌, IsTrue}
-use Rattle.urlpattern_expressions.specs.Expressions.{ExpressionMatches, captures_nothing, is_self_contained}
+use Rattle.std.specs.Prelude.{◌≡◌, All, ℕ, Bool, false, List, [], ◌∷◌, ◌++◌, IsTrue}
+use Rattle.urlpattern_expressions.specs.Expressions.{ExpressionMatches, captures_nothing_by, is_self_contained_by}
 use Rattle.urlpattern_meaning.specs.PartMeaning.{Allows, IsWildcardText}
 use Rattle.urlpattern_syntax.specs.{Options.OptionsView, Parts.PartView}
 use Rattle.urlpattern_syntax.specs.declared.parser.PartType.{PartType}
@@ -34,21 +34,41 @@ PartsMatch options (part ∷ parts) text =
     × PartMatches options part first
     × PartsMatch options parts rest
 
--- The expression of a custom part stands alone: it means the same inside the regular expression of
--- the parts as by itself. Parts of other kinds meet this.
+-- The expression of a custom part stands alone, where case is ignored or kept: it means the same
+-- inside the regular expression of the parts as by itself. Parts of other kinds meet this.
+abbrev pub IsSelfContainedBy : (ignore_case : Bool) → PartType → (value : List ℕ) → Type 0
+IsSelfContainedBy ignore_case PartType.Regexp value =
+    IsTrue (is_self_contained_by ignore_case value)
+IsSelfContainedBy ignore_case kind value = Unit {0}
+
+-- The expression of a custom part stands alone, where case is kept.
 abbrev pub IsSelfContained : PartType → (value : List ℕ) → Type 0
-IsSelfContained PartType.Regexp value = IsTrue (is_self_contained value)
-IsSelfContained kind value = Unit {0}
+IsSelfContained = IsSelfContainedBy false
 
--- The expressions of all custom parts stand alone.
+-- The expressions of all custom parts stand alone, where case is ignored or kept.
+abbrev pub AllStandAloneBy : (ignore_case : Bool) → List PartView → Type 0
+AllStandAloneBy ignore_case parts =
+    All (λ part. IsSelfContainedBy ignore_case part.kind part.value) parts
+
+-- The expressions of all custom parts stand alone, where case is kept.
 abbrev pub AllStandAlone : List PartView → Type 0
-AllStandAlone parts = All (λ part. IsSelfContained part.kind part.value) parts
+AllStandAlone = AllStandAloneBy false
 
--- The expression of a custom part has no group that captures. Parts of other kinds meet this.
+-- The expression of a custom part, where case is ignored or kept, has no group that captures. Parts
+-- of other kinds meet this.
+abbrev pub CapturesNothingBy : (ignore_case : Bool) → PartType → (value : List ℕ) → Type 0
+CapturesNothingBy ignore_case PartType.Regexp value = IsTrue (captures_nothing_by ignore_case value)
+CapturesNothingBy ignore_case kind value = Unit {0}
+
+-- The expression of a custom part, where case is kept, has no group that captures.
 abbrev pub CapturesNothing : PartType → (value : List ℕ) → Type 0
-CapturesNothing PartType.Regexp value = IsTrue (captures_nothing value)
-CapturesNothing kind value = Unit {0}
+CapturesNothing = CapturesNothingBy false
 
--- The expressions of all custom parts have no group that captures.
+-- The expressions of all custom parts, where case is ignored or kept, have no group that captures.
+abbrev pub AllCaptureNothingBy : (ignore_case : Bool) → List PartView → Type 0
+AllCaptureNothingBy ignore_case parts =
+    All (λ part. CapturesNothingBy ignore_case part.kind part.value) parts
+
+-- The expressions of all custom parts have no group that captures, where case is kept.
 abbrev pub AllCaptureNothing : List PartView → Type 0
-AllCaptureNothing parts = All (λ part. CapturesNothing part.kind part.value) parts
+AllCaptureNothing = AllCaptureNothingBy false

@@ -1,10 +1,10 @@
 -- Simple custom expressions: what they match does not depend on the text around them, and they have
 -- no groups that capture. Whether an expression is simple is decided at run time.
-use Rattle.std.specs.Prelude.{◌≡◌, ◌⊎◌, ℕ, Bool, true, false, not, ◌&&◌, nat_le, All, List, [], ◌∷◌, codes, IsTrue, if◌then◌else◌}
+use Rattle.std.specs.Prelude.{◌≡◌, ◌⊎◌, ℕ, Bool, true, false, not, ◌&&◌, nat_le, All, List, [], ◌∷◌, codes, IfSome, IsAscii, IsTrue, if◌then◌else◌}
 use Rattle.std.specs.Char.{is_ascii}
 use Rattle.regex_hir.specs.Text.{is_some_and}
 use Rattle.regex_syntax.specs.Grammar.{read}
-use Rattle.regex_syntax.specs.Verdict.{default_config}
+use Rattle.urlpattern_expressions.specs.Expressions.{config_for}
 use Rattle.urlpattern_meaning.specs.PartMeaning.{AreGenerated}
 use Rattle.urlpattern_syntax.specs.{ComponentParts.kept_options, ComponentParts.kept_parts, Options.OptionsView, Parts.PartView}
 use Rattle.urlpattern_syntax.specs.declared.parser.Part.{Part}
@@ -40,14 +40,18 @@ abbrev pub has_simple_signs : (before : ℕ) → List ℕ → Bool
 has_simple_signs before [] = true
 has_simple_signs before (c ∷ rest) = may_follow before c rest && has_simple_signs c rest
 
--- Whether the expression is simple: the grammar of `regex` reads it, nested no deeper than its
--- limit, and it has no assertion, no flag and no group that captures. A line feed before the text
--- stands for no sign.
-unfoldable pub is_simple : (expression : List ℕ) → Bool
-is_simple expression =
+-- Whether the expression is simple where case is ignored or kept: the grammar of `regex` reads it,
+-- nested no deeper than its limit, and it has no assertion, no flag and no group that captures. A
+-- line feed before the text stands for no sign.
+unfoldable pub is_simple_by : (ignore_case : Bool) → (expression : List ℕ) → Bool
+is_simple_by ignore_case expression =
     has_simple_signs (line_feed) expression
-    && is_some_and (read default_config expression) (λ (pattern, names).
-    nat_le pattern.depth default_config.nest_limit)
+    && is_some_and (read (config_for ignore_case) expression) (λ (pattern, names).
+    nat_le pattern.depth (config_for ignore_case).nest_limit)
+
+-- Whether the expression is simple where case is kept.
+abbrev pub is_simple : (expression : List ℕ) → Bool
+is_simple = is_simple_by false
 
 -- ---- parts
 
@@ -60,25 +64,48 @@ is_custom_kind kind = false
 abbrev pub is_custom_part : Part → Bool
 is_custom_part part = is_custom_kind part.kind
 
--- The expression of a custom part is simple. Parts of other kinds meet this.
-abbrev pub HasSimpleExpression : PartType → (value : List ℕ) → Type 0
-HasSimpleExpression PartType.Regexp value = IsTrue (is_simple value)
-HasSimpleExpression kind value = Unit {0}
+-- The expression of a custom part is simple, where case is ignored or kept. Parts of other kinds
+-- meet this.
+abbrev pub HasSimpleExpressionBy : (ignore_case : Bool) → PartType → (value : List ℕ) → Type 0
+HasSimpleExpressionBy ignore_case PartType.Regexp value = IsTrue (is_simple_by ignore_case value)
+HasSimpleExpressionBy ignore_case kind value = Unit {0}
 
--- The expressions of all custom parts are simple.
+-- The expression of a custom part is simple, where case is kept.
+abbrev pub HasSimpleExpression : PartType → (value : List ℕ) → Type 0
+HasSimpleExpression = HasSimpleExpressionBy false
+
+-- The expressions of all custom parts are simple, where case is ignored or kept.
+abbrev pub AreSimpleBy : (ignore_case : Bool) → List PartView → Type 0
+AreSimpleBy ignore_case parts =
+    All (λ part. HasSimpleExpressionBy ignore_case part.kind part.value) parts
+
+-- The expressions of all custom parts are simple, where case is kept.
 abbrev pub AreSimple : List PartView → Type 0
-AreSimple parts = All (λ part. HasSimpleExpression part.kind part.value) parts
+AreSimple = AreSimpleBy false
 
 -- Parts with these options have a meaning: custom expressions are simple, and case is kept.
 pub record HaveMeaning (options : OptionsView) (parts : List PartView) : Type 0 where
   pub simple : AreSimple parts
   pub case_kept : options.ignore_case ≡ false
 
+-- The texts of the part are ASCII.
+abbrev pub HasAsciiTexts : PartView → Type 0
+HasAsciiTexts part = IsAscii part.value × IsAscii part.prefix × IsAscii part.suffix
+
+-- The delimiter, if there is one, is ASCII.
+abbrev pub HasAsciiDelimiter : OptionsView → Type 0
+HasAsciiDelimiter options = IfSome options.delimiter (λ c. IsTrue (is_ascii c))
+
+-- The delimiter and all texts of the parts are ASCII.
+abbrev pub AreOfAscii : OptionsView → List PartView → Type 0
+AreOfAscii options parts = HasAsciiDelimiter options × All HasAsciiTexts parts
+
 -- Parts with these options have a meaning over an engine that honours the flag `i`, such as
--- `PatternRegexp`: custom expressions are simple, and if there is one, case is kept.
+-- `PatternRegexp`: custom expressions are simple, as they are read where case is ignored or kept;
+-- and if case is ignored and a part is custom, the delimiter and all texts of the parts are ASCII.
 pub record HaveMeaningByCase (options : OptionsView) (parts : List PartView) : Type 0 where
-  pub simple : AreSimple parts
-  pub by_case : (options.ignore_case ≡ false) ⊎ AreGenerated parts
+  pub simple : AreSimpleBy options.ignore_case parts
+  pub by_case : (options.ignore_case ≡ false) ⊎ (AreGenerated parts ⊎ AreOfAscii options parts)
 
 -- The parts of a component have a meaning.
 abbrev pub KeepsMeaning : ComponentParts → Type 0

@@ -4,4 +4,4 @@
 
 mod simple;
 
-pub use simple::{has_meaning, has_meaning_by_case, is_simple};
+pub use simple::{config_for, has_meaning, has_meaning_by_case, is_simple};

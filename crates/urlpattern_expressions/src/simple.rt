@@ -1,16 +1,17 @@
 //! Simple custom expressions: what they match does not depend on the text around them.
 
-ghost use Rattle.std.specs.Prelude.{◌≡◌, ◌↔◌, IfOk, IsTrue};
+ghost use Rattle.std.specs.Prelude.{◌≡◌, ◌↔◌, All, IfOk, IsAscii, IsTrue};
 ghost use Rattle.std.specs.List.{list_any};
 ghost use Rattle.std.specs.Str.{chars};
-ghost use Rattle.urlpattern_expressions.specs.SimpleExpressions.{AreSimple, HasSimpleExpression, KeepsMeaning, KeepsMeaningByCase, begins_uncaptured, has_simple_signs, is_custom_part, is_escapable, is_simple, may_follow};
-ghost use Rattle.urlpattern_syntax.specs.{Parts.part_view, Parts.parts_view, Text.line_feed};
+ghost use Rattle.urlpattern_expressions.specs.SimpleExpressions.{AreOfAscii, AreSimpleBy, HasAsciiDelimiter, HasAsciiTexts, HasSimpleExpressionBy, KeepsMeaning, KeepsMeaningByCase, begins_uncaptured, has_simple_signs, is_custom_part, is_escapable, is_simple_by, may_follow};
+ghost use Rattle.urlpattern_expressions.specs.Expressions.{config_for};
+ghost use Rattle.urlpattern_syntax.specs.{ComponentParts.kept_options, ComponentParts.kept_parts, Options.options_view, Parts.part_view, Parts.parts_view, Text.line_feed};
 
 use regex_syntax::{Config, ErrorKind};
 use std::alloc::Global;
 use urlpattern_syntax::ComponentParts;
 use urlpattern_syntax::error::OutOfMemory;
-use urlpattern_syntax::parser::{Part, PartType};
+use urlpattern_syntax::parser::{Options, Part, PartType};
 use urlpattern_syntax::text::split_first;
 
 /// Whether the parts of a component have a meaning: each custom regular expression is simple
@@ -23,12 +24,12 @@ pub fn has_meaning(alloc: Global, component: &ComponentParts) -> Result<bool, Ou
     if component.options.ignore_case {
         return Ok(false);
     }
-    are_simple(alloc, &component.parts)
+    are_simple(alloc, &component.parts, false)
 }
 
 /// Whether the parts of a component have a meaning over an engine that honours the flag `i`, such
-/// as `PatternRegexp`: each custom regular expression is simple (`is_simple`), and if there is one,
-/// case is kept.
+/// as `PatternRegexp`: each custom regular expression is simple (`is_simple`), and if there is one
+/// and case is ignored, the delimiter and all texts of the parts are ASCII.
 ///
 /// The only error is that memory ran out.
 pub fn has_meaning_by_case(alloc: Global, component: &ComponentParts) -> Result<bool, OutOfMemory>
@@ -36,10 +37,10 @@ pub fn has_meaning_by_case(alloc: Global, component: &ComponentParts) -> Result<
         IsTrue has_meaning ↔ KeepsMeaningByCase component.now) }
 {
     let ignores_case = component.options.ignore_case;
-    if ignores_case {
-        return Ok(!has_custom(&component.parts));
+    if ignores_case && has_custom(&component.parts) && !is_of_ascii(component) {
+        return Ok(false);
     }
-    are_simple(alloc, &component.parts)
+    are_simple(alloc, &component.parts, ignores_case)
 }
 
 /// Whether at least one of `parts` is a custom regular expression.
@@ -56,25 +57,70 @@ fn is_custom(part: &Part) -> bool
     matches!(part.kind, PartType::Regexp)
 }
 
-/// Whether each custom expression of `parts` is simple.
-fn are_simple(alloc: Global, parts: &[Part]) -> Result<bool, OutOfMemory>
-    ensures { IfOk result (λ are_simple. IsTrue are_simple ↔ AreSimple (parts_view parts.now)) }
+/// Whether the delimiter and all texts of the parts are ASCII.
+fn is_of_ascii(component: &ComponentParts) -> bool
+    ensures { IsTrue result ↔ AreOfAscii (kept_options component.now) (kept_parts component.now) }
+{
+    has_ascii_delimiter(&component.options) && have_ascii_texts(&component.parts)
+}
+
+/// Whether the delimiter, if there is one, is ASCII.
+fn has_ascii_delimiter(options: &Options) -> bool
+    ensures { IsTrue result ↔ HasAsciiDelimiter (options_view options.now) }
+{
+    match options.delimiter_code_point {
+        Some(delimiter) => delimiter.is_ascii(),
+        None => true,
+    }
+}
+
+/// Whether all texts of `parts` are ASCII.
+fn have_ascii_texts(parts: &[Part]) -> bool
+    ensures { IsTrue result ↔ All HasAsciiTexts (parts_view parts.now) }
 {
     for part in parts {
-        if !has_simple_expression(alloc, part)? {
+        if !has_ascii_texts(part) {
+            return false;
+        }
+    }
+    true
+}
+
+/// Whether the texts of the part are ASCII.
+fn has_ascii_texts(part: &Part) -> bool
+    ensures { IsTrue result ↔ HasAsciiTexts (part_view part.now) }
+{
+    is_ascii(&part.value) && is_ascii(&part.prefix) && is_ascii(&part.suffix)
+}
+
+/// Whether each character of the text is ASCII.
+fn is_ascii(text: &str) -> bool
+    ensures { IsTrue result ↔ IsAscii (chars text.now) }
+{
+    text.is_ascii()
+}
+
+/// Whether each custom expression of `parts` is simple, with case ignored or kept.
+fn are_simple(alloc: Global, parts: &[Part], ignore_case: bool) -> Result<bool, OutOfMemory>
+    ensures { IfOk result (λ are_simple.
+        IsTrue are_simple ↔ AreSimpleBy ignore_case (parts_view parts.now)) }
+{
+    for part in parts {
+        if !has_simple_expression(alloc, part, ignore_case)? {
             return Ok(false);
         }
     }
     Ok(true)
 }
 
-/// Whether the part is not custom, or its expression is simple.
-fn has_simple_expression(alloc: Global, part: &Part) -> Result<bool, OutOfMemory>
+/// Whether the part is not custom, or its expression is simple, with case ignored or kept.
+fn has_simple_expression(alloc: Global, part: &Part, ignore_case: bool) -> Result<bool, OutOfMemory>
     ensures { IfOk result (λ is_simple.
-        IsTrue is_simple ↔ HasSimpleExpression part.now.kind (part_view part.now).value) }
+        IsTrue is_simple
+        ↔ HasSimpleExpressionBy ignore_case part.now.kind (part_view part.now).value) }
 {
     match part.kind {
-        PartType::Regexp => is_simple(alloc, &part.value),
+        PartType::Regexp => is_simple(alloc, &part.value, ignore_case),
         _ => Ok(true),
     }
 }
@@ -87,14 +133,16 @@ fn has_simple_expression(alloc: Global, part: &Part) -> Result<bool, OutOfMemory
 /// class in brackets, and a backslash only before a letter of `dDsSwW`, or before a sign other than
 /// `\`, `[`, `<`, `>` and `#`.
 ///
+/// If case is ignored, the grammar reads it with the flag `i`.
+///
 /// The only error is that memory ran out.
-pub fn is_simple(alloc: Global, expression: &str) -> Result<bool, OutOfMemory>
-    ensures { IfOk result (λ simple. simple ≡ is_simple (chars expression.now)) }
+pub fn is_simple(alloc: Global, expression: &str, ignore_case: bool) -> Result<bool, OutOfMemory>
+    ensures { IfOk result (λ simple. simple ≡ is_simple_by ignore_case (chars expression.now)) }
 {
     if !has_simple_signs(expression) {
         return Ok(false);
     }
-    match regex_syntax::parse(alloc, expression, &Config::default()) {
+    match regex_syntax::parse(alloc, expression, &config_for(ignore_case)) {
         Ok(parsed) => {
             drop(parsed);
             Ok(true)
@@ -104,6 +152,15 @@ pub fn is_simple(alloc: Global, expression: &str) -> Result<bool, OutOfMemory>
             _ => Ok(false),
         },
     }
+}
+
+/// The default options of `regex_syntax`, except that case may be ignored.
+pub fn config_for(ignore_case: bool) -> Config
+    ensures { result ≡ config_for ignore_case }
+{
+    let mut config = Config::default();
+    config.flags.case_insensitive = ignore_case;
+    config
 }
 
 /// Whether each character of a simple expression may stand after the one before it.

@@ -28,6 +28,7 @@ pub added : (old : List (UrlPattern PatternRegexp)) (text base : List ℕ) (igno
     → IsAdded old text base ignores new status
 added old text base ignores pattern new statuses.Done is keeps pushed = (pattern, is, keeps, pushed)
 added old text base ignores pattern new statuses.OutOfMemory is keeps pushed = pushed
+added old text base ignores pattern new statuses.Shared is keeps pushed = pushed
 added old text base ignores pattern new status is keeps pushed = absurd pushed
 
 -- A fact of the texts as they were read is one of the texts as they were passed.

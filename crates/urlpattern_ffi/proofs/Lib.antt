@@ -1,6 +1,11 @@
 pub mod CallLemmas
 pub mod CoveringLemmas
+pub mod TextLemmas
 pub mod ReportedInitLemmas
 pub mod WrittenLinkLemmas
 pub mod SpanLemmas
 pub mod ResultDepth
+pub mod InitMatchLemmas
+pub mod WholeTextLemmas
+pub mod PairTextLemmas
+pub mod WrittenTextLemmas

@@ -1,11 +1,13 @@
 -- Outcomes of compiling patterns and of matching URLs. Texts are bytes, and an empty base URL
 -- counts as no base URL.
-use Rattle.std.specs.Prelude.{◌≡◌, ◌≢◌, ◌⊎◌, ◌++◌, ℕ, Bool, List, [], ◌∷◌, slice_get, Option, None, Some}
+use Rattle.std.specs.Prelude.{◌≡◌, ◌≢◌, ◌⊎◌, ◌++◌, ◌<◌, ◌≤◌, ℕ, Bool, List, [], ◌∷◌, length, max, slice_get, Option, None, Some, Err}
 use Rattle.std.specs.Str.{chars, IsUtf8}
 use Rattle.url.specs.Parts.{Parts}
+use Rattle.url.specs.declared.error.ParseError.{ParseError}
 use Rattle.urlpattern.specs.Errors.{ErrorView}
 use Rattle.urlpattern.specs.Errors.{ErrorView as views}
-use Rattle.urlpattern_canonical.specs.BaseUrls.{IsRejectedText, IsUrlOf}
+use Rattle.urlpattern_canonical.specs.BaseUrls.{IsUrlOf, parsed_text}
+use Rattle.urlpattern_canonical.specs.Canonical.{long_text}
 use Rattle.urlpattern.specs.FromString.{IsPatternOfText, RejectsPatternOfText}
 use Rattle.urlpattern.specs.FirstMatch.{IsFirstMatch, patterns_view}
 use Rattle.urlpattern.specs.Match.{HasMatch, HasNoMatch}
@@ -63,17 +65,18 @@ abbrev pub error_status : ErrorView → Status
 error_status views.OutOfMemory = statuses.OutOfMemory
 error_status error = statuses.Refused
 
--- The outcome of appending a pattern. `Done`: it is appended. `OutOfMemory`: the patterns are
--- unchanged.
+-- The outcome of appending a pattern. `Done`: it is appended. `OutOfMemory`, and `Shared`, which
+-- says that another handle has the patterns: they are unchanged.
 abbrev pub IsPushed : (old : List (UrlPattern PatternRegexp)) → UrlPattern PatternRegexp
     → (new : List (UrlPattern PatternRegexp)) → Status → Type 0
 IsPushed old pattern new statuses.Done = new ≡ old ++ pattern ∷ []
 IsPushed old pattern new statuses.OutOfMemory = new ≡ old
+IsPushed old pattern new statuses.Shared = new ≡ old
 IsPushed old pattern new status = ⊥
 
 -- The outcome of compiling the constructor string `text` with the base URL `base` and appending the
 -- pattern. `Done`: the pattern is appended, with its parts. `Refused`: the string is rejected.
--- Unless `Done`, the patterns are unchanged.
+-- `Shared`: another handle has the patterns. Unless `Done`, the patterns are unchanged.
 abbrev pub IsAdded : (old : List (UrlPattern PatternRegexp)) → (text base : List ℕ)
     → (ignore_case : Bool) → (new : List (UrlPattern PatternRegexp)) → Status → Type 0
 IsAdded old text base ignores new statuses.Done =
@@ -84,34 +87,45 @@ IsAdded old text base ignores new statuses.Refused =
 IsAdded old text base ignores new statuses.NotUtf8 =
     ((¬ IsUtf8 text) ⊎ (¬ IsUtf8 base)) × (new ≡ old)
 IsAdded old text base ignores new statuses.OutOfMemory = new ≡ old
+IsAdded old text base ignores new statuses.Shared = new ≡ old
 IsAdded old text base ignores new status = ⊥
 
 -- ---- URLs
 
--- `text` is parsed as the URL, under the base URL `base` unless that is empty.
-abbrev pub IsUrlUnderBase : (text base : List ℕ) → Parts → Type 0
-IsUrlUnderBase text base url = IsUrlOf text (given_base base) url
+-- `text` and `base` have less than `long_text` bytes each.
+abbrev pub AreShort : (text base : List ℕ) → Type 0
+AreShort text base = max (length text) (length base) < long_text
 
--- The status says why `text` with the base URL `base` is not parsed as a URL. `NoMatch`: `url`
--- rejects one of the two, or the longer one may be too long.
+-- `text` is parsed as the URL, under the base URL `base` unless that is empty. Neither is too long.
+abbrev pub IsUrlUnderBase : (text base : List ℕ) → Parts → Type 0
+IsUrlUnderBase text base url = AreShort text base × IsUrlOf text (given_base base) url
+
+-- The status says why the texts are not read: one is not UTF-8, or memory ran out.
+abbrev pub AreNoTexts : (text base : List ℕ) → Status → Type 0
+AreNoTexts text base statuses.NotUtf8 = (¬ IsUtf8 text) ⊎ (¬ IsUtf8 base)
+AreNoTexts text base statuses.OutOfMemory = Unit {0}
+AreNoTexts text base status = ⊥
+
+-- The status says why `text` with the base URL `base` is not parsed as a URL. `NoUrl`: `url`
+-- rejects one of the two. `TooLong`: one of the two has `long_text` bytes or more.
 abbrev pub IsNoUrl : (text base : List ℕ) → Status → Type 0
-IsNoUrl text base statuses.NotUtf8 = (¬ IsUtf8 text) ⊎ (¬ IsUtf8 base)
-IsNoUrl text base statuses.NoMatch = IsRejectedText text (given_base base)
-IsNoUrl text base statuses.OutOfMemory = Unit {0}
-IsNoUrl text base status = ⊥
+IsNoUrl text base statuses.NoUrl =
+    AreShort text base
+    × ((reason : ParseError) × (parsed_text (given_base base) text ≡ Err reason))
+IsNoUrl text base statuses.TooLong = long_text ≤ max (length text) (length base)
+IsNoUrl text base status = AreNoTexts text base status
 
 -- ---- matches
 
 -- The outcome of matching the pattern against the URL `text` with the base URL `base`. `Done`: it
--- matches. `NoMatch`: it does not match, or there is no URL. Any other status is as in `IsNoUrl`.
+-- matches. `NoMatch`: there is a URL, and it does not match. Any other status is as in `IsNoUrl`.
 abbrev pub IsUrlTested : PatternView PatternRegexp → (text base : List ℕ) → Status → Type 0
 IsUrlTested pattern text base statuses.Done =
     (url : Parts) × IsUrlUnderBase text base url
     × HasMatch pattern_result pattern (match_inputs.Url url)
 IsUrlTested pattern text base statuses.NoMatch =
-    IsNoUrl text base statuses.NoMatch
-    ⊎ ((url : Parts) × IsUrlUnderBase text base url
-    × HasNoMatch pattern_result pattern (match_inputs.Url url))
+    (url : Parts) × IsUrlUnderBase text base url
+    × HasNoMatch pattern_result pattern (match_inputs.Url url)
 IsUrlTested pattern text base status = IsNoUrl text base status
 
 -- The outcome of matching the pattern at `index` against a URL (`IsUrlTested`). `NoPattern`: the
@@ -124,7 +138,7 @@ IsTested patterns index text base status =
     × IsUrlTested (pattern_view pattern) text base status
 
 -- The outcome of finding the first pattern that matches the URL `text` with the base URL `base`.
--- `Done`: `new` is its index. `NoMatch`: no pattern matches, or there is no URL. `NoPattern`, and
+-- `Done`: `new` is its index. `NoMatch`: there is a URL, and no pattern matches. `NoPattern`, and
 -- only this: the list is empty. Any other status is as in `IsNoUrl`. Unless `Done`, the index `old`
 -- is unchanged.
 abbrev pub IsFirstReported : List (UrlPattern PatternRegexp) → (text base : List ℕ) → (old new : ℕ)
@@ -137,10 +151,8 @@ IsFirstReported patterns text base old new statuses.Done =
 IsFirstReported patterns text base old new statuses.NoMatch =
     (new ≡ old)
     × (patterns ≢ [])
-    × (IsNoUrl text base statuses.NoMatch
-    ⊎
-    ((url : Parts) × IsUrlUnderBase text base url
-    × IsFirstMatch pattern_result (patterns_view patterns) (match_inputs.Url url) None))
+    × ((url : Parts) × IsUrlUnderBase text base url
+    × IsFirstMatch pattern_result (patterns_view patterns) (match_inputs.Url url) None)
 IsFirstReported patterns text base old new statuses.NoPattern = (new ≡ old) × (patterns ≡ [])
 IsFirstReported patterns text base old new status =
     (new ≡ old) × (patterns ≢ []) × IsNoUrl text base status

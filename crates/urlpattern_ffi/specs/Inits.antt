@@ -37,14 +37,20 @@ HasRejectedBase json error =
     (plain : PlainInit) × (plain_init_of json ≡ Some (init_view plain))
     × RejectsInput (inputs.Init plain) None error
 
+-- The status says why a text is not read as an init. `Refused`: the text is not the JSON of an
+-- init.
+abbrev pub IsUnread : (json : List ℕ) → Status → Type 0
+IsUnread json statuses.NotUtf8 = ¬ IsUtf8 json
+IsUnread json statuses.Refused = plain_init_of json ≡ None
+IsUnread json statuses.OutOfMemory = Unit {0}
+IsUnread json status = ⊥
+
 -- The status says why there is no init. `Refused`: the text is not the JSON of an init, or its base
--- URL is rejected.
+-- URL is rejected. Any other status is as in `IsUnread`.
 abbrev pub IsNoInit : (json : List ℕ) → Status → Type 0
-IsNoInit json statuses.NotUtf8 = ¬ IsUtf8 json
 IsNoInit json statuses.Refused =
-    (plain_init_of json ≡ None) ⊎ ((error : ErrorView) × HasRejectedBase json error)
-IsNoInit json statuses.OutOfMemory = Unit {0}
-IsNoInit json status = ⊥
+    IsUnread json statuses.Refused ⊎ ((error : ErrorView) × HasRejectedBase json error)
+IsNoInit json status = IsUnread json status
 
 -- The JSON is an init, which is rejected with this error when it is compiled.
 abbrev pub IsInitRejected : (json : List ℕ) → (ignore_case : Bool) → ErrorView → Type 0
@@ -53,8 +59,8 @@ IsInitRejected json ignores error =
     × RejectsInit pattern_engine init (c_options ignores) error
 
 -- The outcome of compiling an init in JSON and appending the pattern. `Done`: the pattern is
--- appended, with its parts. `Refused`: the JSON is not an init, or the init is rejected. Unless
--- `Done`, the patterns are unchanged.
+-- appended, with its parts. `Refused`: the JSON is not an init, or the init is rejected. `Shared`:
+-- another handle has the patterns. Unless `Done`, the patterns are unchanged.
 abbrev pub IsInitAdded : (old : PatternList) → (json : List ℕ)
     → (ignore_case : Bool) → (new : PatternList) → Status → Type 0
 IsInitAdded old json ignores new statuses.Done =
@@ -65,4 +71,5 @@ IsInitAdded old json ignores new statuses.Refused =
     (IsNoInit json statuses.Refused ⊎ ((error : ErrorView) × IsInitRejected json ignores error))
     × (new ≡ old)
 IsInitAdded old json ignores new statuses.OutOfMemory = new ≡ old
+IsInitAdded old json ignores new statuses.Shared = new ≡ old
 IsInitAdded old json ignores new status = IsNoInit json status × (new ≡ old)

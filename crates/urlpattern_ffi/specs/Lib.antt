@@ -2,10 +2,16 @@ pub mod Calls
 pub mod ReportedCoverings
 pub mod ReportedDiagnoses
 pub mod ReportedMeanings
+pub mod InitMatches
 pub mod Inits
 pub mod KeptPatterns
 pub mod WrittenLinks
 pub mod Mismatches
+pub mod PassedTexts
 pub mod GroupSpans
 pub mod Statuses
 pub mod TextBuffers
+pub mod TextCaptures
+pub mod WholeTexts
+pub mod PairTexts
+pub mod WrittenTexts

@@ -1,6 +1,6 @@
 -- Numbers of components, the component that does not match a URL, and whether a pattern has a
 -- custom regular expression, as reported to C.
-use Rattle.std.specs.Prelude.{◌≡◌, ◌⊎◌, ℕ, true, false, List, slice_get, None, Some}
+use Rattle.std.specs.Prelude.{◌≡◌, ℕ, true, false, List, slice_get, None, Some}
 use Rattle.url.specs.Parts.{Parts}
 use Rattle.urlpattern.specs.Eight.{components}
 use Rattle.urlpattern.specs.Patterns.{PatternView, has_regexp_groups, pattern_view}
@@ -42,9 +42,8 @@ IsMismatchNumber pattern text base number =
     × FindsMismatch pattern_result pattern (texts_of_url url) (Some name)
 
 -- The outcome of looking for a component that does not match the URL `text` with the base URL
--- `base`. `Done`: each matches. `NoMatch`: `number` is the number of the first that does not match,
--- or `no_component` if there is no URL. Any other status is as in `IsNoUrl`. Unless `NoMatch`,
--- `number` is `no_component`.
+-- `base`. `Done`: each matches. `NoMatch`: `number` is the number of the first that does not match.
+-- Any other status is as in `IsNoUrl`. Unless `NoMatch`, `number` is `no_component`.
 abbrev pub IsUrlMismatched : PatternView PatternRegexp → (text base : List ℕ) → (number : ℕ)
     → Status → Type 0
 IsUrlMismatched pattern text base number statuses.Done =
@@ -52,8 +51,7 @@ IsUrlMismatched pattern text base number statuses.Done =
     × ((url : Parts) × IsUrlUnderBase text base url
     × FindsMismatch pattern_result pattern (texts_of_url url) None)
 IsUrlMismatched pattern text base number statuses.NoMatch =
-    ((number ≡ no_component) × IsNoUrl text base statuses.NoMatch)
-    ⊎ IsMismatchNumber pattern text base number
+    IsMismatchNumber pattern text base number
 IsUrlMismatched pattern text base number status = (number ≡ no_component) × IsNoUrl text base status
 
 -- The outcome of looking for a component of the pattern at `index` that does not match

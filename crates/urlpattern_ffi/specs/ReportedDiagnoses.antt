@@ -4,7 +4,7 @@ use Rattle.std.specs.Str.{chars}
 use Rattle.urlpattern.specs.Errors.{ErrorView, error_view}
 use Rattle.urlpattern.specs.FromString.{IsPatternOfText}
 use Rattle.urlpattern.specs.Patterns.{PatternView}
-use Rattle.urlpattern_ffi.specs.Calls.{given_base, c_options, IsNoUrl, RejectsCompilation}
+use Rattle.urlpattern_ffi.specs.Calls.{given_base, c_options, AreNoTexts, RejectsCompilation}
 use Rattle.urlpattern_ffi.specs.Inits.{IsInitOfJson, IsInitRejected, IsNoInit}
 use Rattle.urlpattern_ffi.specs.Mismatches.{component_number}
 use Rattle.urlpattern_ffi.specs.TextBuffers.{WritesToBuffer}
@@ -80,7 +80,7 @@ IsDiagnosisOfInit json ignores =
 
 -- The outcome of diagnosing the constructor string `text` with the base URL `base`. `Done`: the
 -- reason why the string or the base is rejected is written. `TooSmall`: the buffer has no room for
--- the reason. `NoMatch`: neither is rejected. Any other status is as in `IsNoUrl`.
+-- the reason. `NoMatch`: neither is rejected. Any other status is as in `AreNoTexts`.
 abbrev pub IsDiagnosed : (text base : List ℕ) → (ignore_case : Bool)
     → (old new : List ℕ) → (needed : ℕ) → Place → Status → Type 0
 IsDiagnosed text base ignores old new needed place statuses.Done =
@@ -91,7 +91,8 @@ IsDiagnosed text base ignores old new needed place statuses.NoMatch =
     ((pattern : PatternView PatternRegexp)
     × IsPatternOfText pattern_engine (chars text) (given_base base) (c_options ignores) pattern)
     × (new ≡ old)
-IsDiagnosed text base ignores old new needed place status = IsNoUrl text base status × (new ≡ old)
+IsDiagnosed text base ignores old new needed place status =
+    AreNoTexts text base status × (new ≡ old)
 
 -- The outcome of diagnosing an init in JSON. `Done`: the reason why the init is rejected is
 -- written. `TooSmall`: the buffer has no room for the reason. `NoMatch`: the init is not rejected.

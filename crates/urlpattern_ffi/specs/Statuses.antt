@@ -1,15 +1,19 @@
 -- The numbers of statuses for C.
 use Rattle.std.specs.Prelude.{ℕ}
 use Rattle.urlpattern_ffi.specs.declared.status.Status.{Status}
-use Rattle.urlpattern_ffi.specs.declared.status.Status.TheVariants.{Done, NoMatch, NotUtf8, Refused, OutOfMemory, NoPattern, TooSmall, Unknown}
+use Rattle.urlpattern_ffi.specs.declared.status.Status.TheVariants.{NoMatch, Done, NoUrl, NoPath, TooLong, NotUtf8, Refused, OutOfMemory, NoPattern, TooSmall, Unknown, Shared}
 
--- The number of a status for C.
+-- The number of a status for C. `Done` is not 0, so that a variable of zeros is never `Done`.
 abbrev pub status_number : Status → ℕ
-status_number Done = 0
-status_number NoMatch = 1
-status_number NotUtf8 = 2
-status_number Refused = 3
-status_number OutOfMemory = 4
-status_number NoPattern = 5
-status_number TooSmall = 6
-status_number Unknown = 7
+status_number NoMatch = 0
+status_number Done = 1
+status_number NoUrl = 2
+status_number NoPath = 3
+status_number TooLong = 4
+status_number NotUtf8 = 5
+status_number Refused = 6
+status_number OutOfMemory = 7
+status_number NoPattern = 8
+status_number TooSmall = 9
+status_number Unknown = 10
+status_number Shared = 11

@@ -8,6 +8,7 @@ use crate::pattern_box::{PatternBox, take_or_make_empty};
 use crate::status::Status;
 use std::alloc::Global;
 use std::str;
+use std::sync::Arc;
 use urlpattern::regexp::PatternRegexp;
 use urlpattern::{Error, RegexSyntax, UrlPattern, UrlPatternOptions};
 
@@ -82,8 +83,8 @@ pub(crate) fn options(ignore_case: bool) -> UrlPatternOptions
     }
 }
 
-/// Appends a pattern to `kept`, the patterns of a handle. If memory runs out, the patterns are
-/// unchanged, and the status is `OutOfMemory`.
+/// Appends a pattern to `kept`, the patterns of a handle. `OutOfMemory`: memory ran out. `Shared`:
+/// another handle has the patterns. In both cases they are unchanged.
 pub(crate) fn push(
     alloc: Global,
     kept: &mut Option<Box<PatternBox>>,
@@ -94,10 +95,13 @@ pub(crate) fn push(
     let Ok(mut taken) = take_or_make_empty(alloc, kept) else {
         return Status::OutOfMemory;
     };
-    let pushed = taken.list.try_push(pattern);
+    let status = match Arc::get_mut(&mut taken.list) {
+        Some(list) => match list.try_push(pattern) {
+            Ok(()) => Status::Done,
+            Err(_) => Status::OutOfMemory,
+        },
+        None => Status::Shared,
+    };
     *kept = Some(taken);
-    match pushed {
-        Ok(()) => Status::Done,
-        Err(_) => Status::OutOfMemory,
-    }
+    status
 }

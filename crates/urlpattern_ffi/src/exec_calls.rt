@@ -15,8 +15,8 @@ use std::alloc::Global;
 use urlpattern::regexp::PatternRegexp;
 use urlpattern::{Error, UrlPattern, UrlPatternList, UrlPatternResult};
 
-/// Matches the pattern at an index against a URL. `Done`: it matches. `NoMatch`: it does not match,
-/// or the text is not a URL.
+/// Matches the pattern at an index against a URL. `Done`: it matches. `NoMatch`: it does not.
+/// Any other status says why there is no URL.
 pub fn test(
     alloc: Global,
     kept: &Option<Box<PatternBox>>,
@@ -32,8 +32,7 @@ pub fn test(
     }
 }
 
-/// Matches a pattern against a URL. `Done`: it matches. `NoMatch`: it does not match, or the text
-/// is not a URL.
+/// Matches a pattern against a URL. `Done`: it matches. `NoMatch`: it does not.
 fn test_pattern(
     alloc: Global,
     pattern: &UrlPattern<PatternRegexp>,
@@ -53,8 +52,8 @@ fn test_pattern(
     }
 }
 
-/// Finds the first pattern that matches a URL, and writes its index. `NoMatch`: no pattern matches,
-/// or the text is not a URL. `NoPattern`: the handle has no pattern.
+/// Finds the first pattern that matches a URL, and writes its index. `NoMatch`: no pattern matches.
+/// `NoPattern`: the handle has no pattern.
 pub fn first(
     alloc: Global,
     kept: &Option<Box<PatternBox>>,
@@ -72,7 +71,7 @@ pub fn first(
 }
 
 /// Finds the first pattern of a list that matches a URL, and writes its index. `NoMatch`: no
-/// pattern matches, or the text is not a URL. `NoPattern`: the list is empty.
+/// pattern matches. `NoPattern`: the list is empty.
 fn first_in(
     alloc: Global,
     list: &UrlPatternList<PatternRegexp>,
@@ -101,8 +100,8 @@ fn first_in(
 }
 
 /// Writes the match of a URL by the pattern at an index to `buffer`, as JSON, and the length of the
-/// JSON in bytes to `needed`. `NoMatch`: the pattern does not match, or the text is not a URL.
-/// `NoPattern`: there is no such pattern.
+/// JSON in bytes to `needed`. `NoMatch`: the pattern does not match. `NoPattern`: there is no such
+/// pattern.
 pub fn execute(
     alloc: Global,
     kept: &Option<Box<PatternBox>>,
@@ -122,8 +121,8 @@ pub fn execute(
 }
 
 /// Writes the match of a URL by a pattern to `buffer`, as JSON, and the length of the JSON in bytes
-/// to `needed`. `NoMatch`: the pattern does not match, or the text is not a URL. `TooSmall`: the
-/// buffer is shorter than the JSON.
+/// to `needed`. `NoMatch`: the pattern does not match. `TooSmall`: the buffer is shorter than the
+/// JSON.
 fn execute_pattern(
     alloc: Global,
     pattern: &UrlPattern<PatternRegexp>,
@@ -143,8 +142,8 @@ fn execute_pattern(
 
 /// Returns the match of a URL by a pattern, as JSON.
 ///
-/// The error is the status that says why there is none: `NoMatch` if the pattern does not match or
-/// the text is not a URL, `NotUtf8`, or `OutOfMemory`.
+/// The error is the status that says why there is none: `NoMatch` if the pattern does not match,
+/// `OutOfMemory`, or why the text is not read as a URL.
 fn match_text(
     alloc: Global,
     pattern: &UrlPattern<PatternRegexp>,
@@ -169,7 +168,7 @@ fn match_text(
 }
 
 /// The JSON of a result, as text with no white space between tokens.
-fn json_text(alloc: Global, found: &UrlPatternResult) -> Result<String, Error>
+pub(crate) fn json_text(alloc: Global, found: &UrlPatternResult) -> Result<String, Error>
     ensures { IfOk result (λ text. IsResultText found.now (string_bytes text)) }
 {
     let tree = found.to_json_value(alloc)?;

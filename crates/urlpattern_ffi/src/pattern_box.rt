@@ -1,15 +1,33 @@
 //! The patterns that a handle keeps. `None` is an empty handle.
-ghost use Rattle.std.specs.Prelude.{◌≡◌, [], option_copied, slice_get, IfErr, IfOk};
+ghost use Rattle.std.specs.Prelude.{◌≡◌, ◌≢◌, [], option_copied, slice_get, IfErr, IfNone, IfOk, IfSome};
+ghost use Rattle.std.specs.Arc.{arc_value};
 ghost use Rattle.urlpattern_ffi.specs.KeptPatterns.{boxed_patterns};
 
 use std::alloc::{AllocError, Global};
+use std::sync::Arc;
 use urlpattern::regexp::PatternRegexp;
 use urlpattern::{UrlPattern, UrlPatternList};
 
-/// The patterns of a handle, in order. A handle keeps them in a box.
+/// The patterns of a handle, in order, which several handles may share. A handle keeps them in a
+/// box.
 #[derive(Drop)]
 pub struct PatternBox {
-    pub(crate) list: UrlPatternList<PatternRegexp>,
+    pub(crate) list: Arc<UrlPatternList<PatternRegexp>, Global>,
+}
+
+/// The patterns of a handle. `None`: the handle has none.
+pub(crate) fn list_of(kept: &Option<Box<PatternBox>>) -> Option<&UrlPatternList<PatternRegexp>>
+    ensures some { IfSome result (λ list.
+        (list.now ≡ boxed_patterns kept.now) × (list.now ≢ [])) }
+    ensures none { IfNone result (boxed_patterns kept.now ≡ []) }
+{
+    match kept {
+        Some(kept) => {
+            let list: &UrlPatternList<PatternRegexp> = &kept.list;
+            if list.is_empty() { None } else { Some(list) }
+        }
+        None => None,
+    }
 }
 
 /// The pattern at an index. `None`: the index is out of range, or the handle is empty.
@@ -33,21 +51,56 @@ pub(crate) fn take_or_make_empty(
     alloc: Global,
     kept: &mut Option<Box<PatternBox>>,
 ) -> Result<Box<PatternBox>, AllocError>
-    ensures taken { IfOk result (λ taken. taken.value.list ≡ boxed_patterns kept.old) }
+    ensures taken { IfOk result (λ taken. arc_value taken.value.list ≡ boxed_patterns kept.old) }
     ensures none { IfErr result (λ _. boxed_patterns kept.old ≡ []) }
     ensures none_left { boxed_patterns kept.new ≡ [] }
 {
     match kept.take() {
         Some(kept) => Ok(kept),
         None => {
-            let list = UrlPatternList::new(alloc);
-            match Box::new(alloc, PatternBox { list }) {
-                Ok(kept) => Ok(kept),
+            let list = match Arc::new(alloc, UrlPatternList::new(alloc)) {
+                Ok(list) => list,
                 Err(failed) => {
                     drop(failed);
-                    Err(AllocError)
+                    return Err(AllocError);
                 }
+            };
+            boxed(alloc, list)
+        }
+    }
+}
+
+/// Puts patterns into a box.
+fn boxed(
+    alloc: Global,
+    list: Arc<UrlPatternList<PatternRegexp>, Global>,
+) -> Result<Box<PatternBox>, AllocError>
+    ensures { IfOk result (λ kept. arc_value kept.value.list ≡ arc_value list) }
+{
+    match Box::new(alloc, PatternBox { list }) {
+        Ok(kept) => Ok(kept),
+        Err(failed) => {
+            drop(failed);
+            Err(AllocError)
+        }
+    }
+}
+
+/// Returns what another handle has that shares the patterns of one, which stay where they are.
+pub fn share(
+    alloc: Global,
+    kept: &Option<Box<PatternBox>>,
+) -> Result<Option<Box<PatternBox>>, AllocError>
+    ensures { IfOk result (λ shared. boxed_patterns shared ≡ boxed_patterns kept.now) }
+{
+    match kept {
+        Some(kept) => {
+            let list = Arc::try_clone(&kept.list)?;
+            match boxed(alloc, list) {
+                Ok(shared) => Ok(Some(shared)),
+                Err(error) => Err(error),
             }
         }
+        None => Ok(None),
     }
 }

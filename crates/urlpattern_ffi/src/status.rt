@@ -5,13 +5,19 @@ ghost use Rattle.urlpattern_ffi.specs.Statuses.{status_number};
 /// The outcome of a call.
 #[derive(Clone, Copy)]
 pub enum Status {
+    /// The pattern does not match, or no pattern of the handle does. Also the status of a pattern
+    /// that does not cover the asked one, has no custom regular expression, has no meaning in a
+    /// component, or is not rejected.
+    NoMatch,
     /// The call succeeded, or the pattern matches, covers the asked one, has a custom regular
     /// expression, or has a meaning in each component.
     Done,
-    /// The pattern does not match, or no pattern of the handle does, or the text is not a URL. Also
-    /// the status of a pattern that does not cover the asked one, has no custom regular expression,
-    /// has no meaning in a component, or is not rejected.
-    NoMatch,
+    /// A text is not a URL, or the text of its base URL is not one.
+    NoUrl,
+    /// A text is not a path.
+    NoPath,
+    /// A URL or the text of its base URL has 2^24 bytes or more.
+    TooLong,
     /// A text is not UTF-8.
     NotUtf8,
     /// The pattern is rejected, the JSON is not an init, or the pattern has no URL with the given
@@ -26,6 +32,8 @@ pub enum Status {
     TooSmall,
     /// Whether a pattern covers another one is not known.
     Unknown,
+    /// The patterns are those of another handle too, and none is appended.
+    Shared,
 }
 
 impl Status {
@@ -34,14 +42,18 @@ impl Status {
         ensures { result ≡ status_number self }
     {
         match self {
-            Status::Done => 0,
-            Status::NoMatch => 1,
-            Status::NotUtf8 => 2,
-            Status::Refused => 3,
-            Status::OutOfMemory => 4,
-            Status::NoPattern => 5,
-            Status::TooSmall => 6,
-            Status::Unknown => 7,
+            Status::NoMatch => 0,
+            Status::Done => 1,
+            Status::NoUrl => 2,
+            Status::NoPath => 3,
+            Status::TooLong => 4,
+            Status::NotUtf8 => 5,
+            Status::Refused => 6,
+            Status::OutOfMemory => 7,
+            Status::NoPattern => 8,
+            Status::TooSmall => 9,
+            Status::Unknown => 10,
+            Status::Shared => 11,
         }
     }
 }

@@ -88,7 +88,7 @@ pub fn component_of(number: u32) -> Option<ComponentName>
 
 /// The part of a text that begins at byte `start` and has `count` bytes. `None`: the part is out of
 /// range, or not UTF-8.
-fn part_of(text: &[u8], start: usize, count: usize) -> Option<&str>
+pub fn part_of(text: &[u8], start: usize, count: usize) -> Option<&str>
     ensures part { IfSome result (λ part. IsPart text.now start count part.now) }
     ensures none { IfNone result (IsNoPart text.now start count) }
 {

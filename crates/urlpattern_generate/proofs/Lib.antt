@@ -8,12 +8,12 @@ pub mod RequestedLemmas
 pub mod FoundCaptures
 pub mod GeneratingLemmas
 pub mod GivenLemmas
+pub mod EncodedLemmas
 pub mod HostTexts
 pub mod KeptValues
 pub mod MadeMatchers
 pub mod OpaquePaths
 pub mod PortTexts
-pub mod SetTests
 pub mod SetTexts
 pub mod PartTextLemmas
 pub mod WritingLemmas

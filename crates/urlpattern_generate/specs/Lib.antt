@@ -8,6 +8,7 @@ pub mod Generating
 pub mod CanonicalValues
 pub mod WriteSettings
 pub mod WrittenTexts
+pub mod EncodedGroups
 pub mod NoLinkText
 pub mod UrlLines
 pub mod UrlsOfTexts

@@ -7,6 +7,7 @@
 mod canonical_values;
 mod component_text;
 mod confirm;
+mod encoded_groups;
 mod generate_error;
 mod generated_component;
 mod given_groups;
@@ -19,6 +20,7 @@ mod substitution;
 pub mod text_laws;
 mod url_line;
 
+pub use encoded_groups::{EncodedGroup, as_given, changed_group, encoded_values};
 pub use generate_error::GenerateError;
 pub use generated_component::{confirms, generate_component, written_component};
 pub use given_groups::GivenGroup;

@@ -1,4 +1,4 @@
--- The texts of a valid URL are lines.
+-- The texts of a valid URL are lines of ASCII.
 use Rattle.std.proofs.Common.{◌≡◌, ◌∙◌, ◌<◌, ℕ, Bool, false, not, ◌==◌, ◌&&◌, ltb, List, [], ◌++◌, length, All, None, Some, Ok, ap, refl, subst, sym, ⊎_elim, arith}
 use Rattle.std.proofs.lemmas.Bool.{and_parts}
 use Rattle.std.proofs.lemmas.Bool.Decides.{nat_tests}
@@ -31,8 +31,9 @@ use Rattle.url.specs.declared.scheme.SchemeType.TheVariants.{File, NotSpecial, S
 use Rattle.url.specs.declared.sets.TheConstants.{FORBIDDEN_DOMAIN, FRAGMENT, OPAQUE_PATH, QUERY, SPECIAL_QUERY, USERINFO}
 use Rattle.url.specs.declared.slicing.Position.TheVariants.{AfterPort, BeforePort}
 use Rattle.urlpattern_init.specs.Inheritance.{texts_of_url}
-use Rattle.urlpattern_init.specs.UrlTexts.{IsLine, TextsOfUrlsAreLines}
+use Rattle.urlpattern_init.specs.UrlTexts.{IsLine, TextsOfUrlsAreAscii, TextsOfUrlsAreLines}
 use Rattle.urlpattern_components.proofs.EightLemmas.{by_name}
+use Rattle.urlpattern_components.specs.declared.eight.ComponentName.{ComponentName}
 use Rattle.urlpattern_components.specs.Eight.{at}
 use Rattle.urlpattern_syntax.specs.Text.{lacks, line_feed}
 
@@ -91,18 +92,25 @@ own_scheme_line url valid = All-weaker (Passes is_scheme_byte) (Passes is_line_b
 path_line : (url : Parts) → IsValid url → All (Passes is_line_byte) url.path
 path_line url valid = All_kept is_line_byte OPAQUE_PATH refl url.path (path_kept url valid.path)
 
--- All eight texts are lines.
+-- What holds of the characters of ASCII bytes without line feeds holds of all eight texts.
+each_text : (Is : List ℕ → Type 0) → ((bytes : List ℕ) → All (Passes is_line_byte) bytes → Is (chars bytes)) → (url : Parts) → IsValid url → (component : ComponentName) → Is (at (texts_of_url url) component)
+each_text Is of url valid =
+    by_name (λ name. Is (at (texts_of_url url) name))
+    (of url.scheme (own_scheme_line url valid.head))
+    (of url.username (All_kept is_line_byte USERINFO refl url.username valid.head.username))
+    (of url.password (All_kept is_line_byte USERINFO refl url.password valid.head.password))
+    (of (host_text (host_or_empty url)) (own_host_line url valid.head))
+    (of (text_between url BeforePort AfterPort) (All-append (Passes is_line_byte) (unwrap_or (option_map decimal url.port) []) [] (port_line url.scheme url.port valid.head.port) (All-nil (Passes is_line_byte))))
+    (of url.path (path_line url valid))
+    (of (unwrap_or url.query []) (All_part (Passes is_line_byte) _ url.query (query_line (kind_of url)) valid.query))
+    (of (unwrap_or url.fragment []) (All_part (Passes is_line_byte) FRAGMENT url.fragment (passes_from_kept FRAGMENT is_line_byte refl) valid.fragment))
+
+-- All eight texts are lines of ASCII.
 pub texts_of_urls : TextsOfUrlsAreLines
-texts_of_urls url valid =
-    by_name (λ name. IsLine (at (texts_of_url url) name))
-    (line_of url.scheme (own_scheme_line url valid.head))
-    (line_of url.username (All_kept is_line_byte USERINFO refl url.username valid.head.username))
-    (line_of url.password (All_kept is_line_byte USERINFO refl url.password valid.head.password))
-    (line_of (host_text (host_or_empty url)) (own_host_line url valid.head))
-    (line_of (text_between url BeforePort AfterPort) (All-append (Passes is_line_byte) (unwrap_or (option_map decimal url.port) []) [] (port_line url.scheme url.port valid.head.port) (All-nil (Passes is_line_byte))))
-    (line_of url.path (path_line url valid))
-    (line_of (unwrap_or url.query []) (All_part (Passes is_line_byte) _ url.query (query_line (kind_of url)) valid.query))
-    (line_of (unwrap_or url.fragment []) (All_part (Passes is_line_byte) FRAGMENT url.fragment (passes_from_kept FRAGMENT is_line_byte refl) valid.fragment))
+texts_of_urls = each_text IsLine line_of
+
+pub ascii_of_urls : TextsOfUrlsAreAscii
+ascii_of_urls = each_text IsAscii (λ bytes all. subst IsAscii (sym (chars_of bytes all)) (ascii_of bytes all))
 
 -- ---- from texts to parts
 

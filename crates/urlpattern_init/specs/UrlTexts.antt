@@ -1,5 +1,5 @@
--- The texts of a URL are lines.
-use Rattle.std.specs.Prelude.{ℕ, List, IsTrue}
+-- The texts of a URL are lines of ASCII.
+use Rattle.std.specs.Prelude.{ℕ, List, IsAscii, IsTrue}
 use Rattle.std.specs.Str.{all_scalars}
 use Rattle.url.specs.Parts.{IsValid, Parts}
 use Rattle.urlpattern_init.specs.Inheritance.{texts_of_url}
@@ -19,3 +19,11 @@ EachIsLine texts = (component : ComponentName) → IsLine (at texts component)
 -- Each of the eight texts of a valid URL is a line.
 abbrev pub TextsOfUrlsAreLines : Type 0
 TextsOfUrlsAreLines = (url : Parts) → IsValid url → EachIsLine (texts_of_url url)
+
+-- Each of the eight texts is ASCII.
+abbrev pub EachIsAscii : Texts → Type 0
+EachIsAscii texts = (component : ComponentName) → IsAscii (at texts component)
+
+-- Each of the eight texts of a valid URL is ASCII.
+abbrev pub TextsOfUrlsAreAscii : Type 0
+TextsOfUrlsAreAscii = (url : Parts) → IsValid url → EachIsAscii (texts_of_url url)

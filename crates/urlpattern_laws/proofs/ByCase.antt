@@ -1,20 +1,24 @@
 -- What components return, and what a pattern finds, by their pattern texts, where case is kept in
 -- some components and ignored in others.
-use Rattle.std.proofs.Common.{◌≡◌, ◌∙◌, ℕ, Bool, true, false, List, ap, inl, inr, refl, subst, sym, Option, Result, Some, None, true≢false}
+use Rattle.std.proofs.Common.{◌≡◌, ◌∙◌, ◌⊎◌, ℕ, Bool, true, false, List, ap, inl, inr, refl, subst, sym, Option, Result, Some, None, true≢false}
 use Rattle.std.proofs.lemmas.Option.{same_Some}
-use Rattle.std.specs.Prelude.{⊤, Ok, Err}
-use Rattle.urlpattern_compile.specs.Compiled.{IsComponentCompiled, ParseSettings, settings_of}
+use Rattle.std.specs.Prelude.{⊤, IsAscii, Ok, Err}
+use Rattle.urlpattern_compile.specs.Compiled.{IsComponentCompiled, ParseSettings, ReadsAs, settings_of}
 use Rattle.urlpattern_components.specs.Eight.{Texts, at}
 use Rattle.urlpattern_components.specs.declared.eight.ComponentName.{ComponentName}
 use Rattle.urlpattern_expressions.specs.PartWays.{parts_first_way_by}
+use Rattle.urlpattern_expressions.specs.SimpleExpressions.{AreOfAscii, AreSimpleBy}
+use Rattle.urlpattern_init.proofs.UrlTexts.{ascii_of_urls, texts_of_urls}
 use Rattle.urlpattern_init.specs.UrlTexts.{IsLine}
+use Rattle.urlpattern_laws.proofs.CustomByCase.{custom_first}
 use Rattle.urlpattern_laws.proofs.FirstOfTrees.{first_of_tree}
 use Rattle.urlpattern_laws.proofs.InputTexts.{match_of_texts, refusal_of_texts}
 use Rattle.urlpattern_laws.proofs.MatchersFirst.{engine_first, fast_first}
 use Rattle.urlpattern_laws.proofs.MatchersTaken.{made_between}
 use Rattle.urlpattern_laws.proofs.OutcomesOne.{answers_by}
 use Rattle.urlpattern_laws.proofs.SimpleMatchers.{fast}
-use Rattle.urlpattern_laws.specs.ByCase.{FindingsAreByCase, FindingsByCaseAreOne, FirstsAreReturnedByCase, FirstsAreReturnedWithoutEngine, HoldsNoEngine, InputFindingsAreByCase, IsFirstResultByCase, IsFirstWayByCase, IsFoundByCase, IsMeantByCase}
+use Rattle.urlpattern_laws.specs.ByCase.{FindingsAreByCase, FindingsByCaseAreOne, FirstsAreReturnedByCase, FirstsAreReturnedWithoutEngine, HoldsNoEngine, InputFindingsAreByCase, IsFirstResultByCase, IsFirstWayByCase, IsFoundByCase, IsLineByCase, IsMeantByCase, TextsOfUrlsAreLinesByCase}
+use Rattle.urlpattern_laws.specs.LawsOfWays.{ValuesReturnFirstByFlags}
 use Rattle.urlpattern_matcher.proofs.FirstMatchers.{flags_agree}
 use Rattle.urlpattern_matcher.specs.Components.{ComponentView, IsEngineOf, engine_flags}
 use Rattle.urlpattern_matcher.specs.FirstWays.{ValuesReturnByFlags}
@@ -31,7 +35,7 @@ use Rattle.urlpattern_meaning.specs.PartMeaning.{AreGenerated, Captures}
 use Rattle.urlpattern_meaning.specs.Ways.{first_way_by}
 use Rattle.urlpattern_pattern.proofs.ByTextLemmas.{answer_first}
 use Rattle.urlpattern_pattern.proofs.MeaningLemmas.{read_once}
-use Rattle.urlpattern_pattern.specs.ByText.{IsFirstWay, MakesFirstWays}
+use Rattle.urlpattern_pattern.specs.ByText.{IsFirstWay, MakesFirstWays, ReadsNoCustom}
 use Rattle.urlpattern_syntax.specs.Errors.{ErrorView}
 use Rattle.urlpattern_syntax.specs.Options.{OptionsView}
 use Rattle.urlpattern_syntax.specs.{Parts.PartView, RegexpText.group_names, RegexpText.regexp_text}
@@ -92,14 +96,30 @@ first_without_engine engine settings compiled text result is_compiled none line 
           (fast engine.answer (IsEngineOf engine false (engine_flags options)) options parts compiled.matcher made kept is text result line.no_line_feed line.characters answers).is_captured;
     }
 
-module _ {E : Type 0} (engine : Engine E) (firsts : MakesFirstWays engine) (by_flags : ValuesReturnByFlags engine) where
+module _ {E : Type 0} (engine : Engine E) (by_flags : ValuesReturnByFlags engine) (by_parts : ValuesReturnFirstByFlags engine) where
+  -- Where case is ignored, a matcher of parts that have a meaning returns their first way.
+  ignored_first : (settings : ParseSettings) (parts : List PartView) (matcher : MatcherView E) (text : List ℕ) (result : Option Captures) → settings.options.ignore_case ≡ true → ReadsAs settings parts
+      → IsMadeOf (IsEngineOf engine false (engine_flags settings.options)) settings.options parts matcher → AcceptedText (λ value. ⊤) matcher.inner → AreSimpleBy settings.options.ignore_case parts
+      → (settings.options.ignore_case ≡ false) ⊎ (AreGenerated parts ⊎ AreOfAscii settings.options parts) → IsLine text → (settings.options.ignore_case ≡ false) ⊎ (ReadsNoCustom settings ⊎ IsAscii text)
+      → Returns engine.answer matcher text result → result ≡ parts_first_way_by settings.options.ignore_case settings.options parts text
+  ignored_first settings parts matcher text result ignored reads made took simple (inl kept) line low answers = absurd (true≢false (sym ignored ∙ kept))
+  ignored_first settings parts matcher text result ignored reads made took simple (inr (inl generated)) line low answers =
+      generated_first engine by_flags settings.options parts matcher made generated text line result answers took
+  ignored_first settings parts matcher text result ignored reads made took simple (inr (inr plain)) line (inl kept) answers = absurd (true≢false (sym ignored ∙ kept))
+  ignored_first settings parts matcher text result ignored reads made took simple (inr (inr plain)) line (inr (inl none)) answers =
+      generated_first engine by_flags settings.options parts matcher made (none parts reads) text line result answers took
+  ignored_first settings parts matcher text result ignored reads made took simple (inr (inr plain)) line (inr (inr ascii)) answers =
+      custom_first engine by_parts settings.options parts matcher made simple plain text line ascii result answers took
+
+module _ {E : Type 0} (engine : Engine E) (firsts : MakesFirstWays engine) (by_flags : ValuesReturnByFlags engine) (by_parts : ValuesReturnFirstByFlags engine) where
   pub first_by_case : FirstsAreReturnedByCase engine
   first_by_case settings compiled text result is_compiled meant line answers = by settings.options.ignore_case refl
     where
       by : (ignores : Bool) → settings.options.ignore_case ≡ ignores → IsFirstWayByCase settings text result
       by false kept =
+          let simple = λ (parts : List PartView) (reads : ReadsAs settings parts). subst (λ (b : Bool). AreSimpleBy b parts) kept (meant parts reads).simple in
           let first : IsFirstWay settings text result =
-          answer_first engine.answer settings compiled (answers_by engine settings compiled firsts (record { simple = λ parts reads. (meant parts reads).simple; case_kept = kept }) is_compiled) text line result answers in
+          answer_first engine.answer settings compiled (answers_by engine settings compiled firsts (record { simple = simple; case_kept = kept }) is_compiled) text line.0 result answers in
           record {
             parts = first.parts;
             reads = first.reads;
@@ -108,18 +128,20 @@ module _ {E : Type 0} (engine : Engine E) (firsts : MakesFirstWays engine) (by_f
           }
       by true ignored =
           let (parts, reads, is_component) = is_compiled.0 in
-          let generated : AreGenerated parts = elim (meant parts reads).by_case [ inl kept ↦ absurd (true≢false (sym ignored ∙ kept)) | inr plain ↦ plain ] in
+          let have = meant parts reads in
           record {
             parts = parts;
             reads = reads;
-            is_first = generated_first engine by_flags settings.options parts compiled.matcher is_component.has_matcher generated text line result answers is_compiled.1.of_matcher;
+            is_first =
+                ignored_first engine by_flags by_parts settings parts compiled.matcher text result ignored reads is_component.has_matcher is_compiled.1.of_matcher have.simple have.by_case
+                line.0 line.1 answers;
             is_captured = λ kept. absurd (true≢false (sym ignored ∙ kept));
           }
 
 -- ---- what is found
 
 module _ {E : Type 0} (engine : Engine E) (firsts : FirstsAreReturnedByCase engine) where
-  component_result : (settings : ParseSettings) (compiled : ComponentView E) (text : List ℕ) (captures : Captures) (result : ResultView) → IsComponentCompiled engine settings compiled → IsMeantByCase settings → IsLine text →
+  component_result : (settings : ParseSettings) (compiled : ComponentView E) (text : List ℕ) (captures : Captures) (result : ResultView) → IsComponentCompiled engine settings compiled → IsMeantByCase settings → IsLineByCase settings text →
       Returns engine.answer compiled.matcher text (Some captures) → IsResultOf compiled.group_name_list captures text result → IsFirstResultByCase settings text result
   component_result settings compiled text captures result is_compiled meant line answers is_result =
       let (parts, reads, is_component) = is_compiled.0 in
@@ -142,6 +164,11 @@ module _ {E : Type 0} (engine : Engine E) (firsts : FirstsAreReturnedByCase engi
   input_found_by_case asked values pattern input None texts compiled are_texts short refused =
       found_by_case asked values pattern texts None compiled (refusal_of_texts engine.answer pattern input texts are_texts short refused)
 
+-- ---- texts of URLs
+
+pub texts_by_case : TextsOfUrlsAreLinesByCase
+texts_by_case settings url valid component = (texts_of_urls url valid component, inr (inr (ascii_of_urls url valid component)))
+
 -- ---- one result
 
 way_one : (settings : ParseSettings) (text : List ℕ) (captures others : Option Captures) → IsFirstWayByCase settings text captures → IsFirstWayByCase settings text others → captures ≡ others
@@ -159,7 +186,7 @@ result_one settings text result other first last =
           ∙ ap (λ (c : Captures). group_of (group_names last.way.parts) c name) captures ∙ sym (last.is_result.has_groups name),
     )
 
-differ : (settings : ComponentName → ParseSettings) (texts : Texts) (result : ComponentName → ResultView) → ((component : ComponentName) → IsMeantByCase (settings component) × IsLine (at texts component)) →
+differ : (settings : ComponentName → ParseSettings) (texts : Texts) (result : ComponentName → ResultView) → ((component : ComponentName) → IsMeantByCase (settings component) × IsLineByCase (settings component) (at texts component)) →
     IsFoundByCase settings texts None → IsFoundByCase settings texts (Some result) → ⊥
 differ settings texts result all none found =
     let (component, way) = none all in

@@ -1,8 +1,7 @@
 -- Choices in sequence, repeated and captured: how they split a text, and that attempts try their
 -- ways in order.
-use Rattle.std.proofs.Common.{◌≡◌, ℕ, ◌≤◌, ap₂, encode_utf8, suc, ◌+◌, ◌*◌, List, [], ◌∷◌, ◌++◌, length, drop, Option, Some, None, Bool, true, false, cond, ◌==◌, slice_get, refl, sym, ap, ◌∙◌, subst, append_assoc, append-nil, length-append, inl, inr, arith, eq-eqb, eqb-true, true≢false}
+use Rattle.std.proofs.Common.{◌≡◌, ℕ, ◌≤◌, ap₂, encode_utf8, suc, ◌+◌, ◌*◌, List, [], ◌∷◌, ◌++◌, length, drop, Option, Some, None, Bool, true, false, cond, ◌==◌, slice_get, refl, sym, ap, ◌∙◌, subst, append_assoc, append-nil, inl, inr, arith, eq-eqb, eqb-true, true≢false}
 use Rattle.std.proofs.lemmas.Bool.{and_parts, cond-false}
-use Rattle.std.proofs.lemmas.List.{length-replicate}
 use Rattle.std.proofs.lemmas.Option.{none-some, same_Some}
 use Rattle.std.proofs.lemmas.Str.{length-encode}
 use Rattle.std.specs.Char.{IsScalar, len_utf8}
@@ -18,66 +17,18 @@ use Rattle.urlpattern_laws.proofs.Bare.{bare}
 use Rattle.urlpattern_laws.proofs.Takes.{at_push, char_here, character_of}
 use Rattle.urlpattern_expressions.specs.Expressions.{is_groupless, matches_characters}
 use Rattle.urlpattern_expressions.specs.PartWays.{captured_whole, followed_by, pattern_ways}
-use Rattle.urlpattern_meaning.proofs.WayLists.{every-append, every-cond, every-continued, every-map, every-weaker}
-use Rattle.urlpattern_meaning.proofs.WaysSound.{IsSound, AreSound, nil_of_zero, taken-count, taken-sound}
-use Rattle.urlpattern_meaning.specs.Dialect.{AllowsGroups, IsQuantified, Quantifier, Once, Optional, ZeroOrMore, OneOrMore, LazyOneOrMore}
-use Rattle.urlpattern_meaning.specs.PartMeaning.{Captures}
-use Rattle.urlpattern_meaning.specs.Ways.{Way, WaysByText, capturing, empty_way, looped, one_that, quantified_ways}
+use Rattle.urlpattern_meaning.proofs.WayLists.{every-weaker}
+use Rattle.urlpattern_meaning.proofs.WaysSound.{IsSound, nil_of_zero}
+use Rattle.urlpattern_meaning.specs.Dialect.{AllowsGroups, Quantifier, Once, Optional, ZeroOrMore, OneOrMore, LazyOneOrMore}
+use Rattle.urlpattern_meaning.specs.Ways.{Way, WaysByText, empty_way, looped, one_that, quantified_ways}
 use Rattle.urlpattern_engine.proofs.GroupSlots.{Shown, shown-append, shown-capturing, shown-empty_way}
 use Rattle.urlpattern_engine.proofs.ItemsRead.{repeated_as}
 use Rattle.urlpattern_engine.proofs.LoopAttempts.{Suits, leaf, looped-suits}
 use Rattle.urlpattern_engine.proofs.TreeAttempts.{re_taken}
+pub use Rattle.urlpattern_engine.proofs.WaysCounted.{HasCaptures, Cuts, allows_none, cuts_captured, cuts_either, cuts_followed, cuts_idle, cuts_looped, cuts_one, cuts_quantified}
 use Rattle.urlpattern_engine.proofs.WayResults.{at, Gave, gave-append, gave-capturing, gave-continued, gave-empty_way}
 
 -- ---- splitting texts
-
--- The number of captures is `count`.
-abbrev pub HasCaptures : (count : ℕ) → List ℕ → Captures → Type 0
-HasCaptures count taken captures = length captures ≡ count
-
--- Each way splits the text in two, with `count` captures.
-abbrev pub Cuts : WaysByText → (count : ℕ) → Type 0
-Cuts choice count = AreSound choice (HasCaptures count)
-
-pub cuts_idle : (groups : ℕ) → Cuts (λ text. empty_way groups text ∷ []) groups
-cuts_idle groups text = let nothing : Option (List ℕ) = None in ((refl, length-replicate groups nothing), tt)
-
-pub cuts_one : (passes : ℕ → Bool) → Cuts (one_that passes) 0
-cuts_one passes [] = tt
-cuts_one passes (c ∷ text) = every-cond (IsSound (c ∷ text) (HasCaptures 0)) (passes c) _ _ ((refl, refl), tt) tt
-
-pub cuts_followed : (first next : WaysByText) (m n : ℕ) → Cuts first m → Cuts next n → Cuts (followed_by first next) (m + n)
-cuts_followed first next m n cuts also text =
-    every-continued (IsSound text (HasCaptures m)) (IsSound text (HasCaptures (m + n))) next (first text) (cuts text)
-    (λ way p. every-weaker (IsSound way.rest (HasCaptures n)) _ (next way.rest)
-    (λ more q. (
-      p.0 ∙ ap (λ r. way.taken ++ r) q.0 ∙ sym (append_assoc way.taken more.taken more.rest),
-      omega (arith, length-append way.captures more.captures, p.1, q.1),
-    ))
-    (also way.rest))
-
-pub cuts_either : (first other : WaysByText) (n : ℕ) → Cuts first n → Cuts other n → Cuts (λ text. first text ++ other text) n
-cuts_either first other n cuts also text = every-append _ (first text) (other text) (cuts text) (also text)
-
-pub cuts_captured : (choice : WaysByText) (n : ℕ) → Cuts choice n → Cuts (captured_whole choice) (suc n)
-cuts_captured choice n cuts text =
-    every-map _ capturing (choice text) (every-weaker (IsSound text (HasCaptures n)) _ (choice text) (λ way p. (p.0, ap (λ k. suc k) p.1)) (cuts text))
-
-pub cuts_quantified : (quantifier : Quantifier) (groups : ℕ) (choice : WaysByText) → AllowsGroups quantifier groups → Cuts choice groups → Cuts (quantified_ways quantifier groups choice) groups
-cuts_quantified quantifier groups choice allowed cuts text =
-    every-weaker (IsSound text (IsQuantified quantifier groups (HasCaptures groups))) _ (quantified_ways quantifier groups choice text)
-    (λ way p. (p.0, taken-count quantifier groups (HasCaptures groups) allowed (λ t c e. e) way.taken way.captures p.1))
-    (taken-sound quantifier groups choice (HasCaptures groups) allowed (λ t c e. e) cuts text)
-
--- A choice without captures may be repeated.
-pub allows_none : (quantifier : Quantifier) → AllowsGroups quantifier 0
-allows_none Once = tt
-allows_none Optional = tt
-allows_none quantifier = refl
-
-pub cuts_looped : (greedy : Bool) (choice : WaysByText) → Cuts choice 0 → Cuts (looped greedy choice) 0
-cuts_looped true choice cuts = cuts_quantified OneOrMore 0 choice refl cuts
-cuts_looped false choice cuts = cuts_quantified LazyOneOrMore 0 choice refl cuts
 
 pub pattern_cuts : (re : Re) → Cuts (pattern_ways re) 0
 pattern_cuts empty text = cuts_idle 0 text

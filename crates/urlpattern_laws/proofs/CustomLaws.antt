@@ -17,6 +17,7 @@ use Rattle.urlpattern_laws.proofs.FirstOfTrees.{first_of_either_case, first_of_t
 use Rattle.urlpattern_laws.proofs.MatchersCapture.{matchers_capture}
 use Rattle.urlpattern_laws.proofs.MatchersFirst.{matchers_first}
 use Rattle.urlpattern_laws.proofs.MatchersTaken.{matchers_taken}
+use Rattle.urlpattern_laws.proofs.ValuesByCase.{values_by_case}
 use Rattle.urlpattern_laws.proofs.ValuesTaken.{first_captured, pattern_values_capture, pattern_values_first, pattern_values_taken, regex_values_capture, regex_values_first, regex_values_taken}
 use Rattle.urlpattern_expressions.specs.Expressions.{ExpressionMatches, MatchesWhole}
 use Rattle.urlpattern_laws.specs.LawsOfTexts.{ComponentsCapture, HasMatcherPremises, MatchersReturnIfMatched, MatchersCapture, ReadsInGroups}
@@ -33,23 +34,23 @@ use Rattle.urlpattern_syntax.specs.{Options.OptionsView, Parts.PartView}
 
 pub reads_in_groups : ReadsInGroups
 unfolding join_parts
-reads_in_groups expression rest steps names h = by (branches steps (at_text names (expression ++ (codes ")" ++ rest)))) refl
+reads_in_groups expression rest steps names h = by (branches steps (at_text false names (expression ++ (codes ")" ++ rest)))) refl
   where
-    by : (o : Option (List (Nested Re) × Place)) → branches steps (at_text names (expression ++ (codes ")" ++ rest))) ≡ o
+    by : (o : Option (List (Nested Re) × Place)) → branches steps (at_text false names (expression ++ (codes ")" ++ rest))) ≡ o
         → IfSome o (λ (patterns, end). (end.text ≡ codes ")" ++ rest) × ((text : List ℕ) → IsTrue (all_scalars text) → MatchesWhole (join alt_all patterns).value text ↔ ExpressionMatches expression text))
     by None e = tt
     by (Some found) e =
-        let inside = (custom_inside expression h).reads rest steps names (join alt_all found.0) found.1 (ap (join_parts alt_all) e) in (
+        let inside = (custom_inside false expression h).reads rest steps names (join alt_all found.0) found.1 (ap (join_parts alt_all) e) in (
           inside.at_close,
           λ text fine.
-              let whole = whole_takes (join alt_all found.0).value inside.fulfils.denotes.plain text fine in
-              let same = inside.fulfils.denotes.same text fine in
+              let whole = whole_takes (join alt_all found.0).value inside.fulfils.plain text fine in
+              let same = (inside.fulfils.denotes refl).same text fine in
               (λ takes. same.0 (whole.1 takes), λ takes. whole.0 (same.1 takes)),
         )
 
 -- ---- values
 
-pub ruleset first_ways = (first_captured, first_of_tree, first_of_either_case, pattern_values_first, regex_values_first)
+pub ruleset first_ways = (first_captured, first_of_tree, first_of_either_case, pattern_values_first, regex_values_first, values_by_case)
 
 -- ---- matchers
 

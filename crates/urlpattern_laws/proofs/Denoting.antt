@@ -132,7 +132,7 @@ denotes_quantified LazyOneOrMore sub A d = denotes_plus false sub.value A d
 
 -- ---- without groups
 
-plain_bare : (a : Re) → matches_characters (bare a) ≡ matches_characters a
+pub plain_bare : (a : Re) → matches_characters (bare a) ≡ matches_characters a
 plain_bare (cat a b) = ap₂ ◌&&◌ (plain_bare a) (plain_bare b)
 plain_bare (alt a b) = ap₂ ◌&&◌ (plain_bare a) (plain_bare b)
 plain_bare (group n a) = plain_bare a

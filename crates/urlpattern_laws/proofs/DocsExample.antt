@@ -21,7 +21,7 @@ use Rattle.urlpattern_engine.specs.PatternRegexps.{pattern_engine}
 use Rattle.urlpattern_expressions.specs.Expressions.{ExpressionMatches, matches_characters}
 use Rattle.urlpattern_expressions.specs.MatchedPartTexts.{IsMatchedCopy, PartsMatch}
 use Rattle.urlpattern_expressions.specs.PartCaptures.{PartsCapture}
-use Rattle.urlpattern_expressions.specs.SimpleExpressions.{AreSimple, is_simple}
+use Rattle.urlpattern_expressions.specs.SimpleExpressions.{AreSimple, is_simple, is_simple_by}
 use Rattle.urlpattern_laws.proofs.RouteSplits.{docs_split, docs_text, languages_body}
 use Rattle.urlpattern_init.specs.Inheritance.{processed_values}
 use Rattle.urlpattern_init.specs.SpecialProtocol.{IsSpecialTo}
@@ -96,7 +96,7 @@ docs_read parts reads =
     cc
 
 languages_simple : IsTrue (is_simple (codes "en|fr"))
-unfolding is_simple read branches items item atom char_meaning join_parts with_repetitions repetitions first skip verbatim names_below char_at has_bytes_at chars encode
+unfolding is_simple_by read branches items item atom char_meaning join_parts with_repetitions repetitions first skip verbatim names_below char_at has_bytes_at chars encode
 languages_simple = refl
 
 docs_simple : AreSimple docs_parts

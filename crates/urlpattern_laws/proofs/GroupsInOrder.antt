@@ -10,7 +10,7 @@ use Rattle.urlpattern_engine.specs.GrammarReadings.{ValuesReturnAsRead}
 use Rattle.urlpattern_engine.specs.PatternRegexps.{pattern_engine}
 use Rattle.urlpattern_init.specs.UrlTexts.{IsLine}
 use Rattle.urlpattern_laws.proofs.MatchersTaken.{asked, made_between}
-use Rattle.urlpattern_laws.proofs.ValuesTaken.{expression_some}
+use Rattle.urlpattern_laws.proofs.ValuesTaken.{some_if_kept}
 use Rattle.urlpattern_laws.specs.OwnGroups.{AreOfGroups, ComponentsCaptureByGroups}
 use Rattle.urlpattern_matcher.proofs.FirstMatchers.{flags_agree}
 use Rattle.urlpattern_matcher.specs.Components.{IsEngineOf, engine_flags}
@@ -74,7 +74,7 @@ module _ {E : Type 0} (engine : Engine E) (Keeps : Keeping) (keeps : (options : 
 pub pattern_groups : ComponentsCaptureByGroups pattern_engine
 pattern_groups =
     component_groups pattern_engine KeepsCase (λ options kept. flags_agree options ∙ kept) pattern_values_read
-    (λ regexp flags value keeps made. expression_some value.ignore_case regexp value.strategy (made.by_flags ∙ keeps) made.of_text made.has_numbers)
+    (λ regexp flags value keeps made. some_if_kept value.ignore_case regexp value.strategy (made.by_flags ∙ keeps) made.of_text made.has_numbers)
 
 pub regex_groups : ComponentsCaptureByGroups regex_engine
 regex_groups =

@@ -4,6 +4,7 @@ pub mod InitValues
 pub mod ChangedParts
 pub mod CanonicalAgain
 pub mod InputTexts
+pub mod CustomByCase
 pub mod ByCase
 pub mod EcmaMatchers
 pub mod RegexGroups
@@ -27,15 +28,17 @@ pub mod Choices
 pub mod Senses
 pub mod ItemsOf
 pub mod GroupsOf
-pub mod KeptWays
 pub mod CustomGroups
 pub mod PieceItems
 pub mod PartCharacters
 pub mod GroupItems
 pub mod PartItems
+pub mod AsciiParts
+pub mod AsciiExpressions
 pub mod WholeRead
 pub mod FirstFound
 pub mod ValuesTaken
+pub mod ValuesByCase
 pub mod TakenMeanings
 pub mod MatchersTaken
 pub mod MatchersCapture
@@ -62,3 +65,4 @@ pub mod MatchingLemmas
 pub mod EngineParts
 pub mod GroupsInOrder
 pub mod KeptMeaning
+pub mod CommonMatched

@@ -184,12 +184,13 @@ module _ {E : Type 0} (answer : E → List ℕ → Option Captures) (IsEngine : 
       fast_between (end_text made.front) made.middle (end_text made.back) matcher no_feed is made.is_made answers
       ∙ ap (λ (choice : WaysByText). first_of (choice text)) (sym (peeled_ways config same options parts made.front made.middle made.back made.are_stripped))
 
-  -- A matcher whose engine returns the first way of the middle parts.
-  pub engine_first : (parts : List PartView) (front : Option PartView) (middle : List PartView) (back : Option PartView) (matcher : MatcherView E) (engine : E) → AreStripped parts front middle back →
-      HasEnds options matcher (end_text front) (end_text back) → matcher.inner ≡ RegExp (Ok engine) → ((t : List ℕ) → IsTrue (all_scalars t) → answer engine t ≡ parts_first_way_by options.ignore_case options middle t) →
-      IsTrue (all_scalars text) → Returns answer matcher text result → result ≡ parts_first_way_by options.ignore_case options parts text
+  -- A matcher whose engine returns the first way of the middle parts for substrings of the text.
+  pub engine_first_within : (parts : List PartView) (front : Option PartView) (middle : List PartView) (back : Option PartView) (matcher : MatcherView E) (engine : E) → AreStripped parts front middle back →
+      HasEnds options matcher (end_text front) (end_text back) → matcher.inner ≡ RegExp (Ok engine) →
+      ((head inner tail : List ℕ) → text ≡ head ++ inner ++ tail → answer engine inner ≡ parts_first_way_by options.ignore_case options middle inner) →
+      Returns answer matcher text result → result ≡ parts_first_way_by options.ignore_case options parts text
   unfolding parts_first_way_by
-  engine_first parts front middle back matcher engine peeled ends is firsts fine answers =
+  engine_first_within parts front middle back matcher engine peeled ends is firsts answers =
       let choice : WaysByText = parts_ways_as config same options middle in
       returned_first answer matcher choice (parts_count middle) (steady_parts config same options middle) text accepts result answers
       ∙ ap (λ (b : Bool). first_of (between (is_same_character b) matcher.prefix matcher.suffix choice text)) ends.2
@@ -199,10 +200,18 @@ module _ {E : Type 0} (answer : E → List ℕ → Option Captures) (IsEngine : 
     where
       accepts : AcceptsFirst answer matcher (parts_ways_as config same options middle) (parts_count middle) (steady_parts config same options middle) text
       accepts head inner tail captures cut =
-          let here : IsTrue (all_scalars inner) = scalars_middle head inner tail (subst (λ (t : List ℕ). IsTrue (all_scalars t)) cut fine) in (
-            λ found. sym (firsts inner here) ∙ subst (λ (i : InnerView E). Accepts answer matcher.ignore_case i inner captures) is found,
-            λ e. subst (λ (i : InnerView E). Accepts answer matcher.ignore_case i inner captures) (sym is) (firsts inner here ∙ e),
+          let here = firsts head inner tail cut in (
+            λ found. sym here ∙ subst (λ (i : InnerView E). Accepts answer matcher.ignore_case i inner captures) is found,
+            λ e. subst (λ (i : InnerView E). Accepts answer matcher.ignore_case i inner captures) (sym is) (here ∙ e),
           )
+
+  -- A matcher whose engine returns the first way of the middle parts.
+  pub engine_first : (parts : List PartView) (front : Option PartView) (middle : List PartView) (back : Option PartView) (matcher : MatcherView E) (engine : E) → AreStripped parts front middle back →
+      HasEnds options matcher (end_text front) (end_text back) → matcher.inner ≡ RegExp (Ok engine) → ((t : List ℕ) → IsTrue (all_scalars t) → answer engine t ≡ parts_first_way_by options.ignore_case options middle t) →
+      IsTrue (all_scalars text) → Returns answer matcher text result → result ≡ parts_first_way_by options.ignore_case options parts text
+  engine_first parts front middle back matcher engine peeled ends is firsts fine answers =
+      engine_first_within parts front middle back matcher engine peeled ends is
+      (λ head inner tail cut. firsts inner (scalars_middle head inner tail (subst (λ (t : List ℕ). IsTrue (all_scalars t)) cut fine))) answers
 
 -- If the values of an engine return the first way of the parts, the matchers with accepted
 -- expressions do too.

@@ -27,7 +27,7 @@ use Rattle.urlpattern_compile.specs.Compiled.{canonical_encoding}
 use Rattle.urlpattern_expressions.specs.Expressions.{ExpressionMatches}
 use Rattle.urlpattern_expressions.specs.MatchedPartTexts.{PartsMatch}
 use Rattle.urlpattern_expressions.specs.PartCaptures.{PartsCapture}
-use Rattle.urlpattern_expressions.specs.SimpleExpressions.{AreSimple, is_simple}
+use Rattle.urlpattern_expressions.specs.SimpleExpressions.{AreSimple, is_simple, is_simple_by}
 use Rattle.urlpattern_laws.proofs.RouteSplits.{digits_body, orders_split, orders_text}
 use Rattle.urlpattern_init.specs.Inheritance.{processed_values}
 use Rattle.urlpattern_init.specs.SpecialProtocol.{IsSpecialTo}
@@ -100,7 +100,7 @@ orders_read parts reads =
     cc
 
 digits_simple : IsTrue (is_simple (codes "\\d+"))
-unfolding is_simple read branches items item atom piece_meaning join_parts with_repetitions repetitions bounds repeat first skip escape one_letter negate_if one_of names_below
+unfolding is_simple_by read branches items item atom piece_meaning join_parts with_repetitions repetitions bounds repeat first skip escape one_letter negate_if one_of names_below
 digits_simple = refl
 
 orders_simple : AreSimple order_parts

@@ -3,21 +3,25 @@ use Rattle.std.proofs.Common.{◌≡◌, ◌∙◌, ◌⊎◌, ℕ, Bool, true, 
 use Rattle.std.specs.List.{flat_map}
 use Rattle.std.specs.Prelude.{⊤, All, IsTrue, option_map, option_to_list}
 use Rattle.std.specs.Str.{all_scalars}
-use Rattle.urlpattern_matcher.specs.Components.{IsEngineOf, engine_flags}
+use Rattle.urlpattern_matcher.specs.Components.{ComponentView, IsEngineOf, engine_flags}
 use Rattle.urlpattern_matcher.specs.declared.regexp.RegExp.{Ghosts as Engine}
 use Rattle.urlpattern_components.specs.Eight.{at}
 use Rattle.urlpattern_engine.specs.GrammarReadings.{ExpressionsReturnAlike}
+use Rattle.urlpattern_init.specs.UrlTexts.{IsLine}
+use Rattle.urlpattern_matches.specs.ResultViews.{IsResultOf}
 use Rattle.urlpattern_meaning.proofs.MatcherMeaning.{all_left, all_right, scalars_middle}
 use Rattle.urlpattern_meaning.proofs.PartTrees.{IsNotCustom}
 use Rattle.urlpattern_meaning.specs.FirstResults.{AcceptedText}
-use Rattle.urlpattern_meaning.specs.Matching.{Accepts, AreStripped, IsMadeBetween, IsMadeByEngine, IsMadeOf, IsMadeOfOne, IsMatched, MatcherView, RegExp, end_text}
+use Rattle.urlpattern_meaning.specs.Matching.{Accepts, AreStripped, IsMadeBetween, IsMadeByEngine, IsMadeOf, IsMadeOfOne, Matches, MatcherView, RegExp, end_text}
 use Rattle.urlpattern_meaning.specs.PartMeaning.{AreGenerated, Captures}
 use Rattle.urlpattern_pattern.proofs.MadeAlike.{AreAlike, made_alike}
 use Rattle.urlpattern_pattern.specs.UrlPatterns.{IsMadeOfParts}
 use Rattle.urlpattern_laws.proofs.ChangedParts.{peeled_changed}
-use Rattle.urlpattern_laws.specs.PartReadings.{MadeAreMatched, MatchesEachLineOf}
+use Rattle.urlpattern_laws.specs.PartReadings.{EqualAreMatched, MadeAreMatched}
 use Rattle.urlpattern_compare.proofs.NamelessParts.{all_nameless, generated_nameless, nameless}
-use Rattle.urlpattern_compare.proofs.SameParts.{same_nameless}
+use Rattle.urlpattern_compare.proofs.SameParts.{equal_same, same_nameless}
+use Rattle.urlpattern_compare.specs.{Comparing.AreSame, EqualParts.AreEqual}
+use Rattle.urlpattern_syntax.specs.declared.parts.ComponentParts.{ComponentParts}
 use Rattle.urlpattern_syntax.specs.declared.parser.PartModifier.{PartModifier}
 use Rattle.urlpattern_syntax.specs.declared.parser.PartModifier.TheVariants as modifiers
 use Rattle.urlpattern_syntax.specs.declared.parser.PartType.{PartType}
@@ -25,7 +29,7 @@ use Rattle.urlpattern_syntax.specs.declared.parser.PartType.TheVariants.{Segment
 use Rattle.urlpattern_syntax.specs.Errors.{ErrorView}
 use Rattle.urlpattern_syntax.specs.Options.{OptionsView, options_view}
 use Rattle.urlpattern_syntax.specs.Parts.{PartView, parts_view}
-use Rattle.urlpattern_syntax.specs.RegexpText.{is_fixed_text, part_regexp, part_regexp_of, regexp_text}
+use Rattle.urlpattern_syntax.specs.RegexpText.{group_names, is_fixed_text, part_regexp, part_regexp_of, regexp_text}
 
 -- ---- regular expressions have no names
 
@@ -102,47 +106,69 @@ module _ {E : Type 0} (engine : Engine E) (alike : ExpressionsReturnAlike engine
   accepted_too middle (Ok own) (Err error) settled is also took text captures fine accepts = absurd accepts
   accepted_too middle (Err error) other settled is also took text captures fine accepts = absurd took
 
+  -- `matcher` matches each line as `other` does.
+  abbrev MatchesAs : (matcher other : MatcherView E) → Type 0
+  MatchesAs matcher other = (text : List ℕ) (captures : Captures) → IsLine text → Matches engine.answer other text captures → Matches engine.answer matcher text captures
+
   matched_by_engine : (prefix : List ℕ) (middle : List PartView) (suffix : List ℕ) (matcher other : MatcherView E) → Settled middle →
       IsMadeByEngine IsEngine options prefix middle suffix matcher → IsMadeByEngine IsEngine options prefix middle suffix other →
-      AcceptedText (λ value. ⊤) matcher.inner → MatchesEachLineOf engine.answer matcher other
-  matched_by_engine prefix middle suffix matcher other settled (own, is, made) (others, also, made_too) took text line matched =
+      AcceptedText (λ value. ⊤) matcher.inner → MatchesAs matcher other
+  matched_by_engine prefix middle suffix matcher other settled (own, is, made) (others, also, made_too) took text captures line matched =
       let took_own : AcceptedText (λ value. ⊤) (RegExp own) = subst (λ (m : MatcherView E). AcceptedText (λ value. ⊤) m.inner) made took in
-      let (captures, matches) = subst (λ (m : MatcherView E). IsMatched engine.answer m text) made_too matched in
-      let (between, has, accepts) = matches in
+      let (between, has, accepts) = subst (λ (m : MatcherView E). Matches engine.answer m text captures) made_too matched in
       let (front, back, cut, begins, ends) = has in
       let fine = scalars_middle front between back (subst (λ (t : List ℕ). IsTrue (all_scalars t)) cut line.characters) in
-      subst (λ (m : MatcherView E). IsMatched engine.answer m text) (sym made)
-      (captures, (between, (front, back, cut, begins, ends), accepted_too middle own others settled is also took_own between captures fine accepts))
+      subst (λ (m : MatcherView E). Matches engine.answer m text captures) (sym made)
+      (between, (front, back, cut, begins, ends), accepted_too middle own others settled is also took_own between captures fine accepts)
 
   pub same_matched : (parts : List PartView) (matcher other : MatcherView E) → Settled parts → IsMadeOf IsEngine options parts matcher → IsMadeOf IsEngine options parts other →
-      AcceptedText (λ value. ⊤) matcher.inner → MatchesEachLineOf engine.answer matcher other
-  same_matched parts matcher other settled made also took text line matched = by (made_alike IsEngine options parts matcher other made also)
+      AcceptedText (λ value. ⊤) matcher.inner → MatchesAs matcher other
+  same_matched parts matcher other settled made also took text captures line matched = by (made_alike IsEngine options parts matcher other made also)
     where
       settled_middle : Settled parts → Settled made.middle
       settled_middle (inl kept) = inl kept
       settled_middle (inr generated) = inr (middle_generated parts made.front made.middle made.back made.are_stripped generated)
 
-      by : AreAlike IsEngine options (end_text made.front) made.middle (end_text made.back) matcher other → IsMatched engine.answer matcher text
-      by (inl same) = subst (λ (m : MatcherView E). IsMatched engine.answer m text) (sym same) matched
-      by (inr (one, two)) = matched_by_engine (end_text made.front) made.middle (end_text made.back) matcher other (settled_middle settled) one two took text line matched
+      by : AreAlike IsEngine options (end_text made.front) made.middle (end_text made.back) matcher other → Matches engine.answer matcher text captures
+      by (inl same) = subst (λ (m : MatcherView E). Matches engine.answer m text captures) (sym same) matched
+      by (inr (one, two)) = matched_by_engine (end_text made.front) made.middle (end_text made.back) matcher other (settled_middle settled) one two took text captures line matched
 
 settled_nameless : (options : OptionsView) (parts : List PartView) → (options.ignore_case ≡ false) ⊎ AreGenerated parts → (options.ignore_case ≡ false) ⊎ AreGenerated (all_nameless parts)
 settled_nameless options parts (inl kept) = inl kept
 settled_nameless options parts (inr generated) = inr (generated_nameless parts generated)
 
--- Components made of the same parts match the same texts.
+-- Components made of the same parts match the same texts, with the same captures.
+module _ {E : Type 0} (engine : Engine E) (alike : ExpressionsReturnAlike engine) (component other : ComponentParts) (compiled another : ComponentView E) where
+  made_same : IsMadeOfParts engine component compiled → IsMadeOfParts engine other another → AreSame component other → (text : List ℕ) (captures : Captures) → IsLine text →
+      Matches engine.answer another.matcher text captures → Matches engine.answer compiled.matcher text captures
+  made_same made also same =
+      let options = options_view component.options in
+      let own = parts_view component.parts.items in
+      let others : IsMadeOf (IsEngineOf engine false (engine_flags options)) options (parts_view other.parts.items) another.matcher =
+      subst (λ (o : OptionsView). IsMadeOf (IsEngineOf engine false (engine_flags o)) o (parts_view other.parts.items) another.matcher) (sym same.options) also.is_component.has_matcher in
+      let others_nameless : IsMadeOf (IsEngineOf engine false (engine_flags options)) options (all_nameless own) another.matcher =
+      subst (λ (ps : List PartView). IsMadeOf (IsEngineOf engine false (engine_flags options)) options ps another.matcher) (sym (same_nameless component other same))
+      (made_nameless (IsEngineOf engine false (engine_flags options)) options (parts_view other.parts.items) another.matcher others) in
+      same_matched engine alike options (all_nameless own) compiled.matcher another.matcher (settled_nameless options own same.kept_or_generated)
+      (made_nameless (IsEngineOf engine false (engine_flags options)) options own compiled.matcher made.is_component.has_matcher) others_nameless made.has_engine.of_matcher
+
+  names_equal : IsMadeOfParts engine component compiled → IsMadeOfParts engine other another → AreEqual component other → compiled.group_name_list ≡ another.group_name_list
+  names_equal made also equal = made.is_component.has_names ∙ ap group_names equal.parts ∙ sym also.is_component.has_names
+
 pub made_matched : {E : Type 0} (engine : Engine E) → MadeAreMatched engine
-made_matched {E} engine alike pattern asked parts asked_parts made also name unknown same =
-    let component = at parts.components name in
-    let other = at asked_parts.components name in
-    let options = options_view component.options in
-    let own = parts_view component.parts.items in
-    let one : IsMadeOfParts engine component (pattern name) = made name in
-    let two : IsMadeOfParts engine other (asked name) = also name in
-    let others : IsMadeOf (IsEngineOf engine false (engine_flags options)) options (parts_view other.parts.items) (asked name).matcher =
-    subst (λ (o : OptionsView). IsMadeOf (IsEngineOf engine false (engine_flags o)) o (parts_view other.parts.items) (asked name).matcher) (sym same.options) two.is_component.has_matcher in
-    let others_nameless : IsMadeOf (IsEngineOf engine false (engine_flags options)) options (all_nameless own) (asked name).matcher =
-    subst (λ (ps : List PartView). IsMadeOf (IsEngineOf engine false (engine_flags options)) options ps (asked name).matcher) (sym (same_nameless component other same))
-    (made_nameless (IsEngineOf engine false (engine_flags options)) options (parts_view other.parts.items) (asked name).matcher others) in
-    same_matched engine alike options (all_nameless own) (pattern name).matcher (asked name).matcher (settled_nameless options own same.kept_or_generated)
-    (made_nameless (IsEngineOf engine false (engine_flags options)) options own (pattern name).matcher one.is_component.has_matcher) others_nameless one.has_engine.of_matcher
+made_matched engine alike pattern asked parts asked_parts made also name unknown same text line (captures, matches) =
+    (captures, made_same engine alike (at parts.components name) (at asked_parts.components name) (pattern name) (asked name) (made name) (also name) same text captures line matches)
+
+-- Patterns made of equal parts have equal results.
+pub equal_matched : {E : Type 0} (engine : Engine E) → ExpressionsReturnAlike engine → EqualAreMatched engine
+equal_matched engine alike pattern other parts others made also equal kept texts result lines matched = record {
+  captures = matched.captures;
+  are_answers = λ name.
+      let own = at parts.components name in
+      let another = at others.components name in
+      made_same engine alike own another (pattern name) (other name) (made name) (also name) (equal_same own another (equal name) (kept name))
+      (at texts name) (matched.captures name) (lines name) (matched.are_answers name);
+  are_results = λ name.
+      let same = names_equal engine alike (at parts.components name) (at others.components name) (pattern name) (other name) (made name) (also name) (equal name) in
+      subst (λ (names : List (List ℕ)). IsResultOf names (matched.captures name) (at texts name) (result name)) (sym same) (matched.are_results name);
+}

@@ -17,10 +17,10 @@ use Rattle.regex_syntax.specs.Escapes.{Piece, character, one_letter, escape}
 use Rattle.regex_syntax.specs.Grammar.{atom, char_meaning, piece_meaning, read}
 use Rattle.regex_syntax.specs.Reading.{Text, ◌>>=◌, ◌>>◌, ◌∈◌, first}
 use Rattle.regex_syntax.specs.Sets.{dot, negate_if, one_of, verbatim}
-use Rattle.regex_syntax.specs.Verdict.{default_config}
-use Rattle.urlpattern_expressions.specs.Expressions.{is_groupless, matches_characters}
+use Rattle.urlpattern_expressions.specs.Expressions.{config_for, is_groupless, matches_characters}
 use Rattle.urlpattern_expressions.specs.SimpleExpressions.{begins_uncaptured, has_simple_signs, is_escapable, may_follow}
-use Rattle.urlpattern_laws.proofs.PieceItems.{denotes_character}
+use Rattle.urlpattern_laws.proofs.PieceItems.{plain_written, silent_written}
+use Rattle.urlpattern_engine.proofs.AtomsRead.{verbatim_itself}
 use Rattle.urlpattern_laws.proofs.LeftTexts.{Found, Tail, bracket_after, found_either, found_none, found_some, found_test, found_then, found_value}
 use Rattle.urlpattern_syntax.specs.Text.{is_among}
 use Prim.Native.String.{String}
@@ -89,15 +89,16 @@ is_plain None = true
 is_plain (Some re) = matches_characters re && is_groupless re
 
 -- What the grammar reads for a backslash before the character is such a pattern.
-is_plain_letter : ℕ → Bool
-is_plain_letter c = is_plain (one_letter default_config c >>= piece_meaning default_config)
+is_plain_letter : (ignore_case : Bool) → ℕ → Bool
+is_plain_letter ignore_case c = is_plain (one_letter (config_for ignore_case) c >>= piece_meaning (config_for ignore_case))
 
 abbrev escapables : List ℕ
 escapables = codes "dDsSwW!\"$%&'()*+,-./:;=?@]^_`{|}~"
 
-all_plain_letters : list_all is_plain_letter escapables ≡ true
+all_plain_letters : (ignore_case : Bool) → list_all (is_plain_letter ignore_case) escapables ≡ true
 unfolding is_plain is_plain_letter one_letter piece_meaning negate_if verbatim one_of char_at has_bytes_at chars encode
-all_plain_letters = refl
+all_plain_letters false = refl
+all_plain_letters true = refl
 
 listed : (test : ℕ → Bool) (marks : List ℕ) (c : ℕ) → list_all test marks ≡ true → is_among marks c ≡ true → test c ≡ true
 listed test [] c all is = absurd (true≢false (sym is))
@@ -169,76 +170,77 @@ ascii_of c t may caret opens_none =
     let no_group : is_among (codes "(") c ≡ false = turned c 40 opens_none in
     (and_parts (is_ascii c) (not (is_among (codes "$#") c)) (rw (no_caret, no_group) at may)).0
 
-char_good : (c : ℕ) (t : Text) → may_begin c t ≡ true → (c ∈ "(") ≡ false → (re : Re) → char_meaning default_config c ≡ Some re → Good re
-unfolding char_meaning verbatim dot one_of
-char_good c t may other re e =
-    ⊎_elim
-    (λ (d : (c ∈ ".") ≡ true). let is = rw d at e in subst Good (same_Some _ _ is) (record { plain = refl; silent = refl }))
-    (λ (d : (c ∈ ".") ≡ false).
-    ⊎_elim
-    (λ (f : (c ∈ "^") ≡ true). absurd (true≢false (sym (subst (λ x. may_begin x t ≡ true) (eqb-true c 94 f) may))))
-    (λ (f : (c ∈ "^") ≡ false).
-    ⊎_elim
-    (λ (k : (c ∈ "$") ≡ true). absurd (true≢false (sym (subst (λ x. may_begin x t ≡ true) (eqb-true c 36 k) may))))
-    (λ (k : (c ∈ "$") ≡ false).
-    let is = rw (d, f, k) at e in
-    subst Good (same_Some _ _ is) (record { plain = (denotes_character c (ascii_scalar c (ascii_of c t may f other))).plain; silent = refl }))
-    (cases_Bool (c ∈ "$")))
-    (cases_Bool (c ∈ "^")))
-    (cases_Bool (c ∈ "."))
+module _ (ignore_case : Bool) where
+  char_good : (c : ℕ) (t : Text) → may_begin c t ≡ true → (c ∈ "(") ≡ false → (re : Re) → char_meaning (config_for ignore_case) c ≡ Some re → Good re
+  unfolding char_meaning dot one_of
+  char_good c t may other re e =
+      ⊎_elim
+      (λ (d : (c ∈ ".") ≡ true). let is = rw d at e in subst Good (same_Some _ _ is) (record { plain = refl; silent = refl }))
+      (λ (d : (c ∈ ".") ≡ false).
+      ⊎_elim
+      (λ (f : (c ∈ "^") ≡ true). absurd (true≢false (sym (subst (λ x. may_begin x t ≡ true) (eqb-true c 94 f) may))))
+      (λ (f : (c ∈ "^") ≡ false).
+      ⊎_elim
+      (λ (k : (c ∈ "$") ≡ true). absurd (true≢false (sym (subst (λ x. may_begin x t ≡ true) (eqb-true c 36 k) may))))
+      (λ (k : (c ∈ "$") ≡ false).
+      let is = rw (d, f, k, verbatim_itself ignore_case c) at e in
+      subst Good (same_Some _ _ is) (record { plain = plain_written ignore_case c (ascii_scalar c (ascii_of c t may f other)); silent = silent_written ignore_case c }))
+      (cases_Bool (c ∈ "$")))
+      (cases_Bool (c ∈ "^")))
+      (cases_Bool (c ∈ "."))
 
--- What follows a backslash.
-letter_good : (c : ℕ) (rest : Text) → is_escapable c ≡ true → (piece : Piece) (left : Text) (re : Re) → escape default_config (c ∷ rest) ≡ Some (piece, left) → piece_meaning default_config piece ≡ Some re → Good re × (left ≡ rest) × Quiet c
-unfolding escape first is_plain_letter
-letter_good c rest is piece left re e f =
-    let is_not : (w : String) → list_all (λ d. not (d ∈ w)) escapables ≡ true → (c ∈ w) ≡ false = λ w all. false_of_not (c ∈ w) (listed (λ d. not (d ∈ w)) escapables c all is) in
-    let read : (one_letter default_config c >>= λ found. Some (found, rest)) ≡ Some (piece, left) = rw (is_not "x" refl, is_not "u" refl, is_not "U" refl, is_not "pP" refl, is_not "b" refl) at e in
-    let found = option_and_then_some (λ (found : Piece). Some (found, rest)) (one_letter default_config c) (piece, left) read in
-    let same : found.0 ≡ piece = ap (λ (pair : Piece × Text). pair.0) (same_Some _ _ found.2) in
-    let rests : rest ≡ left = ap (λ (pair : Piece × Text). pair.1) (same_Some _ _ found.2) in
-    let meant : (one_letter default_config c >>= piece_meaning default_config) ≡ Some re = ap (λ o. o >>= piece_meaning default_config) (found.1 ∙ ap Some same) ∙ f in (
-      good_of re (ap is_plain (sym meant) ∙ listed is_plain_letter escapables c all_plain_letters is),
-      sym rests,
-      false_of_not (is_among (codes "\\[") c) (listed (λ d. not (is_among (codes "\\[") d)) escapables c refl is),
-    )
+  -- What follows a backslash.
+  letter_good : (c : ℕ) (rest : Text) → is_escapable c ≡ true → (piece : Piece) (left : Text) (re : Re) → escape (config_for ignore_case) (c ∷ rest) ≡ Some (piece, left) → piece_meaning (config_for ignore_case) piece ≡ Some re → Good re × (left ≡ rest) × Quiet c
+  unfolding escape first is_plain_letter
+  letter_good c rest is piece left re e f =
+      let is_not : (w : String) → list_all (λ d. not (d ∈ w)) escapables ≡ true → (c ∈ w) ≡ false = λ w all. false_of_not (c ∈ w) (listed (λ d. not (d ∈ w)) escapables c all is) in
+      let read : (one_letter (config_for ignore_case) c >>= λ found. Some (found, rest)) ≡ Some (piece, left) = rw (is_not "x" refl, is_not "u" refl, is_not "U" refl, is_not "pP" refl, is_not "b" refl) at e in
+      let found = option_and_then_some (λ (found : Piece). Some (found, rest)) (one_letter (config_for ignore_case) c) (piece, left) read in
+      let same : found.0 ≡ piece = ap (λ (pair : Piece × Text). pair.0) (same_Some _ _ found.2) in
+      let rests : rest ≡ left = ap (λ (pair : Piece × Text). pair.1) (same_Some _ _ found.2) in
+      let meant : (one_letter (config_for ignore_case) c >>= piece_meaning (config_for ignore_case)) ≡ Some re = ap (λ o. o >>= piece_meaning (config_for ignore_case)) (found.1 ∙ ap Some same) ∙ f in (
+        good_of re (ap is_plain (sym meant) ∙ listed (is_plain_letter ignore_case) escapables c (all_plain_letters ignore_case) is),
+        sym rests,
+        false_of_not (is_among (codes "\\[") c) (listed (λ d. not (is_among (codes "\\[") d)) escapables c refl is),
+      )
 
--- What is read of an escape.
-abbrev escaped : Text → Option (Nested Re × Text)
-escaped t = escape default_config t >>= λ (piece, rest). piece_meaning default_config piece >>= λ re. Some (flat re, rest)
+  -- What is read of an escape.
+  abbrev escaped : Text → Option (Nested Re × Text)
+  escaped t = escape (config_for ignore_case) t >>= λ (piece, rest). piece_meaning (config_for ignore_case) piece >>= λ re. Some (flat re, rest)
 
-escaped_reads : (t : Text) → (before : ℕ) → is_among (codes "\\") before ≡ true → has_simple_signs before t ≡ true → Reads (escaped t)
-unfolding escape first
-escaped_reads [] before slash signs = found_none _
-escaped_reads (c ∷ rest) before slash signs =
-    let both = and_parts (may_follow before c rest) (has_simple_signs c rest) signs in
-    let is : is_escapable c ≡ true = rw slash at both.0 in
-    by (escape default_config (c ∷ rest)) refl is both.1
-  where
-    by : (o : Option (Piece × Text)) → escape default_config (c ∷ rest) ≡ o → is_escapable c ≡ true → has_simple_signs c rest ≡ true
-        → Reads (o >>= λ (piece, left). piece_meaning default_config piece >>= λ re. Some (flat re, left))
-    by None e is more = found_none _
-    by (Some (piece, left)) e is more = found_value _ (piece_meaning default_config piece) _ (λ re f.
-        let good = letter_good c rest is piece left re e f in
-        found_some _ (flat re) left (good.0, subst Ready (sym good.1) (record { before = c; signs = more; quiet = good.2 })))
+  escaped_reads : (t : Text) → (before : ℕ) → is_among (codes "\\") before ≡ true → has_simple_signs before t ≡ true → Reads (escaped t)
+  unfolding escape first
+  escaped_reads [] before slash signs = found_none _
+  escaped_reads (c ∷ rest) before slash signs =
+      let both = and_parts (may_follow before c rest) (has_simple_signs c rest) signs in
+      let is : is_escapable c ≡ true = rw slash at both.0 in
+      by (escape (config_for ignore_case) (c ∷ rest)) refl is both.1
+    where
+      by : (o : Option (Piece × Text)) → escape (config_for ignore_case) (c ∷ rest) ≡ o → is_escapable c ≡ true → has_simple_signs c rest ≡ true
+          → Reads (o >>= λ (piece, left). piece_meaning (config_for ignore_case) piece >>= λ re. Some (flat re, left))
+      by None e is more = found_none _
+      by (Some (piece, left)) e is more = found_value _ (piece_meaning (config_for ignore_case) piece) _ (λ re f.
+          let good = letter_good c rest is piece left re e f in
+          found_some _ (flat re) left (good.0, subst Ready (sym good.1) (record { before = c; signs = more; quiet = good.2 })))
 
-pub atom_reads : (c : ℕ) (t : Text) → (c ∈ "(") ≡ false → Ready (c ∷ t) → Reads (atom default_config (c ∷ t))
-unfolding atom first one_of
-atom_reads c t other ready =
-    let both = begins c t ready in
-    found_test _ (not (c ∈ "?*+{")) _
-    (found_either _ (c ∈ "[") _ _
-    (λ e. found_then _ _ (bracket default_config (2 * length (c ∷ t) + 1) (c ∷ t)) _ (bracket_after default_config (2 * length (c ∷ t) + 1) (c ∷ t)) (λ set rest ends.
-    found_some _ _ rest (record { plain = refl; silent = refl }, ready_behind 93 (c ∷ t) rest refl ready ends)))
-    (λ e.
-    found_either _ (c ∈ "\\") _ _
-    (λ f. escaped_reads t c (slash c f) both.1)
-    (λ f. found_value _ (char_meaning default_config c) _ (λ re g.
-    found_some _ (flat re) t (char_good c t both.0 other re g, next_ready c t (quiet_of c e f) ready)))))
-  where
-    slash : (d : ℕ) → (d ∈ "\\") ≡ true → is_among (codes "\\") d ≡ true
-    slash d f = subst (λ x. is_among (codes "\\") x ≡ true) (sym (eqb-true d 92 f)) refl
+  pub atom_reads : (c : ℕ) (t : Text) → (c ∈ "(") ≡ false → Ready (c ∷ t) → Reads (atom (config_for ignore_case) (c ∷ t))
+  unfolding atom first one_of
+  atom_reads c t other ready =
+      let both = begins c t ready in
+      found_test _ (not (c ∈ "?*+{")) _
+      (found_either _ (c ∈ "[") _ _
+      (λ e. found_then _ _ (bracket (config_for ignore_case) (2 * length (c ∷ t) + 1) (c ∷ t)) _ (bracket_after (config_for ignore_case) (2 * length (c ∷ t) + 1) (c ∷ t)) (λ set rest ends.
+      found_some _ _ rest (record { plain = refl; silent = refl }, ready_behind 93 (c ∷ t) rest refl ready ends)))
+      (λ e.
+      found_either _ (c ∈ "\\") _ _
+      (λ f. escaped_reads t c (slash c f) both.1)
+      (λ f. found_value _ (char_meaning (config_for ignore_case) c) _ (λ re g.
+      found_some _ (flat re) t (char_good c t both.0 other re g, next_ready c t (quiet_of c e f) ready)))))
+    where
+      slash : (d : ℕ) → (d ∈ "\\") ≡ true → is_among (codes "\\") d ≡ true
+      slash d f = subst (λ x. is_among (codes "\\") x ≡ true) (sym (eqb-true d 92 f)) refl
 
-    quiet_of : (d : ℕ) → (d ∈ "[") ≡ false → (d ∈ "\\") ≡ false → Quiet d
-    quiet_of d e f =
-        let no_slash : (92 == d) ≡ false = or_left (92 == d) false (turned d 92 f) in
-        rw no_slash (turned d 91 e)
+      quiet_of : (d : ℕ) → (d ∈ "[") ≡ false → (d ∈ "\\") ≡ false → Quiet d
+      quiet_of d e f =
+          let no_slash : (92 == d) ≡ false = or_left (92 == d) false (turned d 92 f) in
+          rw no_slash (turned d 91 e)

@@ -1,13 +1,12 @@
 -- Matchers made of parts whose custom expressions are simple return the first way of the parts.
 use Rattle.std.proofs.Common.{◌≡◌, ℕ, List, Bool, false, Option, Some, None, Result, refl, sym, ap, subst, ◌∙◌}
-use Rattle.std.proofs.lemmas.List.Elements.{All-weaker}
 use Rattle.std.specs.Prelude.{⊤, IfSome, IsTrue, Ok, Err, is_some, option_and_then}
 use Rattle.std.specs.Str.{all_scalars}
 use Rattle.regex.specs.declared.string.regex.Regex.{Regex}
 use Rattle.urlpattern_engine.specs.EcmaRegexps.{KeepsRegex, ecma_engine}
 use Rattle.urlpattern_engine.specs.PatternRegexps.{pattern_engine}
 use Rattle.urlpattern_expressions.proofs.SimpleLemmas.{generated_simple}
-use Rattle.urlpattern_expressions.specs.MatchedPartTexts.{AllCaptureNothing, AllStandAlone, CapturesNothing, IsSelfContained}
+use Rattle.urlpattern_expressions.specs.MatchedPartTexts.{AllCaptureNothing, AllStandAlone}
 use Rattle.urlpattern_expressions.specs.PartCaptures.{IsCapturedByParts}
 use Rattle.urlpattern_expressions.specs.PartWays.{parts_first_way_by}
 use Rattle.urlpattern_expressions.specs.PartsFirst.{IsFirstOfParts, ReturnsFirstOfMiddle, ReturnsFirstOfParts}
@@ -16,7 +15,7 @@ use Rattle.urlpattern_laws.proofs.FirstOfTrees.{first_of_tree}
 use Rattle.urlpattern_laws.proofs.MatchersCapture.{engine_captured, fast_captured, parts_capture_meanings}
 use Rattle.urlpattern_laws.proofs.MatchersFirst.{engine_first, fast_first}
 use Rattle.urlpattern_laws.proofs.MatchersTaken.{all_plain, fast_plain, made_between, middle_all}
-use Rattle.urlpattern_laws.proofs.SimpleRead.{simple_alone}
+use Rattle.urlpattern_laws.proofs.SimpleRead.{simple_alone_by, simple_silent_by}
 use Rattle.urlpattern_laws.proofs.TakenMeanings.{means_takes}
 use Rattle.urlpattern_laws.proofs.ValuesTaken.{pattern_values_capture, pattern_values_first, regex_values_capture, regex_values_first}
 use Rattle.urlpattern_matcher.specs.Components.{IsEngineOf}
@@ -38,31 +37,14 @@ use Rattle.urlpattern_syntax.specs.Errors.{ErrorView}
 use Rattle.urlpattern_syntax.specs.Options.{OptionsView}
 use Rattle.urlpattern_syntax.specs.Parts.{PartView}
 use Rattle.urlpattern_syntax.specs.RegexpText.{regexp_text}
-use Rattle.urlpattern_syntax.specs.declared.parser.PartType.{PartType}
-use Rattle.urlpattern_syntax.specs.declared.parser.PartType.TheVariants.{FixedText, Regexp, SegmentWildcard, FullWildcard}
 
 -- ---- parts
 
-alone_by : (kind : PartType) (value : List ℕ) → HasSimpleExpression kind value → IsSelfContained kind value
-alone_by Regexp value simple = (simple_alone value simple).0
-alone_by FixedText value simple = tt
-alone_by SegmentWildcard value simple = tt
-alone_by FullWildcard value simple = tt
-
-silent_by : (kind : PartType) (value : List ℕ) → HasSimpleExpression kind value → CapturesNothing kind value
-silent_by Regexp value simple = (simple_alone value simple).1
-silent_by FixedText value simple = tt
-silent_by SegmentWildcard value simple = tt
-silent_by FullWildcard value simple = tt
-
--- Simple expressions stand alone, and capture nothing.
 pub simple_all_alone : (parts : List PartView) → AreSimple parts → AllStandAlone parts
-simple_all_alone parts simple =
-    All-weaker (λ part. HasSimpleExpression part.kind part.value) (λ part. IsSelfContained part.kind part.value) (λ part is. alone_by part.kind part.value is) parts simple
+simple_all_alone = simple_alone_by false
 
 pub simple_all_silent : (parts : List PartView) → AreSimple parts → AllCaptureNothing parts
-simple_all_silent parts simple =
-    All-weaker (λ part. HasSimpleExpression part.kind part.value) (λ part. CapturesNothing part.kind part.value) (λ part is. silent_by part.kind part.value is) parts simple
+simple_all_silent = simple_silent_by false
 
 -- Without a custom part, the captures that parts have are those that they mean.
 pub captured_agrees : (options : OptionsView) (parts : List PartView) (text : List ℕ) (result : Option Captures) → AreGenerated parts → IsCapturedByParts options parts text result → Agrees options parts text result

@@ -1,6 +1,6 @@
 -- An expression from `^` to `$`, as the grammar of `regex` reads it, is found exactly in the texts
 -- that the items between them match.
-use Rattle.std.proofs.Common.{max, ap₂, map, option_map, ◌≡◌, ◌↔◌, ℕ, zero, suc, ◌+◌, ◌*◌, ◌<◌, ◌≤◌, List, [], ◌∷◌, ◌++◌, length, true, false, Some, None, IsSome, is_some, if◌then◌else◌, refl, sym, ap, ◌∙◌, subst, inl, inr, arith, length-append, append-nil, true≢false}
+use Rattle.std.proofs.Common.{max, ap₂, map, option_map, ◌≡◌, ◌↔◌, ℕ, Bool, zero, suc, ◌+◌, ◌*◌, ◌<◌, ◌≤◌, List, [], ◌∷◌, ◌++◌, length, true, false, Some, None, IsSome, is_some, if◌then◌else◌, refl, sym, ap, ◌∙◌, subst, inl, inr, arith, length-append, append-nil, true≢false}
 use Rattle.std.proofs.lemmas.Bool.{cond-true}
 use Rattle.std.proofs.lemmas.Option.{same_Some}
 use Rattle.std.proofs.lemmas.Str.{encodes-append, length-le-encodes, IsCharBoundary-start}
@@ -22,7 +22,7 @@ use Rattle.regex_syntax.proofs.GroupLemmas.{length-names_below}
 use Rattle.regex_syntax.specs.Grammar.{Names, Place, atom, char_meaning, item, items, names_below, read}
 use Rattle.regex_syntax.specs.Grammar as grammar
 use Rattle.regex_syntax.specs.Reading.{Text, first, is_at, is_empty}
-use Rattle.regex_syntax.specs.Verdict.{default_config}
+use Rattle.urlpattern_expressions.specs.Expressions.{config_for}
 use Rattle.urlpattern_laws.proofs.Catching.{append_runs}
 use Rattle.urlpattern_laws.proofs.Denoting.{Denotes}
 use Rattle.urlpattern_laws.proofs.Runs.{Runs, attempt_runs}
@@ -43,15 +43,6 @@ use Rattle.std.specs.List.{range_with_len}
 
 -- ---- the pattern read
 
--- A character that is an item by itself, without a quantifier.
-leaf_item : (m : ℕ) (names : Names) (c : ℕ) (rest : Text) (sub found : Nested Re) (end : Place) → is_at "(" (c ∷ rest) ≡ false → atom default_config (c ∷ rest) ≡ Some (sub, rest) → Free rest
-    → item (group_inside m) (at_text names (c ∷ rest)) ≡ Some (found, end) → (found ≡ sub) × (end ≡ at_text names rest)
-unfolding item
-leaf_item m names c rest sub found end no_group reads free e =
-    let is : item (group_inside m) (at_text names (c ∷ rest)) ≡ Some (sub, at_text names rest) = rw (item, no_group, reads) (quantified Once sub names rest free) in
-    let same = same_Some _ _ (sym is ∙ e) in
-    (sym (ap (λ (result : Nested Re × Place). result.0) same), sym (ap (λ (result : Nested Re × Place). result.1) same))
-
 -- The pattern of items between `^` and `$`.
 abbrev pub between_lines : List (Nested Re) → Nested Re
 between_lines own = join alt_all (join cat_all (first_line ∷ (own ++ last_line ∷ [])) ∷ [])
@@ -62,67 +53,77 @@ whole_is found all part parts own more e f g h i =
     e
     ∙ ap (λ items. join alt_all (join cat_all items ∷ [])) (f ∙ ap (λ first. first ∷ parts) g ∙ ap (λ rest. first_line ∷ rest) (h ∙ ap (λ last. own ++ last) i))
 
-module _ (t : Text) (s : Sense) (a : AreItemsOf t s) where
-  abbrev inside : Text
-  inside = t ++ 36 ∷ []
+module _ (ignore_case : Bool) where
+  -- A character that is an item by itself, without a quantifier.
+  leaf_item : (m : ℕ) (names : Names) (c : ℕ) (rest : Text) (sub found : Nested Re) (end : Place) → is_at "(" (c ∷ rest) ≡ false → atom (config_for ignore_case) (c ∷ rest) ≡ Some (sub, rest) → Free rest
+      → item (group_inside m) (at_text ignore_case names (c ∷ rest)) ≡ Some (found, end) → (found ≡ sub) × (end ≡ at_text ignore_case names rest)
+  unfolding item
+  leaf_item m names c rest sub found end no_group reads free e =
+      let is : item (group_inside m) (at_text ignore_case names (c ∷ rest)) ≡ Some (sub, at_text ignore_case names rest) = rw (item, no_group, reads) (quantified ignore_case Once sub names rest free) in
+      let same = same_Some _ _ (sym is ∙ e) in
+      (sym (ap (λ (result : Nested Re × Place). result.0) same), sym (ap (λ (result : Nested Re × Place). result.1) same))
 
-  -- The pattern read is items with this sense between `^` and `$`, with as many groups.
-  pub record WholeFound (found : Nested Re) : Type 0 where
-    pub own : List (Nested Re)
-    pub is : found ≡ between_lines own
-    pub fulfils : Fulfils s 1 (cat_all (values own))
+  module _ (t : Text) (s : Sense) (a : AreItemsOf ignore_case t s) where
+    abbrev inside : Text
+    inside = t ++ 36 ∷ []
 
-  last_read : (n : ℕ) (names : Names) (more : List (Nested Re)) (end : Place) → items n (at_text names (36 ∷ [])) ≡ Some (more, end) → (more ≡ last_line ∷ []) × (is_at "|" end.text ≡ false)
-  unfolding first atom char_meaning
-  last_read n names more end e =
-      let is = items_go_on n names (36 ∷ []) more end refl e in
-      let leaf = leaf_item is.steps names 36 [] last_line is.part is.after refl refl refl is.one in
-      let stop = items_stop is.steps names [] is.parts end refl (ap (items is.steps) (sym leaf.1) ∙ is.more) in (
-        is.all ∙ ap (λ part. part ∷ is.parts) leaf.0 ∙ ap (λ parts. last_line ∷ parts) stop.0,
-        ap (λ (p : Place). is_at "|" p.text) stop.1,
-      )
+    -- The pattern read is items with this sense between `^` and `$`, with as many groups.
+    pub record WholeFound (found : Nested Re) : Type 0 where
+      pub own : List (Nested Re)
+      pub is : found ≡ between_lines own
+      pub fulfils : Fulfils ignore_case s 1 (cat_all (values own))
 
-  inside_read : (n : ℕ) (found : Nested Re) (end : Place) → group_inside n (at_text (None ∷ []) (94 ∷ inside)) ≡ Some (found, end) → WholeFound found
-  unfolding first atom char_meaning
-  inside_read n found end e =
-      let names : Names = None ∷ [] in
-      let branch = one_branch n (at_text names (94 ∷ inside)) found end e in
-      let begins : ends_branch (94 ∷ inside) ≡ false = rw (full 94 inside) refl in
-      let is = items_go_on branch.steps names (94 ∷ inside) branch.parts branch.after begins branch.read_items in
-      let leaf = leaf_item is.steps names 94 inside first_line is.part is.after refl refl (a.starts (36 ∷ []) refl) is.one in
-      let items_found = a.reads (36 ∷ []) refl is.steps names is.parts branch.after (ap (items is.steps) (sym leaf.1) ∙ is.more) in
-      let last = last_read items_found.front.steps items_found.front.names items_found.front.more branch.after items_found.front.goes_on in
-      record {
-        own = items_found.front.own;
-        is = whole_is found branch.parts is.part is.parts items_found.front.own items_found.front.more (branch.goes last.1).0 is.all leaf.0 items_found.front.cut last.0;
-        fulfils = items_found.fulfils;
-      }
+    last_read : (n : ℕ) (names : Names) (more : List (Nested Re)) (end : Place) → items n (at_text ignore_case names (36 ∷ [])) ≡ Some (more, end) → (more ≡ last_line ∷ []) × (is_at "|" end.text ≡ false)
+    unfolding first atom char_meaning
+    last_read n names more end e =
+        let is = items_go_on ignore_case n names (36 ∷ []) more end refl e in
+        let leaf = leaf_item is.steps names 36 [] last_line is.part is.after refl refl refl is.one in
+        let stop = items_stop ignore_case is.steps names [] is.parts end refl (ap (items is.steps) (sym leaf.1) ∙ is.more) in (
+          is.all ∙ ap (λ part. part ∷ is.parts) leaf.0 ∙ ap (λ parts. last_line ∷ parts) stop.0,
+          ap (λ (p : Place). is_at "|" p.text) stop.1,
+        )
 
-  -- The pattern read, with the number of its names.
-  pub record WholeNamed (found : Nested Re × Names) : Type 0 where
-    pub pattern : WholeFound found.0
-    pub numbers : s.Known → length found.1 ≡ 1 + s.count
+    inside_read : (n : ℕ) (found : Nested Re) (end : Place) → group_inside n (at_text ignore_case (None ∷ []) (94 ∷ inside)) ≡ Some (found, end) → WholeFound found
+    unfolding first atom char_meaning
+    inside_read n found end e =
+        let names : Names = None ∷ [] in
+        let branch = one_branch n (at_text ignore_case names (94 ∷ inside)) found end e in
+        let begins : ends_branch (94 ∷ inside) ≡ false = rw (full 94 inside) refl in
+        let is = items_go_on ignore_case branch.steps names (94 ∷ inside) branch.parts branch.after begins branch.read_items in
+        let leaf = leaf_item is.steps names 94 inside first_line is.part is.after refl refl (a.starts (36 ∷ []) refl) is.one in
+        let items_found = a.reads (36 ∷ []) refl is.steps names is.parts branch.after (ap (items is.steps) (sym leaf.1) ∙ is.more) in
+        let last = last_read items_found.front.steps items_found.front.names items_found.front.more branch.after items_found.front.goes_on in
+        record {
+          own = items_found.front.own;
+          is = whole_is found branch.parts is.part is.parts items_found.front.own items_found.front.more (branch.goes last.1).0 is.all leaf.0 items_found.front.cut last.0;
+          fulfils = items_found.fulfils;
+        }
 
-  named : (tree : Nested Re) (names : Names) → WholeFound tree → WholeNamed (tree, names_below tree.value names (max 1 (grammar.group_count tree.value)))
-  named tree names w = record {
-    pattern = w;
-    numbers = λ k.
-        omega (
-          arith,
-          length-names_below tree.value names (max 1 (grammar.group_count tree.value)),
-          ap (λ (other : Nested Re). grammar.group_count other.value) w.is,
-          append_count w.own (last_line ∷ []),
-          w.fulfils.numbered k,
-        );
-  }
+    -- The pattern read, with the number of its names.
+    pub record WholeNamed (found : Nested Re × Names) : Type 0 where
+      pub pattern : WholeFound found.0
+      pub numbers : s.Known → length found.1 ≡ 1 + s.count
 
-  pub whole_read : (found : Nested Re × Names) → read default_config (94 ∷ inside) ≡ Some found → WholeNamed found
-  unfolding read
-  whole_read found e =
-      let n = 2 * length (94 ∷ inside) + 2 in
-      let whole = option_and_then_some _ (group_inside n (at_text (None ∷ []) (94 ∷ inside))) found e in
-      let ended = cond_some (is_empty whole.0.1.text) _ found whole.2 in
-      subst WholeNamed (same_Some _ _ ended.1) (named whole.0.0 whole.0.1.names (inside_read n whole.0.0 whole.0.1 whole.1))
+    named : (tree : Nested Re) (names : Names) → WholeFound tree → WholeNamed (tree, names_below tree.value names (max 1 (grammar.group_count tree.value)))
+    named tree names w = record {
+      pattern = w;
+      numbers = λ k.
+          omega (
+            arith,
+            length-names_below tree.value names (max 1 (grammar.group_count tree.value)),
+            ap (λ (other : Nested Re). grammar.group_count other.value) w.is,
+            append_count w.own (last_line ∷ []),
+            w.fulfils.numbered k,
+          );
+    }
+
+    pub whole_read : (found : Nested Re × Names) → read (config_for ignore_case) (94 ∷ inside) ≡ Some found → WholeNamed found
+    unfolding read
+    whole_read found e =
+        let n = 2 * length (94 ∷ inside) + 2 in
+        let whole = option_and_then_some _ (group_inside n (at_text ignore_case (None ∷ []) (94 ∷ inside))) found e in
+        let ended = cond_some (is_empty whole.0.1.text) _ found whole.2 in
+        subst WholeNamed (same_Some _ _ ended.1) (named whole.0.0 whole.0.1.names (inside_read n whole.0.0 whole.0.1 whole.1))
 
 -- ---- where the pattern is found
 
@@ -191,7 +192,7 @@ module _ (own : List (Nested Re)) (Is : List ℕ → Type 0) (d : Denotes (cat_a
 
 -- ---- the captures of the groups
 
-module _ (own : List (Nested Re)) (s : Sense) (f : Fulfils s 1 (cat_all (values own))) (known : s.Known) (text : List ℕ) (good : scalars text ≡ true) where
+module _ (own : List (Nested Re)) (s : Sense) (f : Fulfils false s 1 (cat_all (values own))) (known : s.Known) (text : List ℕ) (good : scalars text ≡ true) where
   abbrev bytes : List ℕ
   bytes = encodes text
 
@@ -211,9 +212,9 @@ module _ (own : List (Nested Re)) (s : Sense) (f : Fulfils s 1 (cat_all (values 
       let zero_is : l ≡ 0 = same ∙ at_zero bytes i le start in
       let split = append_runs bytes (values own) (last_line.value ∷ []) l j more (subst (λ trees. Runs bytes (cat_all trees) l j more) (values_append own (last_line ∷ [])) run) in
       let last = ends_run split.0 j split.2 split.4 in
-      let c = (f.catches known).sound text good [] text refl split.0 split.1 (subst (λ h. Runs bytes (cat_all (values own)) h split.0 split.1) zero_is split.3) in
+      let c = (f.catches refl known).sound text good [] text refl split.0 split.1 (subst (λ h. Runs bytes (cat_all (values own)) h split.0 split.1) zero_is split.3) in
       let ended : holds End bytes (at c.taken) ≡ true = ap (holds End bytes) (sym c.ends) ∙ last.0 in
-      let whole_text : text ≡ c.taken = all_taken own s.Is f.denotes text good c.taken c.rest c.cut ended in
+      let whole_text : text ≡ c.taken = all_taken own s.Is (f.denotes refl) text good c.taken c.rest c.cut ended in
       let written : writes ≡ split.1 = all ∙ ap (λ (ws : Writes). ws ++ more) no_first ∙ split.5 ∙ ap (λ ws. split.1 ++ ws) last.1 ∙ append-nil split.1 in
       (c.captures, subst (λ t. s.Cap t c.captures) (sym whole_text) c.is, c.counted, subst (λ ws. Shown bytes 1 c.captures ws) (sym written) c.shown)
   run_is i j writes le (inr none) = absurd (nothing_in none.0.0 none.0.2)

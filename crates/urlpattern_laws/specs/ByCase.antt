@@ -1,11 +1,12 @@
 -- What a pattern finds, by its pattern texts, where case is kept in some components and ignored in
--- others. A line is a text without line feeds.
-use Rattle.std.specs.Prelude.{◌≡◌, ◌↔◌, ℕ, false, List, Ok, Option, Some, None}
+-- others.
+use Rattle.std.specs.Prelude.{◌≡◌, ◌↔◌, ◌⊎◌, ℕ, false, List, IsAscii, Ok, Option, Some, None}
+use Rattle.url.specs.Parts.{IsValid, Parts}
 use Rattle.urlpattern_compile.specs.Compiled.{AreCompiled, IsComponentCompiled, ParseSettings, settings_of}
 use Rattle.urlpattern_components.specs.declared.eight.ComponentName.{ComponentName}
 use Rattle.urlpattern_components.specs.Eight.{Texts, Values, at}
 use Rattle.urlpattern_expressions.specs.{PartCaptures.IsCapturedByParts, PartWays.parts_first_way_by, SimpleExpressions.HaveMeaningByCase}
-use Rattle.urlpattern_init.specs.UrlTexts.{IsLine}
+use Rattle.urlpattern_init.specs.{Inheritance.texts_of_url, UrlTexts.IsLine}
 use Rattle.urlpattern_init.specs.declared.init.{UrlPatternInit.UrlPatternInit, UrlPatternMatchInput.UrlPatternMatchInput}
 use Rattle.urlpattern_inputs.specs.declared.options.UrlPatternOptions.{UrlPatternOptions}
 use Rattle.urlpattern_matcher.specs.Components.{ComponentView}
@@ -13,6 +14,7 @@ use Rattle.urlpattern_matcher.specs.declared.regexp.RegExp.{Ghosts as Engine}
 use Rattle.urlpattern_matches.specs.MatchInput.{input_texts}
 use Rattle.urlpattern_matches.specs.ResultViews.{IsResultOf, ResultView}
 use Rattle.urlpattern_meaning.specs.{Matching.InnerView, Matching.Literal, Matching.RegExp, Matching.Returns, Matching.SingleCapture, PartMeaning.Captures}
+use Rattle.urlpattern_pattern.specs.ByText.{ReadsNoCustom}
 use Rattle.urlpattern_pattern.specs.ByTextLaws.{IsSameFinding}
 use Rattle.urlpattern_pattern.specs.Match.{FindsInTexts, IsLongInput}
 use Rattle.urlpattern_pattern.specs.MatchMeaning.{IsExecuted, ReadsAs}
@@ -39,8 +41,21 @@ abbrev pub IsMeantByCase : ParseSettings → Type 0
 IsMeantByCase settings =
     (parts : List PartView) → ReadsAs settings parts → HaveMeaningByCase settings.options parts
 
--- A component that has a meaning, with case ignored or kept, returns for each line the captures of
--- the first way.
+-- The text is a line and, if case is ignored and the pattern text has a custom part, ASCII.
+abbrev pub IsLineByCase : ParseSettings → (text : List ℕ) → Type 0
+IsLineByCase settings text =
+    IsLine text
+    × ((settings.options.ignore_case ≡ false) ⊎ (ReadsNoCustom settings ⊎ IsAscii text))
+
+-- Each of the eight texts of a valid URL is such a line, whatever the pattern texts are.
+abbrev pub TextsOfUrlsAreLinesByCase : Type 0
+TextsOfUrlsAreLinesByCase =
+    (settings : ComponentName → ParseSettings) (url : Parts) → IsValid url
+    → (component : ComponentName)
+    → IsLineByCase (settings component) (at (texts_of_url url) component)
+
+-- A component that has a meaning, with case ignored or kept, returns for each line (`IsLineByCase`)
+-- the captures of the first way.
 abbrev pub FirstsAreReturnedByCase : {E : Type 0} → Engine E → Type 0
 FirstsAreReturnedByCase {E} engine =
     (settings : ParseSettings) (compiled : ComponentView E) (text : List ℕ)
@@ -48,7 +63,7 @@ FirstsAreReturnedByCase {E} engine =
     →
     IsComponentCompiled engine settings compiled
     → IsMeantByCase settings
-    → IsLine text
+    → IsLineByCase settings text
     →
     Returns engine.answer compiled.matcher text result → IsFirstWayByCase settings text result
 
@@ -82,18 +97,20 @@ pub record IsFirstResultByCase (settings : ParseSettings) (text : List ℕ) (res
   pub is_result : IsResultOf (group_names way.parts) captures text result
 
 -- The result of matching `texts` follows from the pattern texts of `settings`. In a match, each
--- component that has a meaning and whose text is a line has the result of the first way. Without a
--- match, if all components are of this kind, one of them has no way for its text.
+-- component that has a meaning and whose text is a line (`IsLineByCase`) has the result of the
+-- first way. Without a match, if all components are of this kind, one of them has no way for its
+-- text.
 abbrev pub IsFoundByCase : (settings : ComponentName → ParseSettings) → Texts
     → Option (ComponentName → ResultView) → Type 0
 IsFoundByCase settings texts (Some result) =
     (component : ComponentName) → IsMeantByCase (settings component)
-    → IsLine (at texts component)
+    → IsLineByCase (settings component) (at texts component)
     →
     IsFirstResultByCase (settings component) (at texts component) (result component)
 IsFoundByCase settings texts None =
     ((component : ComponentName)
-    → IsMeantByCase (settings component) × IsLine (at texts component))
+    → IsMeantByCase (settings component)
+    × IsLineByCase (settings component) (at texts component))
     →
     (component : ComponentName)
     × IsFirstWayByCase (settings component) (at texts component) None
@@ -122,13 +139,14 @@ InputFindingsAreByCase {E} engine =
     IsFoundByCase (settings_of asked values compiled.hierarchical) texts found
 
 -- Two results for `texts` that follow from the pattern texts are equal, if each component has a
--- meaning and each text is a line.
+-- meaning and each text is a line (`IsLineByCase`).
 abbrev pub FindingsByCaseAreOne : Type 0
 FindingsByCaseAreOne =
     (settings : ComponentName → ParseSettings) (texts : Texts)
     (found other : Option (ComponentName → ResultView))
     → ((component : ComponentName)
-    → IsMeantByCase (settings component) × IsLine (at texts component))
+    → IsMeantByCase (settings component)
+    × IsLineByCase (settings component) (at texts component))
     →
     IsFoundByCase settings texts found
     → IsFoundByCase settings texts other

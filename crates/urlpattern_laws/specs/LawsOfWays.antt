@@ -1,14 +1,14 @@
 -- Statements of the laws on the captures that are returned for parts with custom expressions: the
 -- captures of the first way in which the parts match the whole text.
-use Rattle.std.specs.Prelude.{◌≡◌, ⊤, ℕ, Bool, true, false, List, IsTrue, option_map}
+use Rattle.std.specs.Prelude.{◌≡◌, ◌⊎◌, ⊤, ℕ, Bool, true, false, List, IsAscii, IsTrue, option_map}
 use Rattle.std.specs.Str.{all_scalars}
-use Rattle.urlpattern_matcher.specs.Components.{ComponentView, IsComponentOf}
+use Rattle.urlpattern_matcher.specs.Components.{ComponentView, FlagsAgree, IsComponentOf}
 use Rattle.urlpattern_matcher.specs.FirstWays.{Keeping, Acceptance}
 use Rattle.urlpattern_printing.specs.Generated.{AreGenerated}
 use Rattle.urlpattern_matcher.specs.declared.regexp.RegExp.{Ghosts as Engine}
 use Rattle.urlpattern_laws.specs.LawsOfTexts.{HasMatcherPremises}
-use Rattle.urlpattern_expressions.specs.MatchedPartTexts.{AllCaptureNothing, AllStandAlone}
-use Rattle.urlpattern_expressions.specs.{PartCaptures.IsCapturedByParts, PartWays.parts_first_way, PartWays.parts_first_way_by}
+use Rattle.urlpattern_expressions.specs.MatchedPartTexts.{AllCaptureNothing, AllCaptureNothingBy, AllStandAlone, AllStandAloneBy}
+use Rattle.urlpattern_expressions.specs.{PartCaptures.IsCapturedByParts, PartWays.parts_first_way, PartWays.parts_first_way_by, SimpleExpressions.AreOfAscii}
 use Rattle.urlpattern_meaning.specs.Dialect.{IsTreeOf, Items}
 use Rattle.urlpattern_meaning.specs.FirstResults.{AcceptedText}
 use Rattle.urlpattern_meaning.specs.Matching.{EachResultIs, IsSame, MatcherView, folded_captures}
@@ -53,6 +53,28 @@ ValuesReturnFirstOfParts {E} engine Keeps =
     engine.IsMade value (regexp_text options parts) flags →
     (text : List ℕ) → IsTrue (all_scalars text)
     → engine.answer value text ≡ parts_first_way options parts text
+
+-- Case is kept, or the text, the delimiter and all texts of the parts are ASCII.
+abbrev pub IsKeptOrAscii : (ignore_case : Bool) → OptionsView → List PartView → (text : List ℕ)
+    → Type 0
+IsKeptOrAscii ignore_case options parts text =
+    (ignore_case ≡ false) ⊎ (AreOfAscii options parts × IsAscii text)
+
+-- A value that the engine made of the regular expression of parts returns the captures of their
+-- first way, with case ignored or kept as the options and the flags say. Premises: as the grammar
+-- reads them with or without the flag `i`, custom expressions stand alone and capture nothing
+-- themselves; and if case is ignored, the text, the delimiter and all texts of the parts are ASCII.
+abbrev pub ValuesReturnFirstByFlags : {E : Type 0} → Engine E → Type 0
+ValuesReturnFirstByFlags {E} engine =
+    (options : OptionsView) (flags : List ℕ) (parts : List PartView) (value : E)
+    → FlagsAgree options flags
+    → AllStandAloneBy options.ignore_case parts → AllCaptureNothingBy options.ignore_case parts
+    →
+    engine.IsMade value (regexp_text options parts) flags
+    →
+    (text : List ℕ) → IsTrue (all_scalars text)
+    → IsKeptOrAscii options.ignore_case options parts text
+    → engine.answer value text ≡ parts_first_way_by options.ignore_case options parts text
 
 -- A matcher made of parts returns the captures of their first way for each text without line feeds.
 -- Premises: `HasMatcherPremises`, and custom expressions capture nothing themselves.

@@ -8,3 +8,4 @@ pub mod LawsOfTexts
 pub mod LawsOfWays
 pub mod PartReadings
 pub mod OwnGroups
+pub mod CommonReadings

@@ -9,9 +9,11 @@ use Rattle.urlpattern_inputs.specs.declared.options.UrlPatternOptions.{UrlPatter
 use Rattle.urlpattern_engine.specs.GrammarReadings.{ExpressionsReturnAlike}
 use Rattle.urlpattern_meaning.specs.Matching.{IsMatched, MatcherView}
 use Rattle.urlpattern_meaning.specs.PartMeaning.{Captures}
-use Rattle.urlpattern_pattern.specs.{ByText.ReturnsByItsText, KeptParts.KeepsPartsOf, Match.AreMatched, Patterns.PatternView, Patterns.pattern_view}
+use Rattle.urlpattern_pattern.specs.{ByText.ReturnsByItsText, KeptParts.KeepsPartsOf, Match.AreMatched, Match.IsMatchOf, Patterns.PatternView, Patterns.pattern_view}
+use Rattle.urlpattern_matches.specs.ResultViews.{ResultView}
 use Rattle.urlpattern_pattern.specs.UrlPatterns.{AreMadeOfParts, UrlPattern}
-use Rattle.urlpattern_compare.specs.Comparing.{AreApart, AreSame, IsCovered, IsKnown, IsParting, IsPatternOverlap, MeansAllOf, MeansIn, MatchesEveryLine, MatchesNoLine}
+use Rattle.urlpattern_compare.specs.Comparing.{AreApart, AreSame, IsCaseKeptOrGenerated, IsCovered, IsKnown, IsParting, IsPatternOverlap, MeansAllOf, MeansIn, MatchesEveryLine, MatchesNoLine}
+use Rattle.urlpattern_compare.specs.EqualParts.{AreEqualParts}
 use Rattle.urlpattern_compare.specs.declared.pattern_parts.{Parting.Parting, PatternParts.PatternParts}
 use Rattle.urlpattern_compare.specs.declared.pattern_parts.PatternOverlap.TheVariants.{Common}
 use Rattle.urlpattern_syntax.specs.declared.parts.ComponentParts.{ComponentParts}
@@ -103,6 +105,19 @@ MadeAreMatched {E} engine = ExpressionsReturnAlike engine →
     → AreMadeOfParts engine parts pattern
     → AreMadeOfParts engine asked_parts asked →
     SameAreMatched engine.answer pattern asked parts asked_parts
+
+-- Of two patterns that the engine made of equal parts, one matches any eight lines with the result
+-- with which the other does, if each component keeps case or has no custom regular expression.
+abbrev pub EqualAreMatched : {E : Type 0} → Engine E → Type 0
+EqualAreMatched {E} engine =
+    (pattern other : PatternView E) (parts others : PatternParts)
+    → AreMadeOfParts engine parts pattern
+    → AreMadeOfParts engine others other →
+    AreEqualParts parts others
+    → ((name : ComponentName) → IsCaseKeptOrGenerated (at parts.components name)) →
+    (texts : Texts) (result : ComponentName → ResultView) → EachIsLine texts
+    → IsMatchOf engine.answer other texts result
+    → IsMatchOf engine.answer pattern texts result
 
 -- The parts that the engine made a pattern of say what the pattern matches, as `AreItsParts` says.
 abbrev pub OwnPartsMean : {E : Type 0} → Engine E → Type 0

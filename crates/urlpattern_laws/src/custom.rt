@@ -10,7 +10,7 @@ ghost use Rattle.std.specs.Prelude.{⊤};
 ghost use Rattle.urlpattern_matcher.specs.Regexes.{regex_engine};
 ghost use Rattle.urlpattern_matcher.specs.FirstWays.{KeepsCase};
 ghost use Rattle.urlpattern_laws.specs.LawsOfTexts.{CapturesAreAsNames, ComponentsCapture, MatchersReturnIfMatched, MatchersCapture, PartsCaptureMeanings, PartsMatchMeanings, ReadsInGroups, ValuesReturnIfMatched, ValuesCapture};
-ghost use Rattle.urlpattern_laws.specs.LawsOfWays.{ComponentsReturnFirstOfParts, FirstWaysAreCaptured, FirstWaysAreOfEitherCase, FirstWaysAreOfTrees, MatchersReturnFirstOfParts, ValuesReturnFirstOfParts};
+ghost use Rattle.urlpattern_laws.specs.LawsOfWays.{ComponentsReturnFirstOfParts, FirstWaysAreCaptured, FirstWaysAreOfEitherCase, FirstWaysAreOfTrees, MatchersReturnFirstOfParts, ValuesReturnFirstByFlags, ValuesReturnFirstOfParts};
 ghost use Rattle.urlpattern_laws.specs.OwnGroups.{ComponentsCaptureByGroups};
 ghost use Rattle.urlpattern_engine.specs.PatternRegexps.{pattern_engine};
 ghost use Rattle.urlpattern_pattern.specs.ByText.{AcceptedAlone};
@@ -107,13 +107,16 @@ pub fn components_answer_what_parts_capture()
 /// that are equal except for case.
 ///
 /// Premises: each custom expression stands alone, as `expressions_are_read_in_groups` says, and
-/// captures nothing itself. For `PatternRegexp`, the flag `i` is not set.
+/// captures nothing itself. For `PatternRegexp`, the flag `i` is not set; or the flags say as the
+/// options whether case is ignored, expressions are read so, and if case is ignored, the text, all
+/// texts of the parts and the delimiter are ASCII.
 #[tactic(auto, using(crate::proofs::CustomLaws::first_ways))]
 pub fn values_answer_the_first_way_of_parts()
     ensures trees { FirstWaysAreOfTrees }
     ensures either_case { FirstWaysAreOfEitherCase }
     ensures captured { FirstWaysAreCaptured }
     ensures own { ValuesReturnFirstOfParts pattern_engine KeepsCase }
+    ensures by_flags { ValuesReturnFirstByFlags pattern_engine }
     ensures regex { ValuesReturnFirstOfParts regex_engine (λ flags. ⊤) }
 {}
 

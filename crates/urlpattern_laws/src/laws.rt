@@ -9,7 +9,7 @@ ghost use Rattle.urlpattern_engine.specs.EcmaRegexps.{KeepsRegex, ecma_engine};
 ghost use Rattle.urlpattern_laws.specs.PatternLaws.{EqualTextsHaveEqualResults, EqualTextsHaveEqualTests, ResultsMeanTheParts, FirstResultsAreOne, MatchesAreOne, RegexMeetsPremises, RegexResultsAreFirst, TestsAgree, TestsAreOne};
 ghost use Rattle.urlpattern_canonical.specs.Canonical.{canonical_hash, canonical_password, canonical_search, canonical_username};
 ghost use Rattle.urlpattern_laws.specs.CanonicalLaws.{AreCanonicalAgain};
-ghost use Rattle.urlpattern_laws.specs.ByCase.{FindingsAreByCase, FindingsByCaseAreOne, FirstsAreReturnedByCase, FirstsAreReturnedWithoutEngine, InputFindingsAreByCase, KeptMeaningsByCaseAreOfTexts};
+ghost use Rattle.urlpattern_laws.specs.ByCase.{FindingsAreByCase, FindingsByCaseAreOne, FirstsAreReturnedByCase, FirstsAreReturnedWithoutEngine, InputFindingsAreByCase, KeptMeaningsByCaseAreOfTexts, TextsOfUrlsAreLinesByCase};
 ghost use Rattle.urlpattern_laws.specs.LinkLaws.{LinksAreOne, LinksDiffer, LinksOfCapturesAreTheTexts};
 ghost use Rattle.urlpattern_laws.specs.MatchLinks.{GroupsOfCapturesAreGiven, GroupsOfMatchesDiffer, GroupsOfResultsAreGiven, LinksOfCompiledMatchesAreTheTexts, LinksOfMatchesAreTheTexts};
 ghost use Rattle.urlpattern_laws.specs.Outcomes.{DecidesGenerated, FirstWaysDecide, InitRejectionsAreOne, InitsHaveValues, PatternsExcludeRejections};
@@ -55,6 +55,9 @@ pub use urlpattern_meaning::meaning_laws::{
     tokens_lose_nothing,
 };
 pub use urlpattern_plain::json_laws::reading_undoes_writing;
+pub use urlpattern_values::value_laws::{
+    encoded_values_are_decoded, encoded_values_have_no_delimiters,
+};
 
 /// The results of a compiled pattern are what its pattern texts mean. In a match, each component's
 /// pattern text reads as parts that mean the component's text (`PartsMean`), and the groups are the
@@ -192,31 +195,33 @@ pub fn first_ways_are_answered_without_an_engine<R: RegExp>()
 {}
 
 /// A component over `PatternRegexp` matches by its pattern text, with case ignored or kept. If it
-/// has no custom regular expression, or, where case is kept, only simple ones, it returns for each
-/// text without line feeds the captures of the first way in which its parts match the text, whether
-/// or not its matcher needs an engine.
+/// has a meaning (`IsMeantByCase`), it returns for each line the captures of the first way in which
+/// its parts match the text, whether or not its matcher needs an engine. Where case is ignored and
+/// a part is custom, this is said of lines of ASCII (`IsLineByCase`).
 ///
 /// Where case is ignored, an ASCII letter of a fixed text, of a prefix or suffix or of the
-/// delimiter stands for both of its cases, and captures are pieces of the text as it is.
+/// delimiter stands for both of its cases, custom expressions are read with the flag `i`, and
+/// captures are pieces of the text as it is.
 pub fn first_ways_are_answered_where_case_is_ignored()
     ensures { FirstsAreReturnedByCase pattern_engine }
 {}
 
 /// A compiled pattern over `PatternRegexp` matches by its pattern texts, also in components that
-/// ignore case. Each component without a custom regular expression, or, where case is kept, with
-/// simple ones, has the names of the parts of its pattern text, and for a text without line feeds
-/// the captures of the first way in which the parts match it, as
+/// ignore case. Each component that has a meaning (`IsMeantByCase`) has the names of the parts of
+/// its pattern text, and for a line the captures of the first way in which the parts match it, as
 /// `first_ways_are_answered_where_case_is_ignored` says. There is no match only if the parts of a
 /// component have no way to match its text.
 ///
-/// What is found is determined by the pattern texts, if each component is of this kind and no text
-/// has a line feed.
+/// What is found is determined by the pattern texts, if each component has a meaning and each text
+/// is a line (`IsLineByCase`). The texts of a URL are.
 ///
-/// The parts that a compiled pattern keeps for a component are of this kind, as
-/// `UrlPattern::component_has_meaning_by_case` decides, exactly if the component's pattern text is.
+/// The parts that a compiled pattern keeps for a component have a meaning, as
+/// `UrlPattern::component_has_meaning_by_case` decides, exactly if the component's pattern text
+/// does.
 pub fn patterns_answer_by_their_texts_where_case_is_ignored()
     ensures found { FindingsAreByCase pattern_engine }
     ensures executed { InputFindingsAreByCase pattern_engine }
+    ensures urls { TextsOfUrlsAreLinesByCase }
     ensures one { FindingsByCaseAreOne }
     ensures kept { KeptMeaningsByCaseAreOfTexts pattern_engine }
 {}

@@ -4,6 +4,7 @@
 //! `urlpattern` re-exports the modules.
 #![tactic(auto)]
 
+pub mod common_texts;
 pub mod custom;
 pub mod laws;
 pub mod parts;

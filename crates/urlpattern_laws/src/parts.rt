@@ -6,9 +6,9 @@
 //! Each function has an empty body; its contract is a theorem.
 
 ghost use Rattle.urlpattern_matcher.specs.Regexes.{regex_engine};
-ghost use Rattle.urlpattern_engine.specs.PatternRegexps.{pattern_engine};
+ghost use Rattle.urlpattern_engine.specs.{GrammarReadings.ExpressionsReturnAlike, PatternRegexps.pattern_engine};
 ghost use Rattle.urlpattern_pattern.specs.ByText.{MakesFirstWays};
-ghost use Rattle.urlpattern_laws.specs.PartReadings.{ApartMatchNothing, CommonAreMatched, CoveredAreMatched, CoveredByEngineAreMatched, CoveredByMeaningAreMatched, KeptPartsMean, KnownAreCoveredByMeaning, MadeAreMatched, OwnPartsMean, PartingsAreMatched};
+ghost use Rattle.urlpattern_laws.specs.PartReadings.{ApartMatchNothing, CommonAreMatched, CoveredAreMatched, CoveredByEngineAreMatched, CoveredByMeaningAreMatched, EqualAreMatched, KeptPartsMean, KnownAreCoveredByMeaning, MadeAreMatched, OwnPartsMean, PartingsAreMatched};
 
 use urlpattern_matcher::regexp::RegExp;
 
@@ -62,6 +62,16 @@ pub fn patterns_covered_by_meaning_match<R: RegExp>()
 pub fn covered_patterns_by_these_engines_match()
     ensures pattern_regexp { CoveredByEngineAreMatched pattern_engine }
     ensures regex { CoveredByEngineAreMatched regex_engine }
+{}
+
+/// Two patterns that one engine made of equal parts, as `UrlPattern::is_same` decides, match the
+/// same eight texts without line feeds, with the same captures, if case is kept in each component
+/// or no part of the component is custom. Premise: two values that the engine made of one
+/// expression return the same results, as those of `PatternRegexp` and of `regex::Regex` do.
+pub fn equal_patterns_match_alike<R: RegExp>()
+    ensures made { ExpressionsReturnAlike R.RegExp → EqualAreMatched R.RegExp }
+    ensures pattern_regexp { EqualAreMatched pattern_engine }
+    ensures regex { EqualAreMatched regex_engine }
 {}
 
 /// Each of two patterns matches the common texts that are found by their parts. In a component of

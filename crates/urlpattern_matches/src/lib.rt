@@ -7,6 +7,7 @@
 #![tactic(auto)]
 
 mod captures;
+mod decoded;
 mod group_maps;
 mod groups_json;
 mod input_parsing;

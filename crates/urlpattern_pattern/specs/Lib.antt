@@ -6,8 +6,11 @@ pub mod ComponentTexts
 pub mod KeptParts
 pub mod KeptMeanings
 pub mod LinkedUrls
+pub mod EncodedLinks
 pub mod Match
 pub mod MatchMeaning
 pub mod Mismatch
 pub mod Patterns
 pub mod UrlPatterns
+pub mod ConstructorTexts
+pub mod ReadBack

@@ -8,13 +8,16 @@ ghost use Rattle.urlpattern_components.specs.declared.eight.ComponentName.TheVar
 ghost use Rattle.urlpattern_components.specs.Eight.{at};
 
 mod compare;
+mod constructor_text;
 mod create;
 mod diagnose;
 mod generate;
 mod link;
+mod link_encoded;
 mod matching;
 mod meaning;
 mod mismatch;
+mod read_back;
 
 pub use compare::CompareError;
 pub use matching::match_of_texts;

@@ -11,6 +11,7 @@ use urlpattern::component::{Component, generate_matcher};
 use urlpattern::matcher::{InnerMatcher, Matcher};
 use urlpattern::parser::Options;
 use urlpattern::regexp::RegExp;
+use urlpattern::rules::USUAL_LIMITS;
 use urlpattern::{
     CompareError, ComponentName, Error, UrlPattern, UrlPatternComponentResult, UrlPatternList,
     UrlPatternMap, UrlPatternResult,
@@ -255,6 +256,7 @@ fn expect_not_compared(
     assert!(rt; lacks_parts(pattern.overlaps(alloc, other))?);
     let order = UrlPattern::compare_component(ComponentName::Pathname, pattern, other);
     assert!(rt; lacks_parts(order)?);
+    assert!(rt; lacks_parts(pattern.is_same(other))?);
     Ok(())
 }
 
@@ -269,20 +271,20 @@ fn a_pattern_without_parts_is_not_compared(rt: HostRuntime) -> Result<(), Fail> 
 }
 
 /// Compares a list and a map of two patterns, the second of which has no parts.
-fn expect_no_unreachable(rt: &impl Abort, alloc: Global) -> Result<(), Error> {
+fn expect_no_reach(rt: &impl Abort, alloc: Global) -> Result<(), Error> {
     let mut list = UrlPatternList::new(alloc);
     list.try_push(pattern_of(alloc, &[("pathname", "/*")])?)?;
     list.try_push(without_parts(alloc, "/a")?)?;
-    assert!(rt; lacks_parts(list.unreachable(alloc))?);
+    assert!(rt; lacks_parts(list.reach_of_each(alloc, USUAL_LIMITS))?);
     let mut map = UrlPatternMap::new(alloc);
     map.try_insert(pattern_of(alloc, &[("pathname", "/*")])?, 0u32)?;
     map.try_insert(without_parts(alloc, "/a")?, 1)?;
-    assert!(rt; lacks_parts(map.unreachable(alloc))?);
+    assert!(rt; lacks_parts(map.reach_of_each(alloc, USUAL_LIMITS))?);
     Ok(())
 }
 
 #[test]
 fn patterns_of_which_one_has_no_parts_are_not_compared(rt: HostRuntime) -> Result<(), Fail> {
-    expect_no_unreachable(&rt, rt.alloc())?;
+    expect_no_reach(&rt, rt.alloc())?;
     Ok(())
 }

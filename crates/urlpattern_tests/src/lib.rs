@@ -7,6 +7,8 @@
 #[cfg(test)]
 mod captures;
 #[cfg(test)]
+mod decoded;
+#[cfg(test)]
 mod given;
 #[cfg(test)]
 mod hand_built;

@@ -1,11 +1,12 @@
 //! Maps of patterns: their elements, and the value of the first match.
 
 use crate::given::{expect_same, pattern_of, url_input, url_of};
+use regex::Regex;
 use std::alloc::Global;
 use std::process::Abort;
 use std::test::Fail;
 use urlpattern::quirks::parse_match_input;
-use urlpattern::{Error, PathError, UrlPattern, UrlPatternMap, pathname_texts};
+use urlpattern::{Error, PathError, UrlPattern, UrlPatternMap, UrlPatternMapMatches, pathname_texts};
 
 /// Paths, each with a value.
 const ROUTES: [(&str, u32); 3] = [("/users/me", 1), ("/users/:id", 2), ("/users/*", 3)];
@@ -140,6 +141,78 @@ fn a_path_is_a_path_whatever_it_looks_like(rt: HostRuntime) -> Result<(), Fail> 
     let map = routes(rt.alloc())?;
     expect_of_paths(&rt, rt.alloc(), &map);
     let outcome = expect_of_texts(&rt, rt.alloc(), &map);
+    drop(map);
+    outcome?;
+    Ok(())
+}
+
+/// The values of all matches of a map, in order.
+fn values_of(
+    alloc: Global,
+    matches: UrlPatternMapMatches<'_, '_, u32, Regex>,
+) -> Result<Vec<u32>, Error> {
+    let mut values = Vec::new(alloc);
+    for found in matches {
+        let (index, value, captures) = found?;
+        drop(captures);
+        let Some((_, expected)) = ROUTES.get(index) else {
+            return Ok(Vec::new(alloc));
+        };
+        if value == expected {
+            values.push(*value)?;
+        }
+    }
+    Ok(values)
+}
+
+/// Compares the values of all matches: of a path, of eight texts, of a URL and of an input.
+fn expect_matches(
+    rt: &impl Abort,
+    alloc: Global,
+    map: &UrlPatternMap<u32>,
+    path: &str,
+    expected: &[u32],
+) -> Result<(), Error> {
+    let Some(matches) = map.matches_of_path(alloc, path) else {
+        assert!(rt; expected.is_empty());
+        return Ok(());
+    };
+    assert_eq!(rt; values_of(alloc, matches)?.as_slice(), expected);
+    let matches = map.matches_of_texts(alloc, pathname_texts(path));
+    assert_eq!(rt; values_of(alloc, matches)?.as_slice(), expected);
+    let text = format!(in alloc; "https://example.com{path}")?;
+    let url = url_of(alloc, &text)?;
+    let values = values_of(alloc, map.matches(alloc, &url));
+    drop(url);
+    assert_eq!(rt; values?.as_slice(), expected);
+    let Some(input) = parse_match_input(alloc, url_input(alloc, &text)?)? else {
+        return Ok(());
+    };
+    let values = values_of(alloc, map.matches_of_input(alloc, &input));
+    drop(input);
+    assert_eq!(rt; values?.as_slice(), expected);
+    Ok(())
+}
+
+/// Compares the values of all matches of some paths.
+fn expect_all_matches(
+    rt: &impl Abort,
+    alloc: Global,
+    map: &UrlPatternMap<u32>,
+) -> Result<(), Error> {
+    expect_matches(rt, alloc, map, "/users/me", &[1, 2, 3])?;
+    expect_matches(rt, alloc, map, "/users/you", &[2, 3])?;
+    expect_matches(rt, alloc, map, "/users/you/files", &[3])?;
+    expect_matches(rt, alloc, map, "/", &[])?;
+    expect_matches(rt, alloc, map, "users/me", &[])?;
+    assert_eq!(rt; map.matches_of_texts(alloc, pathname_texts("/")).size_hint(), (0, None));
+    Ok(())
+}
+
+#[test]
+fn a_map_lists_all_matches(rt: HostRuntime) -> Result<(), Fail> {
+    let map = routes(rt.alloc())?;
+    let outcome = expect_all_matches(&rt, rt.alloc(), &map);
     drop(map);
     outcome?;
     Ok(())

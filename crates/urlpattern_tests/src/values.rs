@@ -1,9 +1,11 @@
 //! Copies, comparisons, defaults and text forms of small values, and values that are set on one
 //! URL.
 
-use crate::given::{expect_same, path_of};
+use crate::given::{expect_same, init_of, path_of};
+use std::alloc::Global;
 use std::test::Fail;
 use urlpattern::regexp::{PatternRegexp, RegExp};
+use urlpattern::{ComponentName, Error, UrlPattern, UrlPatternOptions};
 use urlpattern_canonical::canonicalize_and_process::{Canonicalizer, ProcessType};
 use urlpattern_matcher::component::Component;
 use urlpattern_parser::parser::{Options, PartModifier, PartType};
@@ -34,6 +36,61 @@ fn a_copy_of_a_token_has_each_field(rt: HostRuntime) -> Result<(), Fail> {
         assert_eq!(rt; copy.kind, token.kind);
         assert_eq!(rt; copy.index, token.index);
         assert_eq!(rt; copy.value, token.value);
+    }
+    Ok(())
+}
+
+/// A pattern of this path.
+fn path_pattern(alloc: Global, path: &str, ignore_case: bool) -> Result<UrlPattern, Error> {
+    let options = UrlPatternOptions {
+        ignore_case,
+        ..UrlPatternOptions::default()
+    };
+    UrlPattern::parse(alloc, init_of(alloc, &[("pathname", path)])?, options)
+}
+
+#[test]
+fn patterns_are_the_same_by_parts_and_options(rt: HostRuntime) -> Result<(), Fail> {
+    let alloc = rt.alloc();
+    let pattern = path_pattern(alloc, "/a{b}/:x", false)?;
+    let others = [
+        ("/ab/:x", false, true),
+        ("/ab/:y", false, false),
+        ("/ab/:x?", false, false),
+        ("/ab/:x", true, false),
+    ];
+    for (path, ignore_case, same) in others {
+        let other = path_pattern(alloc, path, ignore_case)?;
+        assert!(rt; matches!(pattern.is_same(&other), Ok(found) if found == same), "{path}");
+    }
+    Ok(())
+}
+
+/// Where case is ignored, a component with a custom expression has a meaning only if its fixed
+/// texts and its delimiter are ASCII. No compiled pattern has others; parts built by hand may.
+#[test]
+fn parts_outside_ascii_have_no_meaning_where_case_is_ignored(rt: HostRuntime) -> Result<(), Fail> {
+    let alloc = rt.alloc();
+    let rows = [
+        ("/e", '/', true, true),
+        ("/\u{e9}", '/', true, false),
+        ("/\u{e9}", '/', false, true),
+        ("/e", '\u{e9}', true, false),
+        ("/e", '\u{e9}', false, true),
+    ];
+    for (fixed, delimiter, ignore_case, expected) in rows {
+        let mut pattern = path_pattern(alloc, "/a(\\d+)", ignore_case)?;
+        if let Some(parts) = &mut pattern.parts {
+            let component = &mut parts.components.pathname;
+            component.options.delimiter_code_point = Some(delimiter);
+            for part in &mut component.parts {
+                if part.kind == PartType::FixedText {
+                    part.value = String::from_str(alloc, fixed)?;
+                }
+            }
+        }
+        let has_meaning = pattern.component_has_meaning_by_case(alloc, ComponentName::Pathname)?;
+        expect_same(&rt, has_meaning, expected, fixed);
     }
     Ok(())
 }

@@ -15,7 +15,7 @@ use urlpattern::{
 };
 
 /// The result of a match. `None`: there is no match.
-type Found = Option<UrlPatternResult>;
+pub type Found = Option<UrlPatternResult>;
 
 /// The number of inputs for a pattern.
 const INPUTS: usize = 3;
@@ -150,7 +150,7 @@ fn is_copied(
 }
 
 /// Whether this is the match.
-fn is_match(answer: Result<Found, Error>, found: &Found) -> Result<bool, Error> {
+pub fn is_match(answer: Result<Found, Error>, found: &Found) -> Result<bool, Error> {
     let is_same = match &answer {
         Ok(other) => Ok(other == found),
         Err(_) => Err(Error::OutOfMemory),

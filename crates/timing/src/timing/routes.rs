@@ -19,7 +19,7 @@ use urlpattern::{Error, UrlPatternList};
 const BASE: &str = "https://api.example.com";
 
 /// The sizes of the generated tables.
-const SIZES: [usize; 2] = [1000, 10_000];
+pub(super) const SIZES: [usize; 2] = [1000, 10_000];
 
 /// The routes of each group of a generated table, before and after the group's name.
 const SHAPES: [(&str, &str); 8] = [
@@ -34,7 +34,7 @@ const SHAPES: [(&str, &str); 8] = [
 ];
 
 /// Paths that no route matches.
-const MISSES: [&str; 10] = [
+pub(super) const MISSES: [&str; 10] = [
     "/",
     "/none",
     "/repos/none",
@@ -114,7 +114,7 @@ impl<'t> Lookups<'t> {
 }
 
 /// The text of a route, in which each segment that is a name or a wildcard is replaced.
-fn with_segments(
+pub(super) fn with_segments(
     alloc: Global,
     route: &str,
     name: (&str, &str),
@@ -170,7 +170,7 @@ fn list_of(alloc: Global, routes: &[String]) -> Result<List, Error> {
 }
 
 /// The router of the paths of some routes. It rejects routes that differ only in names.
-fn router_of(alloc: Global, routes: &[String]) -> Result<Router<usize>, Error> {
+pub(super) fn router_of(alloc: Global, routes: &[String]) -> Result<Router<usize>, Error> {
     let mut router = Router::new(alloc);
     for (index, route) in routes.iter().enumerate() {
         let path = with_segments(alloc, route, ("{", "}"), "{*rest}")?;
@@ -199,7 +199,7 @@ fn misses_of(alloc: Global) -> Result<Vec<Url>, Error> {
 }
 
 /// The routes of a generated table.
-fn made_routes(alloc: Global, size: usize) -> Result<Vec<String>, Error> {
+pub(super) fn made_routes(alloc: Global, size: usize) -> Result<Vec<String>, Error> {
     let mut routes = Vec::new(alloc);
     for index in 0..size {
         let group = index / SHAPES.len();
@@ -274,7 +274,7 @@ fn slowest<R: AllocGlobal + Clock>(rt: &R, table: &Table) -> io::Result<u128> {
 }
 
 /// The lines of a text, each of which is a route.
-fn lines_of(alloc: Global, text: &str) -> Result<Vec<String>, Error> {
+pub(super) fn lines_of(alloc: Global, text: &str) -> Result<Vec<String>, Error> {
     let mut routes = Vec::new(alloc);
     for line in text.lines() {
         routes.push(String::from_str(alloc, line)?)?;

@@ -8,7 +8,10 @@ use std::io::Write;
 use std::time::{Clock, Instant};
 use urlpattern::quirks::{StringOrInit, process_construct_pattern_input};
 use urlpattern::regexp::PatternRegexp;
-use urlpattern::rules::{PatternCovering, PatternOverlap, PatternParts, unreachable};
+use urlpattern::rules::{
+    PatternAutomata, PatternCovering, PatternOverlap, PatternParts, Reach, USUAL_LIMITS,
+    reach_of_each,
+};
 use urlpattern::{Error, UrlPattern, UrlPatternOptions};
 
 /// The origin of all routes.
@@ -98,9 +101,33 @@ fn compare<R: AllocGlobal + Clock, O: Write>(
     }
     covers.print(out, "covers")?;
     overlaps.print(out, "overlaps")?;
-    let patterns: Vec<&PatternParts> = all.iter().collect(rt.alloc())?;
     let start = Instant::now(rt)?;
-    let found = unreachable(rt.alloc(), &patterns)?;
+    let (known, never) = reach(rt.alloc(), all)?;
     let taken = start.elapsed(rt)?.as_nanos();
-    writeln!(out, "unreachable\t1\t{}\t{taken}\t{taken}", found.len())
+    writeln!(out, "reach_of_each\t{known}\t{never}\t{taken}\t{taken}")
+}
+
+/// The number of routes of which it is known whether they are reached, and of those that never are.
+fn reach(alloc: Global, all: &[PatternParts]) -> io::Result<(usize, usize)> {
+    let mut automata = Vec::new(alloc);
+    for parts in all {
+        automata.push(PatternAutomata::of(alloc, parts)?)?;
+    }
+    let patterns: Vec<&PatternAutomata> = automata.iter().collect(alloc)?;
+    let found = reach_of_each(alloc, &patterns, USUAL_LIMITS)?;
+    drop(patterns);
+    drop(automata);
+    let mut known = 0usize;
+    let mut never = 0usize;
+    for one in &found {
+        match one {
+            Reach::First(_) => known = known.saturating_add(1),
+            Reach::Never(_) => {
+                known = known.saturating_add(1);
+                never = never.saturating_add(1);
+            }
+            Reach::Unknown(_) => {}
+        }
+    }
+    Ok((known, never))
 }

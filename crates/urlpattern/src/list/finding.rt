@@ -123,7 +123,7 @@ impl<R: RegExp> UrlPatternList<R> {
     /// Returns the least index, not below `from`, whose pattern may match texts with these hashes.
     /// `None`: no such pattern matches.
     #[inline(always)]
-    pub(super) fn next_candidate(&self, hashes: &AddressHashes, from: usize) -> Option<usize>
+    pub(crate) fn next_candidate(&self, hashes: &AddressHashes, from: usize) -> Option<usize>
         ensures within { IfSome result (λ index. (from ≤ index) × (index < length self.now)) }
         ensures passed { SkipsOnlyMismatches R.answer (patterns_view self.now)
             (hashes_view hashes.now) from result }

@@ -1,21 +1,25 @@
-//! The first match of a map for what is no `Url`: eight texts, an input that is parsed, or a path.
-ghost use Rattle.std.specs.Prelude.{◌≡◌, ◌<◌, length, IfErr, IfOk, IfSome};
+//! The matches of a map for what is no `Url`: eight texts, an input that is parsed, or a path.
+ghost use Rattle.std.specs.Prelude.{◌≡◌, ◌<◌, ◌≤◌, length, IfErr, IfOk, IfSome};
 ghost use Rattle.std.specs.Str.{chars};
 ghost use Rattle.urlpattern.specs.FirstMatch.{CallsEngineBeforeMatch, HasGroupsInOrder, IsFirstCaptured};
-ghost use Rattle.urlpattern.specs.NextMatch.{CallsEngineBeforeMatchFrom, IsFirstCapturedFrom};
+ghost use Rattle.urlpattern.specs.MapMatches.{all_entries, entries_left, HasEntriesOfPath};
+ghost use Rattle.urlpattern.specs.NextMatch.{CallsEngineBeforeMatchFrom, IsFirstCapturedFrom, SkipsOnlyMismatches};
 ghost use Rattle.urlpattern.specs.Paths.{HasGroupsOfPath, IsFirstOfPath, IsPathError};
 ghost use Rattle.urlpattern.specs.PatternMaps.{entry_patterns, HasValueAt, without_value};
+ghost use Rattle.urlpattern_index.specs.Keys.{hashes_view};
 ghost use Rattle.urlpattern_matches.specs.GroupTexts.{borrowed_texts};
 ghost use Rattle.urlpattern_matches.specs.MatchInput.{texts_view};
 ghost use Rattle.urlpattern_syntax.specs.Errors.{OnlyOutOfMemory};
 
-use super::UrlPatternMap;
+use super::{UrlPatternMap, UrlPatternMapMatches};
+use crate::path::is_path;
 use crate::path_error::PathError;
 use std::alloc::Global;
 use urlpattern_components::Eight;
+use urlpattern_index::AddressHashes;
 use urlpattern_inputs::MatchInput;
 use urlpattern_matcher::regexp::RegExp;
-use urlpattern_matches::UrlPatternCaptures;
+use urlpattern_matches::{UrlPatternCaptures, input_texts, pathname_texts};
 use urlpattern_syntax::Error;
 use urlpattern_syntax::error::OutOfMemory;
 
@@ -92,6 +96,56 @@ impl<T, R: RegExp> UrlPatternMap<T, R> {
             Ok(found) => Ok(self.with_value(found)),
             Err(error) => Err(error),
         }
+    }
+
+    /// Iterates over all matches of eight texts, one for each component, as `matches` does for
+    /// those of a URL. The texts are not made canonical.
+    pub fn matches_of_texts<'m, 'u>(
+        &'m self,
+        alloc: Global,
+        texts: Eight<&'u str>,
+    ) -> UrlPatternMapMatches<'m, 'u, T, R>
+        ensures { entries_left result ≡ all_entries self.now (borrowed_texts texts.entry) }
+    {
+        UrlPatternMapMatches::new(self, alloc, texts)
+    }
+
+    /// Iterates over all matches of an input that is parsed into its eight texts, as `matches` does
+    /// for those of a URL.
+    pub fn matches_of_input<'m, 'u>(
+        &'m self,
+        alloc: Global,
+        input: &'u MatchInput,
+    ) -> UrlPatternMapMatches<'m, 'u, T, R>
+        ensures { entries_left result ≡ all_entries self.now (texts_view input.now) }
+    {
+        UrlPatternMapMatches::new(self, alloc, input_texts(input))
+    }
+
+    /// Iterates over all matches of a path, all other components being empty, as `matches` does for
+    /// a URL. The path is not made canonical. `None`: the text is no path, by `is_path`.
+    pub fn matches_of_path<'m, 'u>(
+        &'m self,
+        alloc: Global,
+        path: &'u str,
+    ) -> Option<UrlPatternMapMatches<'m, 'u, T, R>>
+        ensures { HasEntriesOfPath self.now (chars path.now) result }
+    {
+        if !is_path(path) {
+            return None;
+        }
+        Some(UrlPatternMapMatches::new(self, alloc, pathname_texts(path)))
+    }
+
+    /// Returns the least index, not below `from`, whose pattern may match texts with these hashes.
+    /// `None`: no such pattern matches.
+    #[inline(always)]
+    pub(crate) fn next_candidate(&self, hashes: &AddressHashes, from: usize) -> Option<usize>
+        ensures within { IfSome result (λ index. (from ≤ index) × (index < length self.now)) }
+        ensures passed { SkipsOnlyMismatches R.answer (entry_patterns self.now)
+            (hashes_view hashes.now) from result }
+    {
+        self.patterns.next_candidate(hashes, from)
     }
 
     /// Returns the least index, not below `from`, whose pattern matches eight texts, with the value

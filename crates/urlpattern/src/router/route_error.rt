@@ -7,6 +7,8 @@ use std::{error, fmt};
 /// Why a route was not added to a router.
 #[derive(Debug, Clone, Copy, PartialEq, Eq)]
 pub enum RouteError {
+    /// A route of the router has the name.
+    NameTaken,
     /// The method is no token of HTTP (RFC 9110, section 5.6.2), as one with a space.
     NotAMethod,
     /// The allocator had no memory.
@@ -19,6 +21,7 @@ impl fmt::Display for RouteError {
 
     fn fmt<W: fmt::Write>(&self, f: &mut fmt::Formatter<W>) -> fmt::Result {
         match self {
+            Self::NameTaken => f.write_str("another route has the name"),
             Self::NotAMethod => f.write_str("the method is not a token, such as `GET`"),
             Self::OutOfMemory => f.write_str("out of memory"),
         }

@@ -1,9 +1,10 @@
 //! Compares patterns by the parts that they were made of.
-ghost use Rattle.std.specs.Prelude.{◌≡◌, IfErr, IfOk, Some};
+ghost use Rattle.std.specs.Prelude.{◌≡◌, ◌↔◌, IfErr, IfOk, IsTrue, Some};
 ghost use Rattle.urlpattern_components.specs.Eight.{at};
 ghost use Rattle.urlpattern_pattern.specs.PatternComparing.{HaveParts, LackParts, OfPartsOfBoth, compare_error_text};
 ghost use Rattle.urlpattern_pattern.specs.declared.pattern.compare.CompareError.TheVariants as errors;
 ghost use Rattle.urlpattern_compare.specs.Comparing.{IsPatternCovering, IsPatternOverlap};
+ghost use Rattle.urlpattern_compare.specs.EqualParts.{AreEqualParts};
 ghost use Rattle.urlpattern_compare.specs.Order.{parts_cmp};
 
 use super::UrlPattern;
@@ -100,6 +101,25 @@ impl<R: RegExp> UrlPattern<R> {
     {
         match left.both_parts(right) {
             Ok((parts, others)) => Ok(PatternParts::compare_component(component, parts, others)),
+            Err(_) => Err(CompareError::NoParts),
+        }
+    }
+
+    /// Whether each component has equal options and equal parts in this pattern and in `other`,
+    /// names of groups included.
+    ///
+    /// Compares the parts of the two patterns as `PatternParts::is_same` does, and does not
+    /// allocate.
+    ///
+    /// The error is `NoParts`: a pattern was put together by hand.
+    pub fn is_same(&self, other: &Self) -> Result<bool, CompareError>
+        ensures same { IfOk result (λ same. OfPartsOfBoth self.now other.now (λ parts others.
+            IsTrue same ↔ AreEqualParts parts others)) }
+        ensures missing { IfErr result (λ error.
+            (error ≡ errors.NoParts) × LackParts self.now other.now error) }
+    {
+        match self.both_parts(other) {
+            Ok((parts, others)) => Ok(parts.is_same(others)),
             Err(_) => Err(CompareError::NoParts),
         }
     }

@@ -63,9 +63,10 @@ impl<R: RegExp> UrlPattern<R> {
     }
 
     /// Whether a component has a meaning over `PatternRegexp`, which honours the flag `i`: each of
-    /// its custom regular expressions is simple (`is_simple`), and if it has one, its case is kept.
-    /// The pattern text then says which texts without line feed the component matches, with which
-    /// captures.
+    /// its custom regular expressions is simple (`is_simple`), and if it has one and its case is
+    /// ignored, the delimiter and all texts of its parts are ASCII. The pattern text then says
+    /// which texts without line feed the component matches, with which captures; of texts of ASCII
+    /// alone, if an expression ignores case.
     ///
     /// `false` for a pattern that was put together by hand, which has no parts. The only error is
     /// that memory ran out.

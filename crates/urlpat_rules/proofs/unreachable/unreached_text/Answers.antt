@@ -1,19 +1,18 @@
-use Rattle.std.proofs.Common.{◌≡◌, ◌∙◌, Bor, List, ap, map, subst, take, take_all}
-use Rattle.std.specs.List.{flat_map}
-use Rattle.urlpat_rules.specs.UnreachedLines.{unreached_line}
+use Rattle.std.proofs.Common.{◌∙◌, ◌++◌, ap, sym, take_all}
+use Rattle.urlpat_rules.proofs.DoubtLemmas.{lines-more}
+use Rattle.urlpat_rules.specs.UnreachedLines.{lines_of, unreached_line}
 use Rattle.urlpat_lines.specs.Tables.{entries_view}
-use Rattle.urlpattern_compare.specs.Comparing.{AreUnreachable}
-use Rattle.urlpattern_compare.specs.declared.pattern_parts.PatternParts.{PatternParts}
 use Rattle.urlpat_rules.proofs.unreachable.unreached_text.Goals as goal
+
+pub loop-index-preserved : goal.loop-index-preserved
+loop-index-preserved c =
+    let line = unreached_line (entries_view c.args.entries.now) in
+    let found = c.args.found.now in
+    let index = c.loop-index.index in
+    let reach = c.index-found-index.result in
+    c.in_ok-push_unreached.ensures ∙ ap (λ text. text ++ line index reach) c.loop-index.invariant
+    ∙ sym (lines-more line found index reach c.loop-index-test.true c.index-found-index.is)
 
 pub returns : goal.returns
 returns c =
-    let items = c.in_ok-found.found.items in
-    let are : map (λ (parts : Bor PatternParts). parts.now) c.deref.result.now ≡ c.args.patterns.now =
-    ap (map (λ (parts : Bor PatternParts). parts.now)) c.deref.ensures.value ∙ c.in_ok-all.ensures in
-    let all : take c.loop-shadowed.shadowed-index c.deref-shadowed-items.result.now ≡ items =
-    take_all c.loop-shadowed.shadowed-index c.deref-shadowed-items.result.now c.loop-shadowed-test.false ∙ c.deref-shadowed-items.ensures.value in (
-      items,
-      subst (λ (them : List PatternParts). AreUnreachable them items) are c.in_ok-found.ensures,
-      c.loop-shadowed.invariant ∙ ap (flat_map (unreached_line (entries_view c.args.entries.now))) all,
-    )
+    c.loop-index.invariant ∙ ap (lines_of (unreached_line (entries_view c.args.entries.now))) (take_all c.loop-index.index c.args.found.now c.loop-index-test.false)

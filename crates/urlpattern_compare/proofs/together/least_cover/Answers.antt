@@ -1,43 +1,26 @@
-use Rattle.std.proofs.Common.{◌∙◌, ◌≤◌, ◌<◌, ◌+◌, ◌++◌, List, ap, drop, map, subst, sym}
+use Rattle.std.proofs.Common.{◌≡◌, ◌++◌, [], List, length, map, subst, sym, take}
 use Rattle.std.proofs.lemmas.List.{length-map}
-use Rattle.std.specs.List.{All}
-use Rattle.urlpattern_compare.proofs.TogetherLemmas.{AreKept, all_others, least, none_kept, one_decided, others_map, some_there}
-use Rattle.urlpattern_compare.specs.CommonTexts.{AreAutomata}
-use Rattle.urlpattern_compare.specs.CoveringTogether.{DecidesTogether, at_each}
-use Rattle.urlpattern_compare.specs.declared.common_texts.PatternAutomata.{PatternAutomata}
+use Rattle.urlpattern_compare.proofs.TogetherLemmas.{IsLeft, all_left, least, next_is}
+use Rattle.urlpattern_compare.specs.CoveringTogether.{AreCovering, IsFewest, at_each}
 use Rattle.urlpattern_compare.proofs.together.least_cover.Goals as goal
 
-pub loop-index-init : goal.loop-index-init
-loop-index-init c =
-    subst (λ kept. AreKept c.args.limits (map (λ it. it.now) c.args.patterns.now) c.args.asked.now kept 0) (sym c.new-kept.ensures.items)
-    (none_kept c.args.limits (map (λ it. it.now) c.args.patterns.now) c.args.asked.now c.requires.covered)
+pub loop-end-init : goal.loop-end-init
+loop-end-init c =
+    let all = map (λ it. it.now) c.args.patterns.now in
+    subst (λ by. IsLeft c.args.limits all c.args.asked.now by (length c.args.patterns.now)) (sym c.new-by.ensures.items)
+    (subst (λ n. IsLeft c.args.limits all c.args.asked.now [] n) (length-map c.args.patterns.now (λ it. it.now)) (all_left c.args.limits all c.args.asked.now c.requires.covered))
 
-pub loop-index-preserved : goal.loop-index-preserved
-loop-index-preserved c =
-    let patterns = c.args.patterns.now in
-    let all = map (λ it. it.now) patterns in
-    let i = c.loop-index.index in
-    let kept = c.loop-index.kept.items in
-    let (pattern, there) = some_there all i (subst (λ n. i < n) (sym (length-map patterns (λ it. it.now))) c.loop-index-test.true) in
-    let listed = c.in_ok-others.ensures ∙ ap (λ l. at_each patterns l ++ drop (i + 1) patterns) c.deref.ensures.value in
-    let are = ap (map (λ it. it.now)) c.deref-in-loop-index.ensures.value ∙ others_map (λ it. it.now) patterns c.in_ok-others.others.items kept (i + 1) listed in
-    let decided = subst (λ (them : List PatternAutomata). DecidesTogether c.args.limits them c.args.asked.now c.in_ok-covers.covers) are c.in_ok-covers.ensures in
-    subst (λ l. AreKept c.args.limits all c.args.asked.now l (i + 1)) (sym c.in_ok-push_needed.ensures)
-    (one_decided c.args.limits all c.args.asked.now kept i pattern c.in_ok-covers.covers there c.loop-index.invariant decided)
+pub fewest-requires-clause-covered : goal.fewest-requires-clause-covered
+fewest-requires-clause-covered c =
+    let all = map (λ it. it.now) c.args.patterns.now in
+    subst (λ by. AreCovering (take c.loop-end.end all ++ at_each all by) c.args.asked.now) (sym c.deref.ensures.value) c.loop-end.invariant.cover
 
-pub are_covering-requires-clause-patterns : goal.are_covering-requires-clause-patterns
-are_covering-requires-clause-patterns c =
-    let patterns = c.args.patterns.now in
-    let all = map (λ it. it.now) patterns in
-    let i = c.loop-index.index in
-    let kept = c.loop-index.kept.items in
-    let listed = c.in_ok-others.ensures ∙ ap (λ l. at_each patterns l ++ drop (i + 1) patterns) c.deref.ensures.value in
-    let are = ap (map (λ it. it.now)) c.deref-in-loop-index.ensures.value ∙ others_map (λ it. it.now) patterns c.in_ok-others.others.items kept (i + 1) listed in
-    subst (λ (them : List PatternAutomata). All AreAutomata them) (sym are) (all_others AreAutomata all kept (i + 1) c.requires.patterns)
+pub loop-end-preserved : goal.loop-end-preserved
+loop-end-preserved c =
+    let all = map (λ it. it.now) c.args.patterns.now in
+    let fewest = subst (λ by. IsFewest c.args.limits all c.args.asked.now by c.loop-end.end c.in_ok-count.count) c.deref.ensures.value c.in_ok-count.ensures in
+    next_is c.args.limits all c.args.asked.now c.loop-end.by.items c.insert_last.new.by.items c.loop-end.end c.in_ok-count.count c.in_ok-last.last
+    c.in_ok-last.ensures.by c.in_ok-last.ensures.last c.loop-end.invariant fewest
 
 pub returns : goal.returns
-returns c =
-    let patterns = c.args.patterns.now in
-    let all = map (λ it. it.now) patterns in
-    let i = c.loop-index.index in
-    least c.args.limits all c.args.asked.now c.loop-index.kept.items i (subst (λ n. n ≤ i) (sym (length-map patterns (λ it. it.now))) c.loop-index-test.false) c.loop-index.invariant
+returns c = least c.args.limits (map (λ it. it.now) c.args.patterns.now) c.args.asked.now c.loop-end.by.items c.loop-end.end c.loop-end-test.false c.loop-end.invariant

@@ -9,9 +9,9 @@ returns-in_ok-push c =
     let i = c.args.index in
     let pattern = c.index-patterns-index.result in
     let there = slice_get_read patterns (length patterns) i pattern refl c.if-index-patterns.true c.index-patterns-index.is in
-    c.in_ok-push.ensures.items ∙ ap (λ l. c.args.others.now.items ++ l) (sym (one_each patterns i pattern there))
+    c.in_ok-push.ensures.items ∙ ap (λ l. c.args.some.now.items ++ l) (sym (one_each patterns i pattern there))
 
 pub returns-else-index-patterns : goal.returns-else-index-patterns
 returns-else-index-patterns c =
-    let all = c.args.others.now.items in
+    let all = c.args.some.now.items in
     sym (ap (λ l. all ++ l) (none_each c.args.patterns.now c.args.index c.if-index-patterns.false) ∙ append-nil all)

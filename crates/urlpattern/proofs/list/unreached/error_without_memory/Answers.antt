@@ -1,7 +1,7 @@
 use Rattle.std.proofs.Common.{List, subst, take_all}
 use Rattle.std.proofs.lemmas.List.Elements.{All-nil}
 use Rattle.std.specs.Prelude.{All}
-use Rattle.urlpattern.proofs.UnreachedLemmas.{HasParts, has_none, has_parts, have_more, lacks_parts}
+use Rattle.urlpattern.proofs.ListedParts.{HasParts, has_none, has_parts, have_more, lacks_parts}
 use Rattle.urlpattern_pattern.specs.UrlPatterns.{UrlPattern}
 use Rattle.urlpattern.proofs.list.unreached.error_without_memory.Goals as goal
 

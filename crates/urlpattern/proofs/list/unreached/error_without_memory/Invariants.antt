@@ -1,6 +1,6 @@
 use Rattle.std.proofs.Common.{take}
 use Rattle.std.specs.Prelude.{All}
-use Rattle.urlpattern.proofs.UnreachedLemmas.{HasParts}
+use Rattle.urlpattern.proofs.ListedParts.{HasParts}
 use Rattle.urlpattern.proofs.list.unreached.error_without_memory.Given as goal
 
 abbrev pub invariant-loop-pattern : goal.invariant-loop-pattern

@@ -1,0 +1,81 @@
+//! Two patterns, of one list or of two.
+use crate::calls::written;
+use crate::error::answer;
+use crate::{c, Error, UrlPatternInit, UrlPatternList};
+use std::ptr;
+
+impl UrlPatternList {
+    /// Whether a pattern is the same as one of this list or of another: whether both have the same
+    /// parts, names and options.
+    pub fn is_same(&self, index: usize, others: &Self, other: usize) -> Result<bool, Error> {
+        answer(unsafe {
+            if ptr::eq(self, others) {
+                c::urlpattern_is_same_within(self.at(), index, other)
+            } else {
+                c::urlpattern_is_same_between(self.at(), index, others.at(), other)
+            }
+        })
+    }
+
+    /// Texts that the asked pattern, of this list or of another, matches and a pattern does not: an
+    /// init without those that are not known. `None`: there are none, or it is not known.
+    pub fn counterexample(
+        &self,
+        index: usize,
+        others: &Self,
+        asked: usize,
+    ) -> Result<Option<UrlPatternInit>, Error> {
+        let (status, json) = written(|buffer, room, needed| unsafe {
+            if ptr::eq(self, others) {
+                c::urlpattern_counterexample_within(self.at(), index, asked, buffer, room, needed)
+            } else {
+                let others = others.at();
+                c::urlpattern_counterexample_between(
+                    self.at(),
+                    index,
+                    others,
+                    asked,
+                    buffer,
+                    room,
+                    needed,
+                )
+            }
+        });
+        if status == c::UNKNOWN || !answer(status)? {
+            return Ok(None);
+        }
+        Ok(Some(
+            UrlPatternInit::from_json(&json).expect("JSON of an init"),
+        ))
+    }
+
+    /// Whether there are texts that two patterns, of this list or of two, both match. `None`: it is
+    /// not known.
+    pub fn overlaps(
+        &self,
+        index: usize,
+        others: &Self,
+        other: usize,
+    ) -> Result<Option<bool>, Error> {
+        let (status, _) = written(|buffer, room, needed| unsafe {
+            if ptr::eq(self, others) {
+                c::urlpattern_overlaps_within(self.at(), index, other, buffer, room, needed)
+            } else {
+                let others = others.at();
+                c::urlpattern_overlaps_between(
+                    self.at(),
+                    index,
+                    others,
+                    other,
+                    buffer,
+                    room,
+                    needed,
+                )
+            }
+        });
+        if status == c::UNKNOWN {
+            return Ok(None);
+        }
+        answer(status).map(Some)
+    }
+}

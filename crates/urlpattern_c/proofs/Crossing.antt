@@ -1,0 +1,51 @@
+-- Patterns may go to another thread, and several threads may read them: they own plain memory. The
+-- type of an expression's tree is recursive, so no crate has this of it, nor of what holds it.
+use denote.Param.Send.{IsSend, IsSync, sendable}
+use Rattle.std.proofs.Crossing.{crosses}
+use Rattle.regex.specs.contracts.string.regex.Regex as Regex
+use Rattle.regex_dfa.proofs.dfa.Dfa.TheSendSync as dfa
+use Rattle.regex_hir.proofs.hir.Hir.TheLaws.TheKnot as knot
+use Rattle.regex_hir.specs.contracts.hir.Hir as Hir
+use Rattle.regex_literal.proofs.byte_set.ByteSet.TheSendSync as byte_set
+use Rattle.regex_literal.proofs.caseless.Caseless.TheSendSync as caseless
+use Rattle.regex_meta.specs.contracts.plan.Plans as Plans
+use Rattle.regex_meta.specs.contracts.program.Program as Program
+use Rattle.regex_nfa.proofs.nfa.Nfa.TheSendSync as nfa
+use Rattle.urlpattern.proofs.list.UrlPatternList.TheSendSync as list
+use Rattle.urlpattern_engine.proofs.strategy.StepSearch.TheSendSync as search_of_steps
+use Rattle.urlpattern_engine.specs.contracts.pattern_regexp.PatternRegexp as PatternRegexp
+use Rattle.urlpattern_ffi.specs.contracts.pattern_box.PatternBox as PatternBox
+use Rattle.urlpattern_steps.proofs.step.Step.TheSendSync as step
+
+hir_send : IsSend (Hir.the_field).row
+hir_send = search (crosses, knot.crosses, sendable) depth 60 fits 20000
+
+plans_send : IsSend (Plans.the_field).row
+plans_send = search (hir_send, crosses, sendable) depth 60 fits 20000
+
+program_send : IsSend (Program.the_field).row
+program_send = search (hir_send, plans_send, dfa.the_field_send, byte_set.the_send, caseless.the_send, crosses, sendable) depth 60 fits 20000
+
+regex_send : IsSend (Regex.the_field).row
+regex_send = search (program_send, crosses, sendable) depth 60 fits 20000
+
+engine_send : IsSend (PatternRegexp.the_field).row
+engine_send = search (regex_send, nfa.the_field_send, step.the_field_send, search_of_steps.the_field_send, crosses, sendable) depth 60 fits 20000
+
+hir_sync : IsSync (Hir.the_field).row
+hir_sync = search (crosses, knot.crosses_both, sendable) depth 60 fits 20000
+
+plans_sync : IsSync (Plans.the_field).row
+plans_sync = search (hir_sync, crosses, sendable) depth 60 fits 20000
+
+program_sync : IsSync (Program.the_field).row
+program_sync = search (hir_sync, plans_sync, dfa.the_field_sync, byte_set.the_sync, caseless.the_sync, crosses, sendable) depth 60 fits 20000
+
+regex_sync : IsSync (Regex.the_field).row
+regex_sync = search (program_sync, crosses, sendable) depth 60 fits 20000
+
+engine_sync : IsSync (PatternRegexp.the_field).row
+engine_sync = search (regex_sync, nfa.the_field_sync, step.the_field_sync, search_of_steps.the_field_sync, crosses, sendable) depth 60 fits 20000
+
+pub patterns_send : IsSend PatternBox.the_row
+patterns_send = search (engine_send, engine_sync, list.the_send, list.the_sync, crosses, sendable) depth 60 fits 20000

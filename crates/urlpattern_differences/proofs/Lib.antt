@@ -1,0 +1,4 @@
+pub mod DecidedLemmas
+pub mod ExcessLemmas
+pub mod WrittenLemmas
+pub mod SharedLemmas

@@ -1,0 +1,4 @@
+pub mod Credentials
+pub mod Deciding
+pub mod Excess
+pub mod Shared

@@ -1,0 +1,4 @@
+pub mod DecisionLemmas
+mod SpellingExamples
+pub mod SpellingLaws
+pub mod SpellingLemmas

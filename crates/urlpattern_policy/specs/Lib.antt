@@ -1,0 +1,4 @@
+pub mod Decisions
+pub mod DecisionWords
+pub mod PolicyWords
+pub mod Spellings

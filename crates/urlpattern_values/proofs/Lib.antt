@@ -1,0 +1,4 @@
+pub mod ByteLemmas
+pub mod SetTests
+pub mod ValueLemmas
+pub mod ValueExamples

@@ -1,0 +1,2 @@
+pub mod EncodedValues
+pub mod LawsOfValues
