@@ -1,12 +1,15 @@
 //! The engine `PatternRegexp`.
 
-ghost use Rattle.std.specs.Prelude.{◌≡◌, true};
+ghost use Rattle.std.specs.Prelude.{◌≡◌, true, IfOk};
 ghost use Rattle.std.specs.Str.{chars};
 ghost use Rattle.urlpattern_matcher.specs.Components.{ignores_case};
 ghost use Rattle.urlpattern_engine.specs.PatternRegexps.{HasNumbers, pattern_engine};
 
 use crate::strategy::Strategy;
-use std::alloc::Global;
+use std::alloc::{AllocError, Global};
+use std::marker::Model;
+use std::sync::Arc;
+use urlpattern_copies::CloneRegExp;
 use urlpattern_matcher::regexp::RegExp;
 use urlpattern_syntax::RegexSyntax;
 use urlpattern_syntax::error::{OutOfMemory, RegExpError};
@@ -19,6 +22,8 @@ use urlpattern_syntax::error::{OutOfMemory, RegExpError};
 /// more, in place of the automaton, and for each match by an expression of another form that is
 /// only kept.
 ///
+/// A copy of a value shares what was compiled, so that nothing is compiled again.
+///
 /// A type alias names the engine once:
 ///
 /// ```rust own_engine
@@ -30,9 +35,36 @@ use urlpattern_syntax::error::{OutOfMemory, RegExpError};
 /// }
 /// ```
 pub struct PatternRegexp {
-    strategy: Strategy,
+    strategy: Arc<Strategy>,
     /// Whether the case of letters is ignored.
     ignore_case: bool,
+}
+
+impl Model for PatternRegexp {
+    ghost use Rattle.std.specs.Arc.{arc_value};
+    ghost use Rattle.urlpattern_engine.specs.CompiledExpressions.{CompiledExpression};
+
+    ghost Value = { CompiledExpression };
+
+    ghost view = { λ value.
+        record { strategy = arc_value value.strategy; ignore_case = value.ignore_case } };
+}
+
+impl PatternRegexp {
+    /// Creates the value from how its expression is matched.
+    fn new(
+        alloc: Global,
+        strategy: Strategy,
+        ignore_case: bool,
+    ) -> Result<PatternRegexp, AllocError>
+        ensures { IfOk result (λ value.
+            value ≡ record { strategy = strategy; ignore_case = ignore_case }) }
+    {
+        Ok(PatternRegexp {
+            strategy: Arc::new(alloc, strategy)?,
+            ignore_case,
+        })
+    }
 }
 
 impl Drop for PatternRegexp {
@@ -80,10 +112,7 @@ impl RegExp for PatternRegexp {
         }
         let ignore_case = ignores_case(flags);
         let strategy = Strategy::to_match(alloc, pattern, ignore_case)?;
-        Ok(PatternRegexp {
-            strategy,
-            ignore_case,
-        })
+        Ok(PatternRegexp::new(alloc, strategy, ignore_case)?)
     }
 
     fn parse_to_keep(
@@ -98,10 +127,7 @@ impl RegExp for PatternRegexp {
         }
         let ignore_case = ignores_case(flags);
         let strategy = Strategy::to_keep(alloc, pattern, ignore_case, is_generated)?;
-        Ok(PatternRegexp {
-            strategy,
-            ignore_case,
-        })
+        Ok(PatternRegexp::new(alloc, strategy, ignore_case)?)
     }
 
     fn matches<'a>(
@@ -119,6 +145,22 @@ impl RegExp for PatternRegexp {
     fn agrees_with_parts() -> bool {
         true
     }
+}
+
+/// A copy shares what was compiled.
+impl Clone for PatternRegexp {
+    ghost is_clone = { λ value copy. copy ≡ value };
+
+    fn clone(&self) -> Result<PatternRegexp, AllocError> {
+        Ok(PatternRegexp {
+            strategy: self.strategy.clone()?,
+            ignore_case: self.ignore_case,
+        })
+    }
+}
+
+impl CloneRegExp for PatternRegexp {
+    ghost clones_are_equal = { λ value copy equal. equal };
 }
 
 /// The greatest length in bytes of an expression: the number of groups that the grammar of `regex`

@@ -7,6 +7,8 @@
 #[cfg(test)]
 mod captures;
 #[cfg(test)]
+mod copies;
+#[cfg(test)]
 mod decoded;
 #[cfg(test)]
 mod given;

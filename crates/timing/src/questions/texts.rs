@@ -1,5 +1,5 @@
 //! Whether the constructor string and the init of a pattern are compiled to patterns that match
-//! alike.
+//! alike, and whether a copy does.
 
 use super::making::RandomSource;
 use super::patterns::{Found, is_match};
@@ -14,7 +14,7 @@ use urlpattern::{Error, UrlPattern, UrlPatternOptions};
 /// The number of URLs for a pattern.
 const URLS: usize = 10;
 
-/// Writes a pattern as a constructor string and as an init, and matches URLs by all three.
+/// Writes a pattern as a constructor string and as an init, copies it, and matches URLs by all four.
 pub fn ask(maker: &mut RandomSource) -> Result<Outcome, Error> {
     let options = UrlPatternOptions {
         ignore_case: maker.is_one_in(4),
@@ -44,6 +44,12 @@ fn asked(
     let Some(options) = pattern.options() else {
         return Ok(Outcome::Differs);
     };
+    let copy = pattern.clone()?;
+    let is_alike = is_matched_alike(maker, pattern, &copy, near);
+    drop(copy);
+    if !is_alike? {
+        return Ok(Outcome::Differs);
+    }
     let text = pattern.to_constructor_string(alloc)?;
     let init = pattern.to_init(alloc)?;
     if text.is_none() && init.is_none() {
