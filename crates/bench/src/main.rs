@@ -8,7 +8,6 @@ mod common;
 mod compiled;
 mod components;
 mod constructors;
-mod contending;
 mod diagnoses;
 mod engines;
 mod generated;

@@ -94,8 +94,6 @@ pub enum Operation {
     Covers,
     /// Finds the patterns of a list that an earlier one covers.
     Unreachable,
-    /// Finds the pairs of patterns of a list that contend.
-    Contending,
     /// Finds texts that some patterns match, and others do not.
     Common,
     /// Finds the patterns of a list that cover another one together.
@@ -134,7 +132,6 @@ pub const OPERATIONS: &[(&str, Operation)] = &[
     ("compare", Operation::Compare),
     ("covers", Operation::Covers),
     ("unreachable", Operation::Unreachable),
-    ("contending", Operation::Contending),
     ("common", Operation::Common),
     ("together", Operation::Together),
     ("decide", Operation::Decide),

@@ -350,6 +350,18 @@ kept_for Hash hierarchical bytes e =
     by_bytes (λ value. get_after_set dummy_url (λ old. Ok (setters.set_fragment old (Some value))) (λ new. unwrap_or new.fragment [])) bytes (are_visible bytes all)
     (hash_kept bytes (are_visible bytes all) (are_kept FRAGMENT refl bytes all))
 
+-- The empty value is kept in each component.
+nothing_is_kept : (component : ComponentName) (hierarchical : Bool) → is_kept_value component hierarchical [] ≡ true
+nothing_is_kept Protocol hierarchical = refl
+nothing_is_kept Username hierarchical = refl
+nothing_is_kept Password hierarchical = refl
+nothing_is_kept Hostname hierarchical = refl
+nothing_is_kept Port hierarchical = refl
+nothing_is_kept Pathname true = refl
+nothing_is_kept Pathname false = refl
+nothing_is_kept Search hierarchical = refl
+nothing_is_kept Hash hierarchical = refl
+
 pub kept_alone : (component : ComponentName) (hierarchical is_ipv6 : Bool) (bytes : List ℕ) → is_ipv6 ≡ false → is_kept_value component hierarchical bytes ≡ true →
     canonical_for component hierarchical is_ipv6 (chars bytes) ≡ Ok (chars bytes)
 kept_alone component hierarchical is_ipv6 bytes other kept = subst (λ is. canonical_for component hierarchical is (chars bytes) ≡ Ok (chars bytes)) (sym other) (kept_for component hierarchical bytes kept)
@@ -391,3 +403,11 @@ kept_line Pathname true bytes kept = text_lines bytes (path_characters false byt
 kept_line Pathname false bytes kept = text_lines bytes (All_from_list_all is_kept_character bytes (and_parts (not (slice_index bytes 0 == slash)) (list_all is_kept_character bytes) kept).1)
 kept_line Search hierarchical bytes kept = text_lines bytes (All_from_list_all is_kept_character bytes kept)
 kept_line Hash hierarchical bytes kept = text_lines bytes (All_from_list_all is_kept_character bytes kept)
+
+-- ---- an empty value
+
+pub empty_alone : (component : ComponentName) (hierarchical is_ipv6 : Bool) (bytes : List ℕ) → is_ipv6 ≡ false → bytes ≡ [] → canonical_for component hierarchical is_ipv6 (chars bytes) ≡ Ok (chars bytes)
+empty_alone component hierarchical is_ipv6 bytes other e = kept_alone component hierarchical is_ipv6 bytes other (ap (is_kept_value component hierarchical) e ∙ nothing_is_kept component hierarchical)
+
+pub empty_alone_line : (component : ComponentName) (hierarchical : Bool) (bytes : List ℕ) → bytes ≡ [] → IsTrue (lacks line_feed (chars bytes))
+empty_alone_line component hierarchical bytes e = kept_line component hierarchical bytes (ap (is_kept_value component hierarchical) e ∙ nothing_is_kept component hierarchical)

@@ -18,3 +18,4 @@ pub mod SetTexts
 pub mod PartTextLemmas
 pub mod WritingLemmas
 pub mod UrlLemmas
+pub mod LinePlaces

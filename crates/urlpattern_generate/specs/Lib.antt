@@ -11,4 +11,5 @@ pub mod WrittenTexts
 pub mod EncodedGroups
 pub mod NoLinkText
 pub mod UrlLines
+pub mod LinePlaces
 pub mod UrlsOfTexts

@@ -40,6 +40,7 @@ const SHORT_PORT: usize = 4;
 ///
 /// `hierarchical` says whether a pathname is a path of segments rather than opaque, and `is_ipv6`
 /// whether a hostname is an IPv6 address.
+#[inline(always)]
 pub(crate) fn keeps(component: ComponentName, hierarchical: bool, is_ipv6: bool, text: &str) -> bool
     ensures canonical { IsTrue result
         → canonical_for component hierarchical is_ipv6 (chars text.now) ≡ Ok (chars text.now) }
@@ -48,6 +49,20 @@ pub(crate) fn keeps(component: ComponentName, hierarchical: bool, is_ipv6: bool,
     if is_ipv6 {
         return false;
     }
+    if text.is_empty() {
+        return true;
+    }
+    keeps_some(component, hierarchical, text)
+}
+
+/// Whether the characters of a text show that it is canonical in a component, where a hostname is
+/// not an IPv6 address. `false` decides nothing.
+#[inline(never)]
+fn keeps_some(component: ComponentName, hierarchical: bool, text: &str) -> bool
+    ensures canonical { IsTrue result
+        → canonical_for component hierarchical false (chars text.now) ≡ Ok (chars text.now) }
+    ensures line { IsTrue result → IsTrue (lacks line_feed (chars text.now)) }
+{
     match component {
         ComponentName::Protocol => is_kept_protocol(text),
         component => is_kept_value(component, hierarchical, text.as_bytes()),

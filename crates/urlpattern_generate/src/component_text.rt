@@ -39,7 +39,13 @@ impl<'d> Substitution<'d> {
         if let Some(text) = self.borrowed_text() {
             return Ok(CowStr::Borrowed(text));
         }
-        match self.build_text() {
+        let builder = Substitution {
+            alloc: self.alloc,
+            kept: self.kept,
+            component: self.component,
+            groups: self.groups,
+        };
+        match builder.build_text() {
             Ok(text) => Ok(CowStr::Owned(text)),
             Err(error) => Err(error),
         }
@@ -167,6 +173,7 @@ impl<'d> Substitution<'d> {
     ///
     /// The error says that the group cannot capture the text, or has to participate, or that memory
     /// ran out.
+    #[inline(always)]
     fn push_capture(
         &self,
         text: &mut String,

@@ -1,14 +1,12 @@
 //! Checks that a matcher finds the requested captures in a text.
 
-ghost use Rattle.std.specs.Prelude.{◌≡◌, ◌↔◌, ◌≤◌, false, length, map, IfOk, IfSome, IsTrue, Ok};
+ghost use Rattle.std.specs.Prelude.{◌≡◌, ◌↔◌, ◌≤◌, length, map, IfOk, IfSome, IsTrue, Ok};
 ghost use Rattle.std.specs.Str.{chars};
-ghost use Rattle.urlpattern_matcher.specs.Components.{IsEngineOf, engine_flags};
 ghost use Rattle.urlpattern_matcher.specs.Matchers.{matcher_view};
 ghost use Rattle.urlpattern_generate.specs.Requested.{AreRequested, IsRequested};
 ghost use Rattle.urlpattern_generate.specs.Generating.{ReadsWritten, DecidesFound, has_one_case};
-ghost use Rattle.urlpattern_generate.specs.WrittenTexts.{IsWritten, LeavesRequested, settings_of_writer};
-ghost use Rattle.urlpattern_meaning.specs.Matching.{IsMadeOf};
-ghost use Rattle.urlpattern_syntax.specs.ComponentParts.{kept_options, kept_parts};
+ghost use Rattle.urlpattern_generate.specs.WrittenTexts.{LeavesRequested, settings_of_writer};
+ghost use Rattle.urlpattern_syntax.specs.ComponentParts.{kept_parts};
 ghost use Rattle.urlpattern_syntax.specs.Parts.{part_view};
 ghost use Rattle.urlpattern_syntax.specs.Text.{option_text};
 
@@ -21,35 +19,14 @@ use urlpattern_matcher::regexp::RegExp;
 use urlpattern_syntax::parser::{Part, PartType};
 
 impl Substitution<'_> {
-    /// Whether a matcher that was made of the parts finds in `text`, which was written from the
-    /// parts, the requested captures: the canonical form of a group's value, or for a group without
-    /// a value its `default_capture`. A matcher that always finds what was written is not run.
-    #[inline(always)]
-    pub(crate) fn confirms<R: RegExp>(
+    /// Whether a matcher, when run, finds in a text the requested captures: the canonical form of a
+    /// group's value, or for a group without a value its `default_capture`.
+    #[inline(never)]
+    pub(crate) fn finds<R: RegExp>(
         &self,
         matcher: &Matcher<R>,
         text: &str,
     ) -> Result<bool, AllocError>
-        requires made { IsMadeOf
-            (IsEngineOf R.RegExp false (engine_flags (kept_options self.now.kept.now)))
-            (kept_options self.now.kept.now) (kept_parts self.now.kept.now)
-            (matcher_view matcher.now) }
-        requires written { IsWritten (settings_of_writer self.now) (kept_parts self.now.kept.now)
-            (chars text.now) }
-        ensures { IfOk result (λ is.
-            DecidesFound is R.answer (matcher_view matcher.now) (settings_of_writer self.now)
-            (kept_parts self.now.kept.now) (chars text.now)) }
-    {
-        if reads_what_is_written(matcher) {
-            return Ok(true);
-        }
-        self.finds(matcher, text)
-    }
-
-    /// Whether a matcher, when run, finds in a text the requested captures: the canonical form of a
-    /// group's value, or for a group without a value its `default_capture`.
-    #[inline(never)]
-    fn finds<R: RegExp>(&self, matcher: &Matcher<R>, text: &str) -> Result<bool, AllocError>
         ensures { IfOk result (λ is.
             DecidesFound is R.answer (matcher_view matcher.now) (settings_of_writer self.now)
             (kept_parts self.now.kept.now) (chars text.now)) }
@@ -144,7 +121,8 @@ impl Substitution<'_> {
 
 /// Whether a matcher always finds the captures with which a text was written: it has no engine and,
 /// if case is ignored, no filter that is an ASCII letter. `false` decides nothing.
-fn reads_what_is_written<R>(matcher: &Matcher<R>) -> bool
+#[inline(always)]
+pub(crate) fn reads_what_is_written<R>(matcher: &Matcher<R>) -> bool
     ensures { IsTrue result
         → ReadsWritten matcher.now.ignore_case (matcher_view matcher.now).inner }
 {

@@ -11,6 +11,7 @@ ghost use Rattle.urlpattern_meaning.specs.Matching.{IsMadeOf};
 ghost use Rattle.urlpattern_syntax.specs.ComponentParts.{kept_options, kept_parts};
 ghost use Rattle.urlpattern_syntax.specs.Text.{text_of};
 
+use crate::confirm::reads_what_is_written;
 use crate::generate_error::GenerateError;
 use crate::given_groups::GivenGroup;
 use crate::substitution::Substitution;
@@ -55,7 +56,7 @@ pub fn generate_component<R: RegExp>(
         Ok(text) => text.into_owned(alloc)?,
         Err(error) => return Err(error),
     };
-    if writer.confirms(matcher, &text)? && writer.is_canonical(&text)? {
+    if confirms(alloc, kept, matcher, component, &text, groups)? && writer.is_canonical(&text)? {
         Ok(text)
     } else {
         Err(GenerateError::ReadOtherwise(component))
@@ -113,11 +114,14 @@ pub fn confirms<R: RegExp>(
         (kept_options kept.now) (kept_parts kept.now) (given_groups groups.now))
         (kept_parts kept.now) (chars text.now)) }
 {
+    if reads_what_is_written(matcher) {
+        return Ok(true);
+    }
     let writer = Substitution {
         alloc,
         kept,
         component,
         groups,
     };
-    writer.confirms(matcher, text)
+    writer.finds(matcher, text)
 }

@@ -46,7 +46,28 @@ pub(crate) fn given_text<'g>(
 fn is_given_for(component: ComponentName, name: &str, given: &GivenGroup<'_>) -> bool
     ensures { result ≡ is_given_for component (chars name.now) (given_view given.now) }
 {
-    is_same_component(given.0, component) && is_same_text(given.1, name)
+    is_same_component(given.0, component) && is_same_name(given.1, name)
+}
+
+/// Whether two names of groups are equal. Numbers of one digit, which groups without a name have,
+/// are compared without a call.
+#[inline(always)]
+fn is_same_name(name: &str, other: &str) -> bool
+    ensures { result ≡ bytes_eq (chars name.now) (chars other.now) }
+{
+    let (name_bytes, other_bytes) = (name.as_bytes(), other.as_bytes());
+    if name_bytes.len() == 1 && other_bytes.len() == 1 {
+        return name_bytes[0] == other_bytes[0];
+    }
+    is_same_long_name(name, other)
+}
+
+/// Whether two names of groups are equal, by a call.
+#[inline(never)]
+fn is_same_long_name(name: &str, other: &str) -> bool
+    ensures { result ≡ bytes_eq (chars name.now) (chars other.now) }
+{
+    is_same_text(name, other)
 }
 
 /// Whether two components are equal.

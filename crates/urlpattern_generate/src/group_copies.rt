@@ -25,6 +25,7 @@ pub(crate) fn may_be_missing(options: &Options, part: &Part) -> bool
 
 /// Whether a group may capture a text. A custom regular expression is not matched, so its group may
 /// capture any text. Allocates only for a repeated group.
+#[inline(always)]
 pub(crate) fn may_capture(
     alloc: Global,
     options: &Options,
@@ -50,6 +51,7 @@ fn is_of_no_copies(part: &Part, text: &str) -> bool
 }
 
 /// Whether one or more copies of a group, as many as its modifier allows, may capture a text.
+#[inline(always)]
 fn is_of_copies(
     alloc: Global,
     options: &Options,
@@ -106,6 +108,7 @@ impl CopyTexts {
     }
 
     /// Whether a single copy may capture a text.
+    #[inline(always)]
     fn is_one(self, text: &str) -> bool
         ensures { IsTrue result ↔ Allowed self (chars text.now) }
     {

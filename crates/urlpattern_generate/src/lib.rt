@@ -12,6 +12,7 @@ mod generate_error;
 mod generated_component;
 mod given_groups;
 mod group_copies;
+mod line_places;
 mod linked_url;
 mod missing_captures;
 mod no_link;

@@ -12,6 +12,7 @@ ghost use Rattle.urlpattern_syntax.specs.Text.{begins_with};
 ghost use Rattle.urlpattern_generate.specs.UrlsOfTexts.{AreSeenAs, IsAtFault, IsReadOfTexts, IsSeenAs, RejectsLine, RejectsTexts, cow_texts, runs_on, texts_seen};
 
 use crate::given_groups::is_same_text;
+use crate::line_places::is_joined;
 use crate::no_link::NoLink;
 use crate::url_line::url_line;
 use std::alloc::Global;
@@ -37,6 +38,9 @@ pub fn url_of_texts(alloc: Global, texts: &Eight<CowStr<'_>>) -> Result<Url, NoL
         Ok(url) => url,
         Err(error) => return Err(error),
     };
+    if is_joined(&url, &line, &seen) {
+        return Ok(url);
+    }
     match other_text(&url, &seen) {
         None => Ok(url),
         Some(component) => Err(NoLink::OtherText(component)),

@@ -14,6 +14,7 @@ use urlpattern_syntax::parser::{Options, Part, PartModifier};
 
 /// Appends the text of a part that is a fixed text: once, or not at all if its modifier allows zero
 /// copies.
+#[inline(always)]
 pub fn push_fixed(text: &mut String, part: &Part) -> Result<(), AllocError>
     ensures { OnOk result
         (AppendsText text.old text.new (fewest_copies part.now.modifier (text_of part.now.value))) }
@@ -32,6 +33,7 @@ pub fn push_fixed(text: &mut String, part: &Part) -> Result<(), AllocError>
 /// appended. `false`: nothing is appended.
 ///
 /// A custom regular expression is not matched, so its group may capture any text.
+#[inline(always)]
 pub fn push_group(
     text: &mut String,
     options: &Options,
@@ -56,12 +58,25 @@ pub fn push_group(
 }
 
 /// Appends a text, `between` the prefix and the suffix of a part.
+#[inline(always)]
 fn push_between(text: &mut String, part: &Part, between: &str) -> Result<(), AllocError>
     ensures { OnOk result (AppendsText text.old text.new
         (text_of part.now.prefix ++ chars between.now ++ text_of part.now.suffix)) }
 {
     text.push_str(&part.prefix)?;
     text.push_str(between)?;
-    text.push_str(&part.suffix)?;
+    push_some(text, &part.suffix)?;
+    Ok(())
+}
+
+/// Appends a text, unless it is empty.
+#[inline(always)]
+fn push_some(text: &mut String, more: &str) -> Result<(), AllocError>
+    ensures { OnOk result (AppendsText text.old text.new (chars more.now)) }
+{
+    if more.is_empty() {
+        return Ok(());
+    }
+    text.push_str(more)?;
     Ok(())
 }

@@ -33,6 +33,7 @@ pub(crate) struct Substitution<'d> {
 impl Substitution<'_> {
     /// Whether a value is known to be canonical in the component, without a call of `url`. `false`
     /// decides nothing.
+    #[inline(always)]
     pub(crate) fn keeps(&self, text: &str) -> bool
         ensures canonical { IsTrue result
             → (settings_of_writer self.now).canonical (chars text.now) ≡ Ok (chars text.now) }

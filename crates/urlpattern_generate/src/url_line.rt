@@ -40,7 +40,7 @@ fn push_authority(line: &mut String, texts: &Eight<&str>) -> Result<(), AllocErr
 
 /// Whether two slashes are written before user name, host and port: if the host is not empty, or if
 /// the path begins with two slashes, which would be read as those before a host.
-fn has_authority(hostname: &str, pathname: &str) -> bool
+pub(crate) fn has_authority(hostname: &str, pathname: &str) -> bool
     ensures { result ≡ has_authority hostname.now pathname.now }
 {
     !hostname.is_empty() || matches!(pathname.as_bytes(), [b'/', b'/', ..])
