@@ -141,8 +141,8 @@ urlpattern_status urlpattern_add_init(urlpattern_list *patterns, const char *jso
 void urlpattern_free(urlpattern_list *patterns);
 
 /* Gives another handle the same patterns, in the memory that they have. What the other one had is
- * freed, also if there are no patterns to give. As long as both have them, none is added to either,
- * and each frees them by itself. The two are never the same handle.
+ * freed. As long as both have them, none is added to either, and each frees them by itself. The
+ * two are never the same handle.
  * DONE, or OUT_OF_MEMORY: both handles are as they were. */
 urlpattern_status urlpattern_share(urlpattern_list *patterns, urlpattern_list *other);
 
@@ -216,11 +216,10 @@ urlpattern_status urlpattern_first_captures(urlpattern_list *patterns, const cha
                                             urlpattern_sizes *needed);
 
 /* Matches a path by itself, as the path of a request before its `?`: all other components are
- * empty, so that a pattern for paths leaves them open, as `{"pathname":"/users/:id"}` does, and a
- * pattern with a protocol or a host never matches. The path has no host, whatever it looks like,
- * and is not made canonical as the pattern is: `/a/../b` and `/%61` are matched as they are, and
- * `/%C3%A9` alone is matched by the pattern `/é`. Writes what the groups of the pattern of this
- * index capture, as `urlpattern_captures` does.
+ * empty, so that a pattern for paths leaves them open, as `{"pathname":"/users/:id"}` does. The
+ * path has no host, whatever it looks like, and is not made canonical: `/a/../b` and `/%61` are
+ * matched as they are. Writes what the groups of the pattern of this index capture, as
+ * `urlpattern_captures` does.
  * DONE, NO_MATCH, NO_PATH, NOT_UTF8, OUT_OF_MEMORY, NO_PATTERN, or TOO_SMALL. */
 urlpattern_status urlpattern_captures_of_path(urlpattern_list *patterns, size_t index,
                                               const char *path, size_t length, char *buffer,

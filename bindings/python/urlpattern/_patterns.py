@@ -104,8 +104,7 @@ class URLPattern:
     the path, the query and the fragment are matched without regard to the case of ASCII letters.
 
     Patterns are equal if each component has the same parts, names and options in both, however they
-    are written. `str` of a pattern is its `text`, if it has one, which does not say `ignore_case`. A
-    copy is compiled again.
+    are written. `str` of a pattern is its `text`, if it has one. A copy is compiled again.
 
     >>> URLPattern("https://example.com/users/:id").test("https://example.com/users/7")
     True
@@ -170,18 +169,7 @@ class URLPattern:
 
     def __repr__(self) -> str:
         texts = {name: getattr(self, name) for name in COMPONENTS}
-        written = {name: text for name, text in texts.items() if text != "*"}
-        return f"URLPattern({written}{', ignore_case=True' if self.ignore_case else ''})"
-
-    @property
-    def ignore_case(self) -> bool:
-        """Whether the path, the query and the fragment are matched without regard to the case of
-        ASCII letters.
-
-        >>> URLPattern({"pathname": "/a"}, ignore_case=True)
-        URLPattern({'pathname': '/a'}, ignore_case=True)
-        """
-        return self._source.ignore_case
+        return f"URLPattern({ {name: text for name, text in texts.items() if text != '*'} })"
 
     def test(
         self,
