@@ -58,25 +58,12 @@ static bool are_matched(void) {
         && is(urlpattern_first_captures_of_path(&patterns, path, path_length, &index, text, ROOM, spans, SPANS, &sizes), URLPATTERN_DONE);
 }
 
-static bool are_inits_matched(void) {
-    static const char init[] = "{\"pathname\":\"/x/b\",\"baseURL\":\"https://example.com\"}";
-    static urlpattern_span spans[SPANS];
-    const size_t length = sizeof init - 1;
-    urlpattern_sizes sizes;
-    size_t index = 0, needed = 0;
-    return is(urlpattern_captures_of_init(&patterns, 0, init, length, text, ROOM, spans, SPANS, &sizes), URLPATTERN_DONE)
-        && is(urlpattern_first_captures_of_init(&patterns, init, length, &index, text, ROOM, spans, SPANS, &sizes), URLPATTERN_DONE)
-        && is(urlpattern_exec_of_init(&patterns, 0, init, length, text, ROOM, &needed), URLPATTERN_DONE);
-}
-
 static bool are_linked(void) {
     static const char groups[] = "a\xc3\xa9" "0b";
     static const urlpattern_given given[] = { { URLPATTERN_PATHNAME, 0, 1, 1, 2 }, { URLPATTERN_PATHNAME, 3, 1, 4, 1 } };
     size_t needed = 0;
     return is(urlpattern_link(&patterns, 0, groups, sizeof groups - 1, given, 2, text, ROOM, &needed), URLPATTERN_DONE)
         && is(urlpattern_link(&patterns, 0, groups, sizeof groups - 1, given, 1, text, ROOM, &needed), URLPATTERN_REFUSED)
-        && is(urlpattern_generate(&patterns, 0, URLPATTERN_PATHNAME, groups, sizeof groups - 1, given, 2, text, ROOM, &needed), URLPATTERN_DONE)
-        && is(urlpattern_generate(&patterns, 0, URLPATTERN_PATHNAME, groups, sizeof groups - 1, given, 1, text, ROOM, &needed), URLPATTERN_REFUSED)
         && is(urlpattern_group_name(&patterns, 0, URLPATTERN_PATHNAME, 0, text, ROOM, &needed), URLPATTERN_DONE)
         && is(urlpattern_component(&patterns, 0, URLPATTERN_PATHNAME, text, ROOM, &needed), URLPATTERN_DONE)
         && is(urlpattern_has_regexp_groups(&patterns, 0), URLPATTERN_DONE)
@@ -86,18 +73,9 @@ static bool are_linked(void) {
 
 static bool are_compared(void) {
     urlpattern_component_number component = URLPATTERN_PROTOCOL;
-    size_t needed = 0;
-    return is(urlpattern_text(&patterns, 0, text, ROOM, &needed), URLPATTERN_DONE)
-        && is(urlpattern_text(&patterns, 3, text, ROOM, &needed), URLPATTERN_DONE)
-        && is(urlpattern_is_same(&patterns, 0, &others, 0), URLPATTERN_DONE)
-        && is(urlpattern_is_same(&patterns, 0, &patterns, 1), URLPATTERN_NO_MATCH)
-        && is(urlpattern_covers(&patterns, 0, &patterns, 2, &component), URLPATTERN_NO_MATCH)
+    return is(urlpattern_covers(&patterns, 0, &patterns, 2, &component), URLPATTERN_NO_MATCH)
         && is(urlpattern_covers(&patterns, 1, &others, 0, &component), URLPATTERN_UNKNOWN)
-        && is(urlpattern_covers(&patterns, 0, &others, 0, &component), URLPATTERN_DONE)
-        && is(urlpattern_counterexample(&patterns, 0, &patterns, 2, text, ROOM, &needed), URLPATTERN_DONE)
-        && is(urlpattern_counterexample(&patterns, 0, &others, 0, text, ROOM, &needed), URLPATTERN_NO_MATCH)
-        && is(urlpattern_overlaps(&patterns, 0, &others, 0, text, ROOM, &needed), URLPATTERN_DONE)
-        && is(urlpattern_overlaps(&patterns, 1, &patterns, 0, text, ROOM, &needed), URLPATTERN_UNKNOWN);
+        && is(urlpattern_covers(&patterns, 0, &others, 0, &component), URLPATTERN_DONE);
 }
 
 static bool are_diagnosed(void) {
@@ -130,7 +108,7 @@ static size_t count(void) {
 
 int main(void) {
     (void)(is(urlpattern_version(), URLPATTERN_VERSION)
-           && are_appended() && are_matched() && are_inits_matched() && are_linked() && are_compared() && are_diagnosed() && are_shared());
+           && are_appended() && are_matched() && are_linked() && are_compared() && are_diagnosed() && are_shared());
     if (count() != appended) {
         outcome = WRONG;
     }

@@ -1,5 +1,5 @@
-/* Asks what no row says: texts that are not UTF-8, null pointers, long texts, paths, inits, patterns that are the same, and handles that share
- * patterns. The last line counts the answers that are as they should be.
+/* Asks what no row says: texts that are not UTF-8, null pointers, long texts, paths, and handles that share patterns. The last line counts
+ * the answers that are as they should be.
  */
 #include "urlpattern.h"
 
@@ -49,10 +49,6 @@ static void ask_bytes(void) {
         urlpattern_captures_of_path(&patterns, 0, bad, 1, buffer, ROOM, spans, SPANS, &sizes),
         urlpattern_first_captures_of_path(&patterns, bad, 1, &number, buffer, ROOM, spans, SPANS,
                                           &sizes),
-        urlpattern_captures_of_init(&patterns, 0, bad_json, json, buffer, ROOM, spans, SPANS, &sizes),
-        urlpattern_first_captures_of_init(&patterns, bad_json, json, &number, buffer, ROOM, spans,
-                                          SPANS, &sizes),
-        urlpattern_exec_of_init(&patterns, 0, bad_json, json, buffer, ROOM, &number),
         urlpattern_diagnose(bad, 1, "", 0, false, buffer, ROOM, &number, &place),
         urlpattern_diagnose("(", 1, bad, 1, false, buffer, ROOM, &number, &place),
         urlpattern_diagnose_init(bad_json, json, false, buffer, ROOM, &number, &place),
@@ -110,12 +106,6 @@ static void ask_nulls(void) {
     compare(status == URLPATTERN_TOO_SMALL && sizes.bytes > 0 && sizes.spans == URLPATTERN_NO_COMPONENT, __LINE__, status);
     status = urlpattern_component(&patterns, 0, URLPATTERN_PROTOCOL, NULL, 0, &needed);
     compare(status == URLPATTERN_TOO_SMALL && needed == 5, __LINE__, status);
-    status = urlpattern_text(&patterns, 0, NULL, 0, &needed);
-    compare(status == URLPATTERN_TOO_SMALL && needed > 0, __LINE__, status);
-    status = urlpattern_captures_of_init(&patterns, 1, init, sizeof init - 1, NULL, 0, NULL, 0, &sizes);
-    compare(status == URLPATTERN_TOO_SMALL && sizes.bytes == 0 && sizes.spans == URLPATTERN_NO_COMPONENT, __LINE__, status);
-    status = urlpattern_exec_of_init(&patterns, 1, NULL, 0, NULL, 0, &needed);
-    compare(status == URLPATTERN_REFUSED, __LINE__, status);
     status = urlpattern_link(&patterns, 0, NULL, 0, NULL, 0, NULL, 0, &needed);
     compare(status == URLPATTERN_TOO_SMALL && needed == sizeof url - 1, __LINE__, status);
 }
@@ -131,98 +121,6 @@ static void ask_long_texts(void) {
     compare(status == URLPATTERN_TOO_LONG, __LINE__, status);
     status = urlpattern_test(&patterns, 1, url, LONG - 1, "", 0);
     compare(status == URLPATTERN_DONE, __LINE__, status);
-}
-
-/* What each call on an init reports, if that is the same; the index is that of the first match. */
-static uint32_t init_status(size_t at, const char *json, size_t length, size_t *index) {
-    urlpattern_sizes sizes;
-    size_t needed = 0;
-    uint32_t status = urlpattern_captures_of_init(&patterns, at, json, length, buffer, ROOM, spans, SPANS, &sizes);
-    bool is_same = urlpattern_exec_of_init(&patterns, at, json, length, buffer, ROOM, &needed) == status;
-    is_same &= urlpattern_first_captures_of_init(&patterns, json, length, index, buffer, ROOM, spans, SPANS, &sizes) == status;
-    return is_same ? status : NO_STATUS;
-}
-
-/* Whether inits are matched with what they inherit, and what is none, or no URL, is reported. */
-static void ask_inits(void) {
-    enum { LONG = 1 << 24 };
-    static const struct {
-        const char *json;
-        urlpattern_status wanted;
-    } asked[] = {
-        { "{\"pathname\":\"users/7\",\"baseURL\":\"https://example.com/x\"}", URLPATTERN_DONE },
-        { "{\"protocol\":\"HTTPS\",\"hostname\":\"EXAMPLE.com\",\"pathname\":\"/a/../users/7\",\"port\":null,\"x\":1}", URLPATTERN_DONE },
-        { "{\"pathname\":\"/users/7\"}", URLPATTERN_NO_MATCH },
-        { "{}", URLPATTERN_NO_MATCH },
-        { "{\"protocol\":\"no URL\"}", URLPATTERN_NO_URL },
-        { "{\"baseURL\":\"no URL\"}", URLPATTERN_NO_URL },
-        { "{\"pathname\":7}", URLPATTERN_REFUSED },
-        { "[]", URLPATTERN_REFUSED },
-        { "", URLPATTERN_REFUSED },
-    };
-    static const char pattern[] = "https://example.com/users/:id";
-    static char json[LONG];
-    urlpattern_list none = URLPATTERN_EMPTY;
-    urlpattern_sizes sizes;
-    size_t index = 9;
-    urlpattern_free(&patterns);
-    uint32_t status = urlpattern_add(&patterns, pattern, sizeof pattern - 1, "", 0, false);
-    compare(status == URLPATTERN_DONE, __LINE__, status);
-    for (size_t at = 0; at < sizeof asked / sizeof asked[0]; at++) {
-        index = 9;
-        status = init_status(0, asked[at].json, strlen(asked[at].json), &index);
-        compare(status == (uint32_t)asked[at].wanted && index == (status == URLPATTERN_DONE ? 0 : 9), __LINE__, status);
-    }
-    memset(json, ' ', LONG);
-    status = init_status(0, json, LONG, &index);
-    compare(status == URLPATTERN_TOO_LONG, __LINE__, status);
-    memcpy(json, "{}", 2);
-    status = init_status(0, json, LONG - 1, &index);
-    compare(status == URLPATTERN_NO_MATCH, __LINE__, status);
-    status = urlpattern_captures_of_init(&patterns, 1, "", 0, buffer, ROOM, spans, SPANS, &sizes);
-    compare(status == URLPATTERN_NO_PATTERN, __LINE__, status);
-    status = urlpattern_exec_of_init(&patterns, 1, "", 0, buffer, ROOM, &index);
-    compare(status == URLPATTERN_NO_PATTERN, __LINE__, status);
-    status = urlpattern_first_captures_of_init(&none, "", 0, &index, buffer, ROOM, spans, SPANS, &sizes);
-    compare(status == URLPATTERN_NO_PATTERN, __LINE__, status);
-}
-
-/* Whether patterns are the same that have the same parts, names and options, however they are written. */
-static void ask_same(void) {
-    static const char text[] = "https://example.com/users/:id", named[] = "https://example.com/users/:it", *const base = text;
-    static const char init[] = "{\"protocol\":\"https\",\"hostname\":\"example.com\",\"port\":\"\",\"pathname\":\"/users{/:id}\"}";
-    const size_t length = sizeof text - 1;
-    urlpattern_list none = URLPATTERN_EMPTY;
-    urlpattern_free(&patterns);
-    urlpattern_free(&others);
-    uint32_t added[] = {
-        urlpattern_add(&patterns, text, length, "", 0, false),
-        urlpattern_add_init(&patterns, init, sizeof init - 1, false),
-        urlpattern_add(&patterns, "/users/:id", 10, base, 19, false),
-        urlpattern_add(&patterns, named, sizeof named - 1, "", 0, false),
-        urlpattern_add(&patterns, text, length, "", 0, true),
-        urlpattern_add(&others, text, length, "", 0, false),
-    };
-    for (size_t at = 0; at < sizeof added / sizeof added[0]; at++) {
-        compare(added[at] == URLPATTERN_DONE, __LINE__, added[at]);
-    }
-    for (size_t at = 0; at < 5; at++) {
-        uint32_t wanted = at < 3 ? URLPATTERN_DONE : URLPATTERN_NO_MATCH;
-        uint32_t status = urlpattern_is_same(&patterns, at, &others, 0);
-        compare(status == wanted, __LINE__, status);
-        status = urlpattern_is_same(&patterns, 0, &patterns, at);
-        compare(status == wanted, __LINE__, status);
-    }
-    uint32_t missing[] = {
-        urlpattern_is_same(&patterns, 5, &patterns, 0), urlpattern_is_same(&patterns, 0, &patterns, 5),
-        urlpattern_is_same(&patterns, 5, &others, 0),   urlpattern_is_same(&patterns, 0, &others, 1),
-        urlpattern_is_same(&none, 0, &others, 0),       urlpattern_is_same(&others, 0, &none, 0),
-    };
-    for (size_t at = 0; at < sizeof missing / sizeof missing[0]; at++) {
-        compare(missing[at] == URLPATTERN_NO_PATTERN, __LINE__, missing[at]);
-    }
-    urlpattern_free(&patterns);
-    urlpattern_free(&others);
 }
 
 /* Whether the first pattern of a handle captures `7` of a path. */
@@ -334,8 +232,6 @@ int main(void) {
     ask_parts();
     ask_nulls();
     ask_long_texts();
-    ask_inits();
-    ask_same();
     ask_paths();
     ask_texts();
     ask_shared();

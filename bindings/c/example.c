@@ -14,7 +14,7 @@ int main(int count, char **words) {
     urlpattern_place place;
     char text[4096];
     size_t length = 0;
-    urlpattern_status status = urlpattern_add(&patterns, pattern, strlen(pattern), "", 0, false);
+    uint32_t status = urlpattern_add(&patterns, pattern, strlen(pattern), "", 0, false);
     if (status == URLPATTERN_DONE) {
         status = urlpattern_exec(&patterns, 0, url, strlen(url), "", 0, text, sizeof text, &length);
         if (status == URLPATTERN_DONE) {

@@ -18,7 +18,7 @@ int main(int count, char **words) {
     urlpattern_span spans[SPANS];
     urlpattern_sizes sizes = { 0, 0 };
     char text[BYTES], name[BYTES];
-    urlpattern_status status = urlpattern_add(&patterns, pattern, strlen(pattern), "", 0, false);
+    uint32_t status = urlpattern_add(&patterns, pattern, strlen(pattern), "", 0, false);
     if (status == URLPATTERN_DONE) {
         status = urlpattern_captures(&patterns, 0, url, strlen(url), "", 0, text, sizeof text, spans, SPANS, &sizes);
     }

@@ -2,13 +2,11 @@
  *
  * A line has words, of which texts are hexadecimal, and `-` is no text. `add STATUS IGNORES PATTERN BASE` compiles a pattern into a new
  * handle, `init STATUS IGNORES JSON` an init, `more` and `more_init` another into the same, `other` and `other_init` one into another new
- * handle, `exec STATUS URL BASE JSON` matches with the first, `groups STATUS URL BASE GROUPS` writes its groups, `match_init STATUS INIT JSON GROUPS`
- * does both with an init, `link STATUS TEXT GIVEN URL` asks for a URL with groups,
- * `generate STATUS TEXT GIVEN MADE COMPONENT` for the text of a component, `text COMPONENT TEXT` reads a component, `whole STATUS IGNORES TEXT`
- * the pattern as one text, `custom STATUS` asks for a custom regular expression, `meaning STATUS` asks whether each component has a meaning,
- * `first STATUS URL BASE INDEX` and `first_init STATUS INIT INDEX` find the first match, and `covers STATUS COMPONENT OVERLAP` compares the first
- * pattern with the second of its handle, and with that of the other handle: whether it covers it, and whether the two overlap. The last line counts the answers that are as they should be. A wanted status 0 is no
- * match or no URL.
+ * handle, `exec STATUS URL BASE JSON` matches with the first, `groups STATUS URL BASE GROUPS` writes its groups, `link STATUS TEXT GIVEN URL`
+ * asks for a URL with groups, `text COMPONENT TEXT` reads a component, `custom STATUS` asks for a custom regular expression,
+ * `meaning STATUS` asks whether each component has a meaning, `first STATUS URL BASE INDEX` finds the first match, and
+ * `covers STATUS COMPONENT` compares the first pattern with the second of its handle, and with that of the other handle. The last line
+ * counts the answers that are as they should be. A wanted status 0 is no match or no URL.
  *
  * A group of GROUPS is a byte 1, the digit of its component, its name, a byte 2, `+` with what it captured, if it took part, and a byte 3.
  * GIVEN has five numbers for each group, with commas between them.
@@ -159,47 +157,23 @@ static bool is_among(text wanted, const urlpattern_span *span) {
     return false;
 }
 
-/* Whether the groups that are written are those that are wanted. */
-static bool are_written(text wanted, urlpattern_sizes sizes) {
-    size_t count = 0, end = 0;
-    bool is_right = true;
-    for (size_t at = 0; at < wanted.length; at++) {
-        count += wanted.bytes[at] == END;
-    }
-    for (size_t at = 0; is_right && at < sizes.spans; at++) {
-        is_right = spans[at].start == end && is_among(wanted, &spans[at]);
-        end += spans[at].length;
-    }
-    return is_right && sizes.spans == count && end == sizes.bytes;
-}
-
 static void ask_groups(char **words, unsigned number) {
     uint32_t wanted = (uint32_t)atoi(words[1]);
     text url = text_of(words[2]), base = text_of(words[3]), groups = text_of(words[4]);
     urlpattern_sizes sizes = { 0, 0 };
+    size_t count = 0, end = 0;
     uint32_t status = captures(url, base, ROOM, SPANS, &sizes);
     bool is_right = is_wanted(status, wanted);
-    if (is_right && status == URLPATTERN_DONE) {
-        is_right = are_written(groups, sizes) && are_measured(url, base, sizes);
+    for (size_t at = 0; at < groups.length; at++) {
+        count += groups.bytes[at] == END;
     }
-    compare(is_right, number, status);
-}
-
-/* Whether the match of an init is written, as JSON and as groups, which are also those of the first match. */
-static void ask_match_init(char **words, unsigned number) {
-    uint32_t wanted = (uint32_t)atoi(words[1]), status, first;
-    text init = text_of(words[2]), json = text_of(words[3]), groups = text_of(words[4]);
-    urlpattern_sizes sizes = { 0, 0 }, needed = { 0, 0 };
-    size_t length = 0, index = 9;
-    memset(buffer, EDGE, json.length + 1);
-    status = urlpattern_exec_of_init(&patterns, 0, init.bytes, init.length, buffer, sizeof buffer, &length);
-    bool is_right = wanted == URLPATTERN_DONE ? is_written(status, length, json) : is_wanted(status, wanted);
-    first = urlpattern_first_captures_of_init(&patterns, init.bytes, init.length, &index, buffer, ROOM, spans, SPANS, &sizes);
-    is_right &= first == status && index == (status == URLPATTERN_DONE ? 0 : 9);
-    is_right &= urlpattern_captures_of_init(&patterns, 0, init.bytes, init.length, buffer, ROOM, spans, SPANS, &needed) == status;
     if (is_right && status == URLPATTERN_DONE) {
-        is_right = are_written(groups, needed) && sizes.bytes == needed.bytes && sizes.spans == needed.spans;
-        is_right &= urlpattern_exec_of_init(&patterns, 0, init.bytes, init.length, buffer, json.length - 1, &length) == URLPATTERN_TOO_SMALL;
+        is_right = sizes.spans == count;
+        for (size_t at = 0; is_right && at < sizes.spans; at++) {
+            is_right = spans[at].start == end && is_among(groups, &spans[at]);
+            end += spans[at].length;
+        }
+        is_right = is_right && end == sizes.bytes && are_measured(url, base, sizes);
     }
     compare(is_right, number, status);
 }
@@ -219,30 +193,24 @@ static size_t given_of(const char *word) {
     return count;
 }
 
-/* The text of a component with the given groups, or the URL of the pattern. */
-static uint32_t text_with(uint32_t component, text groups, size_t count, size_t room, size_t *needed) {
-    if (component < COMPONENTS) {
-        urlpattern_component_number number = (urlpattern_component_number)component;
-        return urlpattern_generate(&patterns, 0, number, groups.bytes, groups.length, given, count, buffer, room, needed);
-    }
+static uint32_t link_of(text groups, size_t count, size_t room, size_t *needed) {
     return urlpattern_link(&patterns, 0, groups.bytes, groups.length, given, count, buffer, room, needed);
 }
 
-/* Whether the URL or the text is written, or a reason why there is none; and whether a byte less is too little, and a part past the text is
- * refused. A text of no bytes needs no room. */
-static void ask_made(char **words, unsigned number) {
-    uint32_t wanted = (uint32_t)atoi(words[1]), of = words[5][0] == '-' ? COMPONENTS : (uint32_t)atoi(words[5]), status;
+/* Whether the URL is written, or a reason why there is none; and whether a byte less is too little, and a part past the text is refused. */
+static void ask_link(char **words, unsigned number) {
+    uint32_t wanted = (uint32_t)atoi(words[1]), status;
     text groups = text_of(words[2]), url = text_of(words[4]);
     size_t count = given_of(words[3]), needed = 0, again = 0;
     memset(buffer, EDGE, url.length + 1);
-    status = text_with(of, groups, count, sizeof buffer, &needed);
+    status = link_of(groups, count, sizeof buffer, &needed);
     bool is_right = wanted == URLPATTERN_DONE ? is_written(status, needed, url) : status == wanted && needed > 0;
     buffer[0] = EDGE;
-    is_right &= needed == 0 || (text_with(of, groups, count, needed - 1, &again) == URLPATTERN_TOO_SMALL && again == needed && buffer[0] == EDGE);
+    is_right &= needed > 0 && link_of(groups, count, needed - 1, &again) == URLPATTERN_TOO_SMALL && again == needed && buffer[0] == EDGE;
     given[count] = (urlpattern_given){ URLPATTERN_HASH, groups.length, 0, groups.length, 1 };
-    is_right &= text_with(of, groups, count + 1, sizeof buffer, &again) == URLPATTERN_NO_PATTERN && buffer[0] == EDGE;
+    is_right &= link_of(groups, count + 1, sizeof buffer, &again) == URLPATTERN_NO_PATTERN && buffer[0] == EDGE;
     given[count] = (urlpattern_given){ URLPATTERN_NO_COMPONENT, 0, 0, 0, 0 };
-    is_right &= text_with(of, groups, count + 1, sizeof buffer, &again) == URLPATTERN_NO_PATTERN && buffer[0] == EDGE;
+    is_right &= link_of(groups, count + 1, sizeof buffer, &again) == URLPATTERN_NO_PATTERN && buffer[0] == EDGE;
     compare(is_right, number, status);
 }
 
@@ -252,24 +220,6 @@ static void ask_text(char **words, unsigned number) {
     memset(buffer, EDGE, wanted.length + 1);
     uint32_t status = urlpattern_component(&patterns, 0, (urlpattern_component_number)atoi(words[1]), buffer, sizeof buffer, &needed);
     compare(is_written(status, needed, wanted), number, status);
-}
-
-/* Whether the pattern is written as one text, or has none; and whether what is compiled of the text is the same pattern. */
-static void ask_whole(char **words, unsigned number) {
-    uint32_t wanted = (uint32_t)atoi(words[1]);
-    text whole = text_of(words[3]);
-    size_t needed = 0;
-    memset(buffer, EDGE, whole.length + 1);
-    uint32_t status = urlpattern_text(&patterns, 0, buffer, sizeof buffer, &needed);
-    bool is_right = wanted == URLPATTERN_DONE ? is_written(status, needed, whole) : status == wanted;
-    if (is_right && status == URLPATTERN_DONE) {
-        urlpattern_free(&others);
-        is_right = urlpattern_add(&others, whole.bytes, whole.length, "", 0, words[2][0] == '1') == status;
-        is_right &= urlpattern_is_same(&patterns, 0, &others, 0) == status && urlpattern_is_same(&patterns, 0, &patterns, 0) == status;
-        is_right &= urlpattern_text(&patterns, 0, buffer, needed - 1, &needed) == URLPATTERN_TOO_SMALL && needed == whole.length;
-    }
-    is_right &= urlpattern_text(&patterns, 1, buffer, sizeof buffer, &needed) == URLPATTERN_NO_PATTERN;
-    compare(is_right, number, status);
 }
 
 static void ask_custom(char **words, unsigned number) {
@@ -306,35 +256,11 @@ static void ask_first(char **words, unsigned number) {
     compare(is_right && is_same_first(url, base, wanted, wanted_index), number, status);
 }
 
-static void ask_first_init(char **words, unsigned number) {
-    uint32_t wanted = (uint32_t)atoi(words[1]);
-    text init = text_of(words[2]);
-    urlpattern_sizes sizes = { 0, 0 };
-    size_t index = 0;
-    uint32_t status = urlpattern_first_captures_of_init(&patterns, init.bytes, init.length, &index, buffer, ROOM, spans, SPANS, &sizes);
-    compare(is_wanted(status, wanted) && (status != URLPATTERN_DONE || index == (size_t)atoi(words[3])), number, status);
-}
-
 /* Whether a pattern covers the asked one. Returns the status, or `NO_STATUS` if another component is written than the wanted one. */
 static uint32_t covers(size_t index, urlpattern_list *list, size_t asked, uint32_t wanted) {
     urlpattern_component_number component = (urlpattern_component_number)(COMPONENTS + 1);
     uint32_t status = urlpattern_covers(&patterns, index, list, asked, &component);
     return component == wanted ? status : NO_STATUS;
-}
-
-/* Whether texts are written of the patterns at two indices, if there are some, and nothing else is. */
-static bool are_shown(size_t index, urlpattern_list *list, size_t other, uint32_t covering, uint32_t overlap) {
-    uint32_t shown = covering == URLPATTERN_UNKNOWN ? covering : covering == URLPATTERN_DONE ? URLPATTERN_NO_MATCH : URLPATTERN_DONE;
-    size_t needed = 0, again = 0;
-    buffer[0] = EDGE;
-    bool is_right = urlpattern_counterexample(&patterns, index, list, other, buffer, sizeof buffer, &needed) == shown;
-    is_right &= (buffer[0] == '{') == (shown == URLPATTERN_DONE);
-    if (is_right && shown == URLPATTERN_DONE) {
-        is_right &= urlpattern_counterexample(&patterns, index, list, other, group, needed - 1, &again) == URLPATTERN_TOO_SMALL && again == needed;
-    }
-    buffer[0] = EDGE;
-    is_right &= urlpattern_overlaps(&patterns, index, list, other, buffer, sizeof buffer, &needed) == overlap;
-    return is_right && (buffer[0] == '{') == (overlap == URLPATTERN_DONE);
 }
 
 /* Whether both ways of comparing give the answer, and report indices that have no pattern; and whether the patterns are as they were. */
@@ -346,7 +272,6 @@ static void ask_covers(char **words, unsigned number) {
     is_right &= covers(2, &patterns, 0, COMPONENTS) == URLPATTERN_NO_PATTERN && covers(0, &patterns, 2, COMPONENTS) == URLPATTERN_NO_PATTERN;
     is_right &= covers(2, &others, 0, COMPONENTS) == URLPATTERN_NO_PATTERN && covers(0, &others, 1, COMPONENTS) == URLPATTERN_NO_PATTERN;
     is_right &= covers(0, &none, 0, COMPONENTS) == URLPATTERN_NO_PATTERN && covers(0, &others, 0, component) == wanted;
-    is_right &= are_shown(0, &others, 0, wanted, (uint32_t)atoi(words[3])) && are_shown(0, &patterns, 1, wanted, (uint32_t)atoi(words[3]));
     compare(is_right, number, status);
 }
 
@@ -363,24 +288,26 @@ static void ask_compiled(char **words, unsigned number) {
     compare(status == (uint32_t)atoi(words[1]), number, status);
 }
 
-/* What a word asks. Any other word compiles. */
-static const struct {
-    const char *word;
-    void (*ask)(char **words, unsigned number);
-} questions[] = {
-    { "exec", ask_exec },     { "groups", ask_groups },   { "match_init", ask_match_init }, { "link", ask_made },
-    { "text", ask_text },     { "whole", ask_whole },     { "custom", ask_custom },         { "meaning", ask_meaning },
-    { "first", ask_first },   { "covers", ask_covers },   { "first_init", ask_first_init },     { "generate", ask_made },
-};
-
 static void ask(char **words, unsigned number) {
-    for (size_t at = 0; at < sizeof questions / sizeof questions[0]; at++) {
-        if (strcmp(words[0], questions[at].word) == 0) {
-            questions[at].ask(words, number);
-            return;
-        }
+    if (strcmp(words[0], "exec") == 0) {
+        ask_exec(words, number);
+    } else if (strcmp(words[0], "groups") == 0) {
+        ask_groups(words, number);
+    } else if (strcmp(words[0], "link") == 0) {
+        ask_link(words, number);
+    } else if (strcmp(words[0], "text") == 0) {
+        ask_text(words, number);
+    } else if (strcmp(words[0], "custom") == 0) {
+        ask_custom(words, number);
+    } else if (strcmp(words[0], "meaning") == 0) {
+        ask_meaning(words, number);
+    } else if (strcmp(words[0], "first") == 0) {
+        ask_first(words, number);
+    } else if (strcmp(words[0], "covers") == 0) {
+        ask_covers(words, number);
+    } else {
+        ask_compiled(words, number);
     }
-    ask_compiled(words, number);
 }
 
 int main(void) {

@@ -78,18 +78,13 @@ bool is_linked(list &patterns, const words &line) {
         std::string_view all = text;
         groups.push_back({of, all.substr(name, name_length), all.substr(start, length)});
     }
-    auto url = line.size() > 5 ? patterns.generate(0, static_cast<component>(std::stoul(line[5])), groups) : patterns.link(0, groups);
+    auto url = patterns.link(0, groups);
     return is_wanted(url.code(), line[1]) && (url ? *url == text_of(line, 4) : !url->empty());
 }
 
 bool is_covered(list &patterns, list &others, const words &line) {
     auto between = patterns.covers(0, others, 0), within = patterns.covers(0, patterns, 1);
     component of = static_cast<component>(std::stoul(line[2]));
-    auto overlap = patterns.overlaps(0, others, 0), overlap_within = patterns.overlaps(0, patterns, 1);
-    if (!is_wanted(overlap.code(), line[3]) || overlap_within.code() != overlap.code()
-        || bool(patterns.counterexample(0, others, 0)) != (between.first == status::no_match)) {
-        return false;
-    }
     return is_wanted(between.first, line[1]) && between.second == of && between == within;
 }
 
@@ -100,22 +95,6 @@ bool is_matched(list &patterns, const words &line) {
     bool names_component = (missed.first == status::no_match) == (missed.second != component::none);
     return is_wanted(json.code(), line[1]) && (!json || *json == text_of(line, 4))
         && patterns.test(0, url, base) == json.code() && missed.first == json.code() && names_component;
-}
-
-bool is_init_matched(list &patterns, const words &line) {
-    std::string init = text_of(line, 2);
-    auto json = patterns.exec_of_init(0, init);
-    auto found = patterns.captures_of_init(0, init), first = patterns.first_match_of_init(init);
-    return is_wanted(json.code(), line[1]) && found.code() == json.code() && first.code() == json.code()
-        && (!json || (*json == text_of(line, 3) && pieces(groups_text(patterns, *found)) == pieces(text_of(line, 4))));
-}
-
-bool is_whole(list &patterns, const words &line) {
-    auto text = patterns.text(0);
-    list again;
-    return is_wanted(text.code(), line[1])
-        && (!text || (*text == text_of(line, 3) && again.add(*text, {}, line[2] == "1") == status::done
-                      && patterns.is_same(0, again, 0) == status::done && patterns.is_same(0, patterns, 0) == status::done));
 }
 
 bool is_answered(list &patterns, list &others, const words &line) {
@@ -139,16 +118,9 @@ bool is_answered(list &patterns, list &others, const words &line) {
         return is_wanted(found.code(), line[1])
             && (!found || pieces(groups_text(patterns, *found)) == pieces(text_of(line, 4)));
     }
-    if (word == "first" || word == "first_init") {
-        bool is_init = word == "first_init";
-        auto found = is_init ? patterns.first_match_of_init(text_of(line, 2)) : patterns.first_match(text_of(line, 2), text_of(line, 3));
-        return is_wanted(found.code(), line[1]) && (!found || std::to_string(found->index) == line[is_init ? 3 : 4]);
-    }
-    if (word == "match_init") {
-        return is_init_matched(patterns, line);
-    }
-    if (word == "whole") {
-        return is_whole(patterns, line);
+    if (word == "first") {
+        auto found = patterns.first_match(text_of(line, 2), text_of(line, 3));
+        return is_wanted(found.code(), line[1]) && (!found || std::to_string(found->index) == line[4]);
     }
     if (word == "text") {
         auto text = patterns.text_of(0, static_cast<component>(std::stoul(line[1])));
@@ -157,7 +129,7 @@ bool is_answered(list &patterns, list &others, const words &line) {
     if (word == "custom" || word == "meaning") {
         return is_wanted(word == "custom" ? patterns.has_regexp_groups(0) : patterns.has_meaning(0), line[1]);
     }
-    return word == "link" || word == "generate" ? is_linked(patterns, line) : is_covered(patterns, others, line);
+    return word == "link" ? is_linked(patterns, line) : is_covered(patterns, others, line);
 }
 
 } // namespace

@@ -10,7 +10,7 @@
  *   if its size is 0: the text is then empty.
  * - Each other pointer leads to a value of its type that may be written, and that nothing else
  *   uses during the call. No two arguments overlap, but for texts and for the two handles of
- *   `urlpattern_covers` and `urlpattern_is_same`.
+ *   `urlpattern_covers`.
  * - A handle holds zeros (`URLPATTERN_EMPTY`) before its first call. After that only these
  *   functions write it, and it is not copied: `urlpattern_share` makes another handle.
  * - One call at a time has a handle. Another thread may make the next one, if the program orders
@@ -28,8 +28,7 @@
  *
  * Rules. A program that permits what matches does so for DONE alone, which is not 0, so that a
  * variable of zeros permits nothing. A program that denies what matches permits the rest for
- * NO_MATCH alone: the text is a URL, a path or an init, and is not matched. No other status says
- * so.
+ * NO_MATCH alone: the text is a URL, or a path, and is not matched. No other status says so.
  *
  * Base URLs. A base URL does not tie a URL to its host. Under `https://example.com/` the text
  * `//other.com/x` is the URL `https://other.com/x`, also with backslashes, and an absolute URL is
@@ -70,18 +69,16 @@ uint32_t urlpattern_version(void);
 typedef enum urlpattern_status {
     URLPATTERN_NO_MATCH = 0,      /* no match */
     URLPATTERN_DONE = 1,          /* it is done; of a match: there is one */
-    URLPATTERN_NO_URL = 2,        /* a text or an init is no URL, or its base is none */
+    URLPATTERN_NO_URL = 2,        /* a text is no URL, or its base is none */
     URLPATTERN_NO_PATH = 3,       /* a text is no path: it does not begin with `/`, or has a `?`, a
                                    * `#` or a line feed */
     URLPATTERN_TOO_LONG = 4,      /* a URL or a base URL has 16 MB (2^24 bytes) or more */
     URLPATTERN_NOT_UTF8 = 5,      /* a text is not UTF-8 */
-    URLPATTERN_REFUSED = 6,       /* a pattern is refused, or JSON is no init; of
-                                   * `urlpattern_link` and `urlpattern_generate`: there is no
-                                   * text, and the reason is written */
+    URLPATTERN_REFUSED = 6,       /* a pattern is refused; of `urlpattern_link`: there is no link,
+                                   * and the reason is written */
     URLPATTERN_OUT_OF_MEMORY = 7, /* memory ran out; the patterns are as they were */
     URLPATTERN_NO_PATTERN = 8,    /* no pattern of this index, no component or group of a number;
-                                   * of `urlpattern_link` and `urlpattern_generate` also: a part
-                                   * that is given is no text */
+                                   * of `urlpattern_link` also: a part that is given is no text */
     URLPATTERN_TOO_SMALL = 9,     /* too little room; `needed` has the size that is needed */
     URLPATTERN_UNKNOWN = 10,      /* it is not known whether a pattern covers another one */
     URLPATTERN_SHARED = 11        /* another handle has the same patterns, so that none is added */
@@ -141,8 +138,8 @@ urlpattern_status urlpattern_add_init(urlpattern_list *patterns, const char *jso
 void urlpattern_free(urlpattern_list *patterns);
 
 /* Gives another handle the same patterns, in the memory that they have. What the other one had is
- * freed, also if there are no patterns to give. As long as both have them, none is added to either,
- * and each frees them by itself. The two are never the same handle.
+ * freed. As long as both have them, none is added to either, and each frees them by itself. The
+ * two are never the same handle.
  * DONE, or OUT_OF_MEMORY: both handles are as they were. */
 urlpattern_status urlpattern_share(urlpattern_list *patterns, urlpattern_list *other);
 
@@ -216,11 +213,10 @@ urlpattern_status urlpattern_first_captures(urlpattern_list *patterns, const cha
                                             urlpattern_sizes *needed);
 
 /* Matches a path by itself, as the path of a request before its `?`: all other components are
- * empty, so that a pattern for paths leaves them open, as `{"pathname":"/users/:id"}` does, and a
- * pattern with a protocol or a host never matches. The path has no host, whatever it looks like,
- * and is not made canonical as the pattern is: `/a/../b` and `/%61` are matched as they are, and
- * `/%C3%A9` alone is matched by the pattern `/é`. Writes what the groups of the pattern of this
- * index capture, as `urlpattern_captures` does.
+ * empty, so that a pattern for paths leaves them open, as `{"pathname":"/users/:id"}` does. The
+ * path has no host, whatever it looks like, and is not made canonical: `/a/../b` and `/%61` are
+ * matched as they are. Writes what the groups of the pattern of this index capture, as
+ * `urlpattern_captures` does.
  * DONE, NO_MATCH, NO_PATH, NOT_UTF8, OUT_OF_MEMORY, NO_PATTERN, or TOO_SMALL. */
 urlpattern_status urlpattern_captures_of_path(urlpattern_list *patterns, size_t index,
                                               const char *path, size_t length, char *buffer,
@@ -268,33 +264,6 @@ urlpattern_status urlpattern_first_captures_of_texts(urlpattern_list *patterns, 
                                                      urlpattern_span *spans, size_t span_room,
                                                      urlpattern_sizes *needed);
 
-/* Matches an init, as browsers match what they are given as an object: an object of JSON as
- * `urlpattern_add_init` reads it, whose texts are made canonical as those of a URL are. What it
- * leaves out is inherited from its `baseURL`, or else empty. Writes what the groups of the pattern
- * of this index capture, as `urlpattern_captures` does.
- * DONE, NO_MATCH, NO_URL (a text of the init or its base URL is refused), TOO_LONG (the JSON has 16
- * MB or more), NOT_UTF8, REFUSED (the JSON is no init), OUT_OF_MEMORY, NO_PATTERN, or TOO_SMALL. */
-urlpattern_status urlpattern_captures_of_init(urlpattern_list *patterns, size_t index,
-                                              const char *json, size_t length, char *buffer,
-                                              size_t room, urlpattern_span *spans, size_t span_room,
-                                              urlpattern_sizes *needed);
-
-/* Finds the first pattern that matches an init, as `urlpattern_captures_of_init` matches it, and
- * writes its index, and its groups as `urlpattern_first_captures` does.
- * DONE, NO_MATCH, NO_URL, TOO_LONG, NOT_UTF8, REFUSED (the JSON is no init), OUT_OF_MEMORY,
- * NO_PATTERN (none is there), or TOO_SMALL. */
-urlpattern_status urlpattern_first_captures_of_init(urlpattern_list *patterns, const char *json,
-                                                    size_t length, size_t *index, char *buffer,
-                                                    size_t room, urlpattern_span *spans,
-                                                    size_t span_room, urlpattern_sizes *needed);
-
-/* Writes the match of an init, as `urlpattern_captures_of_init` matches it, in the JSON of
- * `urlpattern_exec`.
- * DONE, NO_MATCH, NO_URL, TOO_LONG, NOT_UTF8, REFUSED (the JSON is no init), OUT_OF_MEMORY,
- * NO_PATTERN, or TOO_SMALL. */
-urlpattern_status urlpattern_exec_of_init(urlpattern_list *patterns, size_t index, const char *json,
-                                          size_t length, char *buffer, size_t room, size_t *needed);
-
 /* What is given for a group: its name and a text for it, which are parts of one text. */
 typedef struct urlpattern_given {
     urlpattern_component_number component;
@@ -320,17 +289,6 @@ urlpattern_status urlpattern_link(urlpattern_list *patterns, size_t index, const
                                   size_t length, const urlpattern_given *given, size_t count,
                                   char *buffer, size_t room, size_t *needed);
 
-/* Writes the text of a component of the pattern of this index with these groups, as
- * `urlpattern_link` writes a whole URL, or why there is none. What is given for groups of other
- * components is ignored.
- * DONE (the text is written), REFUSED (the component has no text with these groups, and the reason
- * is written), OUT_OF_MEMORY, NO_PATTERN (also as of `urlpattern_link`), or TOO_SMALL (there is no
- * room for the text, or for the reason). */
-urlpattern_status urlpattern_generate(urlpattern_list *patterns, size_t index,
-                                      urlpattern_component_number component, const char *text,
-                                      size_t length, const urlpattern_given *given, size_t count,
-                                      char *buffer, size_t room, size_t *needed);
-
 /* Writes the name of a group, by its number in a component: a group that has none in the pattern
  * is named by a number of its own.
  * DONE, NO_PATTERN, or TOO_SMALL. */
@@ -343,31 +301,6 @@ urlpattern_status urlpattern_group_name(urlpattern_list *patterns, size_t index,
 urlpattern_status urlpattern_component(urlpattern_list *patterns, size_t index,
                                        urlpattern_component_number component, char *buffer,
                                        size_t room, size_t *needed);
-
-/* Writes the pattern of this index as one text, a constructor string that `urlpattern_add` compiles
- * to the same pattern, as `urlpattern_is_same` says, without a base URL and with the `ignore_case`
- * that the pattern was compiled with. What may be left out is.
- * DONE, NO_MATCH (the pattern has no such text, as `{"pathname":"a*"}` has none), OUT_OF_MEMORY,
- * NO_PATTERN, or TOO_SMALL. */
-urlpattern_status urlpattern_text(urlpattern_list *patterns, size_t index, char *buffer,
-                                  size_t room, size_t *needed);
-
-/* Whether two patterns of the handle are the same: each component has the same parts, the same
- * names of groups and the same options in both, however the patterns were written. The same
- * patterns match the same URLs with the same captures.
- * DONE (they are), NO_MATCH (they are not), or NO_PATTERN (of one of the two indices). */
-urlpattern_status urlpattern_is_same_within(urlpattern_list *patterns, size_t index, size_t other);
-
-/* The same of a pattern of another handle. The two are never the same handle. */
-urlpattern_status urlpattern_is_same_between(urlpattern_list *patterns, size_t index,
-                                             urlpattern_list *others, size_t other);
-
-/* The same of a pattern of another handle or of the same one, as `urlpattern_covers` is. */
-static inline urlpattern_status urlpattern_is_same(urlpattern_list *patterns, size_t index,
-                                                   urlpattern_list *others, size_t other) {
-    return patterns == others ? urlpattern_is_same_within(patterns, index, other)
-                              : urlpattern_is_same_between(patterns, index, others, other);
-}
 
 /* Whether the pattern of this index has a custom regular expression, as `hasRegExpGroups` of a
  * browser.
@@ -409,34 +342,6 @@ static inline urlpattern_status urlpattern_covers(urlpattern_list *patterns, siz
         ? urlpattern_covers_within(patterns, index, asked, component)
         : urlpattern_covers_between(patterns, index, others, asked, component);
 }
-
-/* Writes texts that the asked pattern matches, another pattern of the handle, and the pattern of
- * this index does not, as an init in JSON: in the component that `urlpattern_covers` writes, the
- * one matches the text and the other does not. A component of which no text is known is left out.
- * DONE, NO_MATCH (there are none: the pattern covers the asked one), UNKNOWN (as of
- * `urlpattern_covers`), OUT_OF_MEMORY, NO_PATTERN (of one of the two indices), or TOO_SMALL. */
-urlpattern_status urlpattern_counterexample_within(urlpattern_list *patterns, size_t index,
-                                                   size_t asked, char *buffer, size_t room,
-                                                   size_t *needed);
-
-/* The same of an asked pattern of another handle. The two are never the same handle. */
-urlpattern_status urlpattern_counterexample_between(urlpattern_list *patterns, size_t index,
-                                                    urlpattern_list *others, size_t asked,
-                                                    char *buffer, size_t room, size_t *needed);
-
-/* Whether two patterns of the handle overlap: whether there are texts that both match. Writes such
- * texts, as an init in JSON. A component that is the same in both is left out where no text is
- * known that it matches.
- * DONE (they overlap), NO_MATCH (there are no such texts), UNKNOWN (because of a component, where
- * no other one decides), OUT_OF_MEMORY, NO_PATTERN (of one of the two indices), or TOO_SMALL (they
- * overlap, and there is no room for the texts). */
-urlpattern_status urlpattern_overlaps_within(urlpattern_list *patterns, size_t index, size_t other,
-                                             char *buffer, size_t room, size_t *needed);
-
-/* The same of a pattern of another handle. The two are never the same handle. */
-urlpattern_status urlpattern_overlaps_between(urlpattern_list *patterns, size_t index,
-                                              urlpattern_list *others, size_t other, char *buffer,
-                                              size_t room, size_t *needed);
 
 /* The part of a text that is at fault, in bytes: `start` is at most `end`, and `end` at most the
  * length of the text. */

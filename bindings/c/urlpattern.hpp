@@ -218,31 +218,6 @@ class list {
         });
     }
 
-    /* Matches an init, an object of JSON. */
-    result<match> captures_of_init(std::size_t index, std::string_view json) {
-        return matched(index, [&](match &found, urlpattern_sizes *sizes) {
-            return urlpattern_captures_of_init(&handle_, index, json.data(), json.size(),
-                                               found.text.data(), found.text.size(),
-                                               found.spans.data(), found.spans.size(), sizes);
-        });
-    }
-
-    result<match> first_match_of_init(std::string_view json) {
-        return matched(0, [&](match &found, urlpattern_sizes *sizes) {
-            return urlpattern_first_captures_of_init(&handle_, json.data(), json.size(),
-                                                     &found.index, found.text.data(),
-                                                     found.text.size(), found.spans.data(),
-                                                     found.spans.size(), sizes);
-        });
-    }
-
-    result<std::string> exec_of_init(std::size_t index, std::string_view json) {
-        return written([&](char *buffer, std::size_t room, std::size_t *needed) {
-            return urlpattern_exec_of_init(&handle_, index, json.data(), json.size(), buffer, room,
-                                           needed);
-        });
-    }
-
     /* What the group of this name captured in a match of this list; nothing if it took no part, or
      * the pattern has no such group. */
     std::optional<std::string_view> captured(const match &found, component of,
@@ -271,35 +246,18 @@ class list {
 
     /* The URL of a pattern with these groups; with the status `refused`, why there is none. */
     result<std::string> link(std::size_t index, const std::vector<group> &groups) {
-        auto [text, given] = joined(groups);
-        return written([&, &text = text, &given = given](char *buffer, std::size_t room,
-                                                         std::size_t *needed) {
+        std::string text;
+        std::vector<urlpattern_given> given;
+        for (const group &each : groups) {
+            std::size_t start = text.size() + each.name.size();
+            given.push_back({to_number(each.of), text.size(), each.name.size(), start,
+                             each.text.size()});
+            text.append(each.name).append(each.text);
+        }
+        return written([&](char *buffer, std::size_t room, std::size_t *needed) {
             return urlpattern_link(&handle_, index, text.data(), text.size(), given.data(),
                                    given.size(), buffer, room, needed);
         });
-    }
-
-    /* The text of a component with these groups; with the status `refused`, why there is none. */
-    result<std::string> generate(std::size_t index, component of,
-                                 const std::vector<group> &groups) {
-        auto [text, given] = joined(groups);
-        return written([&, &text = text, &given = given](char *buffer, std::size_t room,
-                                                         std::size_t *needed) {
-            return urlpattern_generate(&handle_, index, to_number(of), text.data(), text.size(),
-                                       given.data(), given.size(), buffer, room, needed);
-        });
-    }
-
-    /* The pattern as one text, a constructor string; with the status `no_match` there is none. */
-    result<std::string> text(std::size_t index) {
-        return written([&](char *buffer, std::size_t room, std::size_t *needed) {
-            return urlpattern_text(&handle_, index, buffer, room, needed);
-        });
-    }
-
-    /* Whether a pattern is the same as one of another list or of this one. */
-    status is_same(std::size_t index, list &others, std::size_t other) {
-        return to_status(urlpattern_is_same(&handle_, index, &others.handle_, other));
     }
 
     status has_regexp_groups(std::size_t index) {
@@ -317,24 +275,6 @@ class list {
         urlpattern_status status =
             urlpattern_covers(&handle_, index, &others.handle_, asked, &number);
         return {to_status(status), static_cast<component>(number)};
-    }
-
-    /* Texts that the asked pattern matches and the other one does not, as an init in JSON; with the
-     * status `no_match` there are none. */
-    result<std::string> counterexample(std::size_t index, list &others, std::size_t asked) {
-        return written([&](char *buffer, std::size_t room, std::size_t *needed) {
-            return urlpattern_counterexample(&handle_, index, &others.handle_, asked, buffer, room,
-                                             needed);
-        });
-    }
-
-    /* Texts that both patterns match, as an init in JSON; with the status `no_match` there are none.
-     */
-    result<std::string> overlaps(std::size_t index, list &others, std::size_t other) {
-        return written([&](char *buffer, std::size_t room, std::size_t *needed) {
-            return urlpattern_overlaps(&handle_, index, &others.handle_, other, buffer, room,
-                                       needed);
-        });
     }
 
     /* Why `add` refuses these texts. */
@@ -363,20 +303,6 @@ class list {
 
     static urlpattern_component_number to_number(component of) {
         return static_cast<urlpattern_component_number>(of);
-    }
-
-    /* Names and texts of groups as one text, and where each of them lies. */
-    static std::pair<std::string, std::vector<urlpattern_given>> joined(
-        const std::vector<group> &groups) {
-        std::string text;
-        std::vector<urlpattern_given> given;
-        for (const group &each : groups) {
-            std::size_t start = text.size() + each.name.size();
-            given.push_back({to_number(each.of), text.size(), each.name.size(), start,
-                             each.text.size()});
-            text.append(each.name).append(each.text);
-        }
-        return {std::move(text), std::move(given)};
     }
 
     /* Calls what writes a text, with as much room as it needs. */

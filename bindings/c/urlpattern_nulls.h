@@ -145,42 +145,6 @@ static inline urlpattern_status urlpattern_first_captures_of_texts_(urlpattern_l
                                               spans ? spans : no_spans, span_room, needed);
 }
 
-static inline urlpattern_status urlpattern_captures_of_init_(urlpattern_list *patterns,
-                                                             size_t index, const char *json,
-                                                             size_t length, char *buffer,
-                                                             size_t room, urlpattern_span *spans,
-                                                             size_t span_room,
-                                                             urlpattern_sizes *needed) {
-    char no_bytes[1];
-    urlpattern_span no_spans[1];
-    return urlpattern_captures_of_init(patterns, index, urlpattern_text_or_empty(json), length,
-                                       buffer ? buffer : no_bytes, room, spans ? spans : no_spans,
-                                       span_room, needed);
-}
-
-static inline urlpattern_status urlpattern_first_captures_of_init_(urlpattern_list *patterns,
-                                                                   const char *json, size_t length,
-                                                                   size_t *index, char *buffer,
-                                                                   size_t room,
-                                                                   urlpattern_span *spans,
-                                                                   size_t span_room,
-                                                                   urlpattern_sizes *needed) {
-    char no_bytes[1];
-    urlpattern_span no_spans[1];
-    return urlpattern_first_captures_of_init(patterns, urlpattern_text_or_empty(json), length,
-                                             index, buffer ? buffer : no_bytes, room,
-                                             spans ? spans : no_spans, span_room, needed);
-}
-
-static inline urlpattern_status urlpattern_exec_of_init_(urlpattern_list *patterns, size_t index,
-                                                         const char *json, size_t length,
-                                                         char *buffer, size_t room,
-                                                         size_t *needed) {
-    char no_bytes[1];
-    return urlpattern_exec_of_init(patterns, index, urlpattern_text_or_empty(json), length,
-                                   buffer ? buffer : no_bytes, room, needed);
-}
-
 static inline urlpattern_status urlpattern_link_(urlpattern_list *patterns, size_t index,
                                                  const char *text, size_t length,
                                                  const urlpattern_given *given, size_t count,
@@ -190,18 +154,6 @@ static inline urlpattern_status urlpattern_link_(urlpattern_list *patterns, size
     return urlpattern_link(patterns, index, urlpattern_text_or_empty(text), length,
                            given ? given : no_groups, count, buffer ? buffer : no_bytes, room,
                            needed);
-}
-
-static inline urlpattern_status urlpattern_generate_(urlpattern_list *patterns, size_t index,
-                                                     urlpattern_component_number component,
-                                                     const char *text, size_t length,
-                                                     const urlpattern_given *given, size_t count,
-                                                     char *buffer, size_t room, size_t *needed) {
-    static const urlpattern_given no_groups[1] = { { URLPATTERN_PROTOCOL, 0, 0, 0, 0 } };
-    char no_bytes[1];
-    return urlpattern_generate(patterns, index, component, urlpattern_text_or_empty(text), length,
-                               given ? given : no_groups, count, buffer ? buffer : no_bytes, room,
-                               needed);
 }
 
 static inline urlpattern_status urlpattern_group_name_(urlpattern_list *patterns, size_t index,
@@ -219,35 +171,6 @@ static inline urlpattern_status urlpattern_component_(urlpattern_list *patterns,
     char no_bytes[1];
     return urlpattern_component(patterns, index, component, buffer ? buffer : no_bytes, room,
                                 needed);
-}
-
-static inline urlpattern_status urlpattern_text_(urlpattern_list *patterns, size_t index,
-                                                 char *buffer, size_t room, size_t *needed) {
-    char no_bytes[1];
-    return urlpattern_text(patterns, index, buffer ? buffer : no_bytes, room, needed);
-}
-
-/* Those of two patterns, of two handles or of one. The library has no function of these names: they
- * are the header's, and call the one that is right for the handles. */
-static inline urlpattern_status urlpattern_counterexample(urlpattern_list *patterns, size_t index,
-                                                          urlpattern_list *others, size_t asked,
-                                                          char *buffer, size_t room,
-                                                          size_t *needed) {
-    char no_bytes[1];
-    char *text = buffer ? buffer : no_bytes;
-    return patterns == others
-        ? urlpattern_counterexample_within(patterns, index, asked, text, room, needed)
-        : urlpattern_counterexample_between(patterns, index, others, asked, text, room, needed);
-}
-
-static inline urlpattern_status urlpattern_overlaps(urlpattern_list *patterns, size_t index,
-                                                    urlpattern_list *others, size_t other,
-                                                    char *buffer, size_t room, size_t *needed) {
-    char no_bytes[1];
-    char *text = buffer ? buffer : no_bytes;
-    return patterns == others
-        ? urlpattern_overlaps_within(patterns, index, other, text, room, needed)
-        : urlpattern_overlaps_between(patterns, index, others, other, text, room, needed);
 }
 
 static inline urlpattern_status urlpattern_diagnose_(const char *text, size_t length,
@@ -285,14 +208,9 @@ static inline urlpattern_status urlpattern_diagnose_init_(const char *json, size
 #define urlpattern_first_captures_of_path urlpattern_first_captures_of_path_
 #define urlpattern_captures_of_texts urlpattern_captures_of_texts_
 #define urlpattern_first_captures_of_texts urlpattern_first_captures_of_texts_
-#define urlpattern_captures_of_init urlpattern_captures_of_init_
-#define urlpattern_first_captures_of_init urlpattern_first_captures_of_init_
-#define urlpattern_exec_of_init urlpattern_exec_of_init_
 #define urlpattern_link urlpattern_link_
-#define urlpattern_generate urlpattern_generate_
 #define urlpattern_group_name urlpattern_group_name_
 #define urlpattern_component urlpattern_component_
-#define urlpattern_text urlpattern_text_
 #define urlpattern_diagnose urlpattern_diagnose_
 #define urlpattern_diagnose_init urlpattern_diagnose_init_
 

@@ -80,10 +80,6 @@ def asked(module):
             lambda n: pattern.link([("pathname", "id", f"{n}")]),
             lambda n: f"https://example.com/users/{n}",
         ),
-        "generate": (
-            lambda n: pattern.generate("pathname", [("pathname", "id", f"{n}")]),
-            lambda n: f"/users/{n}",
-        ),
         "reason of link": (
             lambda n: said(lambda: dated.link(given(n))),
             lambda n: f"the group `pathname.{missing(n)}` is missing: give a text for it",
@@ -95,12 +91,6 @@ def asked(module):
             lambda n: n % 2 == 0,
         ),
         "repr": (lambda n: repr(pattern), lambda n: REPR),
-        "text": (lambda n: routes[route(n)].text, lambda n: SOURCES[route(n)]),
-        "equality": (lambda n: routes[route(n)] == pattern, is_user),
-        "first of a dict": (
-            lambda n: routes.first({"pathname": f"/posts/{n}", "baseURL": url(0)}).groups[2],
-            lambda n: ("pathname", "id", f"{n}"),
-        ),
         "first": (lambda n: routes.first(url(n)), lambda n: module.Match(route(n), groups(n))),
         "match of a route": (
             lambda n: routes[route(n)].match(url(n)),
@@ -340,8 +330,7 @@ class Arguments(unittest.TestCase):
                 words = f"{key!r} of a pattern is a str, not {name}"
                 if (key, name) != ("port", "int"):
                     self.refuses(TypeError, words, URLPattern, {"pathname": "/", key: wrong})
-            for call in (pattern.covers, pattern.counterexample, pattern.overlaps):
-                self.refuses(TypeError, f"not {name}", call, wrong)
+            self.refuses(TypeError, f"not {name}", pattern.covers, wrong)
             if wrong is not None:
                 words = f"a base URL is a str, not {name}"
                 self.refuses(TypeError, words, URLPattern, "/", wrong)
@@ -364,7 +353,6 @@ class Arguments(unittest.TestCase):
         for wrong, name in self.WRONG:
             words = f"a component is a str, not {name}"
             self.refuses(TypeError, words, routes.component, 0, wrong)
-            self.refuses(TypeError, words, pattern.generate, wrong)
             self.refuses(TypeError, words, pattern.link, [(wrong, "id", "7")])
             words = f"the name of a group is a str, not {name}"
             self.refuses(TypeError, words, pattern.link, [("pathname", wrong, "7")])
@@ -392,16 +380,6 @@ class Arguments(unittest.TestCase):
             words = f"unknown key {key!r} of a pattern: it may be protocol, username"
             self.refuses(TypeError, words, URLPattern, {key: "x"})
 
-    def test_what_is_no_dict_to_match(self):
-        pattern, routes = URLPattern(SOURCES[0]), URLPatternList(SOURCES)
-        for call in (pattern.test, pattern.match, pattern.exec, pattern.captures, routes.first):
-            self.refuses(TypeError, "did you mean 'pathname'?", call, {"path": "/users/7"})
-            self.refuses(TypeError, "the base URL of a dict is its `baseURL`", call, {}, url(0))
-            self.refuses(TypeError, "'hash' of a pattern is a str, not int", call, {"hash": 7})
-            with self.assertRaises(TypeError):
-                call({}, path="/users/7")
-        self.refuses(TypeError, "a URL is a str, not dict", pattern.mismatch, {"pathname": "/"})
-
     def test_indices(self):
         routes, end = URLPatternList(SOURCES), len(SOURCES)
         asks = (
@@ -410,19 +388,11 @@ class Arguments(unittest.TestCase):
             lambda index: routes.exec(index, url(0)),
             lambda index: routes.captures(index, url(0)),
             lambda index: routes.link(index, []),
-            lambda index: routes.generate(index, "hash", []),
             lambda index: routes.component(index, "hash"),
             lambda index: routes.has_regexp_groups(index),
             lambda index: routes.has_meaning(index),
             lambda index: routes.covers(index, 0),
             lambda index: routes.covers(0, index),
-            lambda index: routes.overlaps(index, 0),
-            lambda index: routes.counterexample(0, index),
-            lambda index: routes.is_same(index, 0),
-            lambda index: routes.is_same(0, index),
-            lambda index: routes.text(index),
-            lambda index: routes.test(index, {"pathname": "/"}),
-            lambda index: routes.exec(index, {"pathname": "/"}),
         )
         for ask in asks:
             for index in (-1, end, 1 << 64, -1 << 64):
@@ -443,54 +413,6 @@ class Answers(unittest.TestCase):
         for missed in ("https://example.org/", "no URL"):
             self.assertIs(routes.first(missed), None)
             self.assertIs(URLPatternList().first(missed), None)
-
-    def test_a_dict_is_matched(self):
-        pattern, routes = URLPattern(SOURCES[0]), URLPatternList(SOURCES)
-        given = {"pathname": "users/7", "baseURL": "https://example.com/x"}
-        self.assertTrue(pattern.test(given))
-        self.assertEqual(pattern.match(given), pattern.match(url(0).replace("/0", "/7")))
-        self.assertEqual(pattern.exec(given)["pathname"]["input"], "/users/7")
-        self.assertEqual(routes.first({**given, "pathname": "/posts/8"}).index, 1)
-        self.assertTrue(URLPattern({"port": 8080}).test({"protocol": "http", "port": 8080}))
-        for missed in ({}, {"pathname": "/users/7"}, {"protocol": "no URL"}, {"baseURL": "x"}):
-            self.assertFalse(pattern.test(missed))
-            self.assertIs(pattern.match(missed), None)
-            self.assertIs(pattern.exec(missed), None)
-            self.assertIs(routes.first(missed), None)
-
-    def test_the_same_patterns(self):
-        texts = {name: text for name, text in TEXTS.items() if text != "*"}
-        same = [URLPattern(SOURCES[0]), URLPattern("/users/:id", "https://example.com")]
-        same += [URLPattern(texts), URLPatternList(SOURCES)[0], URLPattern(same[0].text)]
-        other = [URLPattern(SOURCES[0], ignore_case=True), URLPattern({"pathname": "/users/:id"})]
-        other += [URLPattern("https://example.com/users/:it"), URLPatternList(SOURCES)[1]]
-        for one in same:
-            self.assertEqual((len({*same, one}), one, hash(one)), (1, same[0], hash(same[0])))
-            self.assertTrue(all(one != it for it in other))
-        self.assertNotEqual(same[0], SOURCES[0])
-        routes = URLPatternList([*SOURCES, SOURCES[0]])
-        self.assertEqual((routes[0] == routes[3], routes[0] == routes[1]), (True, False))
-        self.assertEqual((routes.is_same(0, 3), routes.is_same(1, 0)), (True, False))
-
-    def test_two_patterns(self):
-        users, all_of_it = URLPattern(SOURCES[0]), URLPattern(SOURCES[2])
-        self.assertEqual((users.covers(all_of_it), all_of_it.covers(users)), (False, True))
-        texts = users.counterexample(all_of_it)
-        self.assertEqual((texts["protocol"], texts["hostname"]), ("https", "example.com"))
-        self.assertFalse(users.test({**texts, "baseURL": SOURCES[2]}))
-        self.assertIs(all_of_it.counterexample(users), None)
-        bounded = URLPattern(r"https://example.com/:x(\bx)")
-        self.assertIs(bounded.counterexample(users), None)
-        self.assertEqual((users.overlaps(all_of_it), bounded.overlaps(users)), (True, None))
-        routes = URLPatternList(SOURCES)
-        self.assertEqual([routes.overlaps(0, at) for at in range(3)], [True, False, True])
-        self.assertEqual(routes.counterexample(0, 2), texts)
-
-    def test_one_text(self):
-        self.assertEqual(str(URLPattern("/users/:id", "https://example.com")), SOURCES[0])
-        self.assertEqual([str(route) for route in URLPatternList(SOURCES)], SOURCES)
-        none = URLPattern({"pathname": "a*"})
-        self.assertEqual((none.text, str(none)), (None, repr(none)))
 
     def test_the_groups_of_a_match(self):
         pattern = URLPattern("https://:id.example.com/:id/:page?/*")

@@ -7,11 +7,10 @@
 The shared object is the one that the environment variable URLPATTERN_LIBRARY names, or else
 `liburlpattern.so` beside this file.
 
-A text or a dict that is no URL does not match, so that a rule that denies what matches lets it
-through: reject it before the call. `mismatch` raises ValueError where a text is no URL, and each
-call does where a URL or base has 16 MB (2**24 bytes in UTF-8) or more. A base does not tie a URL to
-its host: `//other.com/x` and `https://other.com/x` have the host other.com under each base of the
-web. What comes as the path of a request is given as `path=`, which has the host of its base.
+A text that is no URL does not match, so that a rule that denies what matches lets it through: reject
+it before the call. `mismatch` raises ValueError where a text is no URL, and each call does where a
+URL or base has 16 MB (2**24 bytes in UTF-8) or more. A base does not tie a URL to its host: `//other.com/x` and `https://other.com/x` have the host other.com under each base of the web.
+What comes as the path of a request is given as `path=`, which has the host of its base.
 
 Threads may share an object. Each call has memory of its own for what it returns, and the
 interpreter's lock is held while the library runs (an interpreter without it gets a lock of this

@@ -3,43 +3,22 @@ from __future__ import annotations
 
 import ctypes
 import json
-from typing import Any, Dict, Iterable, List, Mapping, Optional, Tuple, cast
+from typing import Any, Dict, Iterable, List, Optional, Tuple, cast
 
 from ._library import (
     COMPONENTS, DONE, LOCK, NO_PATTERN, NO_URL, REFUSED, SIZE, SPAN, UNKNOWN,
     Call, Handle, Memory, calls, checked, matched, written,
 )
 from ._match import Match
-from ._texts import (
-    Groups, Input, Source, group_texts, init_text, number_of, refusal, url_texts,
-)
+from ._texts import Groups, Source, group_texts, number_of, refusal, url_texts
 
 _test, _exec = calls.test, calls.exec
 _captures, _first_captures = calls.captures, calls.first_captures
 
 
-def _is_init(url: Any) -> bool:
-    """Whether what is matched is a dict."""
-    return not isinstance(url, str) and isinstance(url, Mapping)
-
-
 def covers(function: Call, *patterns: Any) -> Optional[bool]:
     """Whether the one of two patterns covers the other, or None if it is not known."""
     status = function(*patterns, ctypes.byref(ctypes.c_uint32()))
-    return None if status == UNKNOWN else checked(status)
-
-
-def counterexample(function: Call, *patterns: Any) -> Optional[Dict[str, str]]:
-    """Texts that the one of two patterns matches and the other does not, or None if there are none
-    or it is not known."""
-    status, text = written(function, *patterns)
-    found: Optional[Dict[str, str]] = json.loads(text) if text else None
-    return found if status == UNKNOWN or checked(status) else None
-
-
-def overlaps(function: Call, *patterns: Any) -> Optional[bool]:
-    """Whether both patterns match some texts, or None if it is not known."""
-    status, _ = written(function, *patterns)
     return None if status == UNKNOWN else checked(status)
 
 
@@ -67,7 +46,7 @@ class Patterns:
         checked(status)
 
     def first(
-        self, url: Optional[Input] = None, base: Optional[str] = None, *, path: Optional[str] = None
+        self, url: Optional[str] = None, base: Optional[str] = None, *, path: Optional[str] = None
     ) -> Optional[Match]:
         """The match of the first pattern that matches, with its `index`, or None.
 
@@ -79,18 +58,15 @@ class Patterns:
         ...     match.index, match["id"]
         (0, '8')
         """
-        if _is_init(url):
-            call, texts = calls.first_captures_of_init, init_text(url, base, path)
-        else:
-            call, texts = _first_captures, url_texts(url, base, path)
-        status, memory = matched(call, "for_first", self._address, *texts)
+        texts = url_texts(url, base, path)
+        status, memory = matched(_first_captures, "for_first", self._address, *texts)
         if status == NO_PATTERN or not checked(status):
             return None
         index = memory.number.value
         return Match(index, self._groups(index, memory))
 
     def first_captures(
-        self, url: Optional[Input] = None, base: Optional[str] = None, *, path: Optional[str] = None
+        self, url: Optional[str] = None, base: Optional[str] = None, *, path: Optional[str] = None
     ) -> Optional[Tuple[int, Groups]]:
         """The index and the groups of the match that `first` returns."""
         match = self.first(url, base, path=path)
@@ -99,15 +75,13 @@ class Patterns:
     def test(
         self,
         index: int,
-        url: Optional[Input] = None,
+        url: Optional[str] = None,
         base: Optional[str] = None,
         *,
         path: Optional[str] = None,
     ) -> bool:
         """Whether the pattern of this index matches. This call and those below, with an index, are
         those of URLPattern, without an object for the pattern."""
-        if _is_init(url):
-            return self.captures(index, url, base, path=path) is not None
         return checked(_test(self._address, SIZE[index], *url_texts(url, base, path)))
 
     def mismatch(
@@ -130,24 +104,20 @@ class Patterns:
     def exec(
         self,
         index: int,
-        url: Optional[Input] = None,
+        url: Optional[str] = None,
         base: Optional[str] = None,
         *,
         path: Optional[str] = None,
     ) -> Optional[Dict[str, Any]]:
         """The match of the pattern of this index, or None: a dict of components, each with `input`
         and `groups`."""
-        if _is_init(url):
-            call, texts = calls.exec_of_init, init_text(url, base, path)
-        else:
-            call, texts = _exec, url_texts(url, base, path)
-        status, text = written(call, self._address, SIZE[index], *texts)
+        status, text = written(_exec, self._address, SIZE[index], *url_texts(url, base, path))
         return cast(Dict[str, Any], json.loads(text)) if checked(status) else None
 
     def captures(
         self,
         index: int,
-        url: Optional[Input] = None,
+        url: Optional[str] = None,
         base: Optional[str] = None,
         *,
         path: Optional[str] = None,
@@ -155,11 +125,8 @@ class Patterns:
         """The groups of the match of the pattern of this index, or None: a list of tuples of the
         component, the name, and what the group captured, which is None where it took no part. They
         are in the order of the pattern, component by component."""
-        if _is_init(url):
-            call, texts = calls.captures_of_init, init_text(url, base, path)
-        else:
-            call, texts = _captures, url_texts(url, base, path)
-        status, memory = matched(call, "for_match", self._address, SIZE[index], *texts)
+        texts = url_texts(url, base, path)
+        status, memory = matched(_captures, "for_match", self._address, SIZE[index], *texts)
         return self._groups(index, memory) if checked(status) else None
 
     def _groups(self, index: int, memory: Memory) -> Groups:
@@ -189,55 +156,18 @@ class Patterns:
         component, the name and the text, as `captures` gives them; one whose text is None takes no
         part. A match of the URL captures the canonical forms of the texts. ValueError: there is no
         such URL, and the message says why."""
-        return self._made(calls.link, (SIZE[index],), groups)
-
-    def generate(
-        self, index: int, component: str, groups: Iterable[Tuple[str, str, Optional[str]]]
-    ) -> str:
-        """The text of a component that the pattern of this index matches with these groups, as
-        `link` has a whole URL. Groups of other components are passed over. ValueError: there is no
-        such text, and the message says why."""
-        return self._made(calls.generate, (SIZE[index], number_of(component)), groups)
-
-    def _made(
-        self,
-        function: Call,
-        of: Tuple[Any, ...],
-        groups: Iterable[Tuple[str, str, Optional[str]]],
-    ) -> str:
-        """What is made of groups. ValueError: it is refused."""
         text, given = group_texts(groups)
         arguments = text, SIZE[len(text)], ctypes.byref(given), SIZE[len(given)]
-        status, made = written(function, self._address, *of, *arguments)
+        status, url = written(calls.link, self._address, SIZE[index], *arguments)
         if status == REFUSED:
-            raise ValueError(made)
+            raise ValueError(url)
         checked(status)
-        return made
+        return url
 
     def covers(self, index: int, asked: int) -> Optional[bool]:
         """Whether the pattern of this index matches each URL that the pattern of the asked index
         matches, or None if it is not known."""
         return covers(calls.covers_within, self._address, SIZE[index], SIZE[asked])
-
-    def counterexample(self, index: int, asked: int) -> Optional[Dict[str, str]]:
-        """Texts that the pattern of the asked index matches and the one of this index does not, as
-        `counterexample` of URLPattern has them."""
-        both = self._address, SIZE[index], SIZE[asked]
-        return counterexample(calls.counterexample_within, *both)
-
-    def overlaps(self, index: int, other: int) -> Optional[bool]:
-        """Whether there are texts that the patterns of both indices match, or None if it is not
-        known."""
-        return overlaps(calls.overlaps_within, self._address, SIZE[index], SIZE[other])
-
-    def is_same(self, index: int, other: int) -> bool:
-        """Whether the patterns of two indices are the same, as `==` of URLPattern says."""
-        return checked(calls.is_same_within(self._address, SIZE[index], SIZE[other]))
-
-    def text(self, index: int) -> Optional[str]:
-        """The pattern of this index as one text, a constructor string, or None if it has none."""
-        status, text = written(calls.text, self._address, SIZE[index])
-        return text if checked(status) else None
 
     def component(self, index: int, name: str) -> str:
         """The pattern text of a component."""

@@ -113,13 +113,10 @@ def _declared() -> Any:
     ignores, string, init = ctypes.c_bool, [text, size, text, size], [text, size]
     reason = [text, size, ctypes.POINTER(size), ctypes.POINTER(Place)]
     matching = ("test", "mismatch", "exec", "captures", "first_captures")
-    of_init = ("exec_of_init", "captures_of_init", "first_captures_of_init")
-    writing = ("link", "generate", "group_name", "component", "text")
-    telling = ("has_regexp_groups", "has_meaning")
-    pairs = ("covers", "counterexample", "overlaps", "is_same")
-    comparing = [f"{name}_{which}" for name in pairs for which in ("within", "between")]
+    writing = ("link", "group_name", "component", "has_regexp_groups", "has_meaning")
+    comparing = ("covers_within", "covers_between")
     return SimpleNamespace(
-        **{name: _function(name) for name in (*matching, *of_init, *writing, *telling, *comparing)},
+        **{name: _function(name) for name in (*matching, *writing, *comparing)},
         add=_function("add", [handle, *string, ignores]),
         add_init=_function("add_init", [handle, *init, ignores]),
         diagnose=_function("diagnose", [*string, ignores, *reason]),

@@ -5,10 +5,10 @@ from typing import (
     Any, Dict, Iterable, List, Mapping, Optional, Sequence, Tuple, Union, cast, overload,
 )
 
-from ._handled import Patterns, counterexample, covers, overlaps
+from ._handled import Patterns, covers
 from ._library import COMPONENTS, DONE, NO_TEXT, NONE, SIZE, TOO_LONG, calls, checked
 from ._match import Match
-from ._texts import Groups, Init, Input, Source, source_of
+from ._texts import Groups, Init, Source, source_of
 
 _test = calls.test
 
@@ -103,9 +103,7 @@ class URLPattern:
     of the texts of components with a `baseURL`, where a port may be a number. With `ignore_case`
     the path, the query and the fragment are matched without regard to the case of ASCII letters.
 
-    Patterns are equal if each component has the same parts, names and options in both, however they
-    are written. `str` of a pattern is its `text`, if it has one, which does not say `ignore_case`. A
-    copy is compiled again.
+    Patterns are equal if they are made of equal texts. A copy is compiled again.
 
     >>> URLPattern("https://example.com/users/:id").test("https://example.com/users/7")
     True
@@ -113,8 +111,6 @@ class URLPattern:
     URLPattern({'protocol': 'https', 'hostname': 'example.com', 'port': '', 'pathname': '/:id'})
     >>> URLPattern({"hostname": "localhost", "port": 8080}).port
     '8080'
-    >>> URLPattern({"pathname": "/:id"}) == URLPattern({"pathname": "{/:id}"})
-    True
     """
 
     __slots__ = ("_list", "_index", "_address", "_at")
@@ -155,45 +151,22 @@ class URLPattern:
             setattr(self, name, value)
 
     def __eq__(self, other: object) -> bool:
-        if not isinstance(other, URLPattern):
-            return False
-        if self._is_of_list(other):
-            return self._list.is_same(self._index, other._index)
-        both = self._address, self._at, other._address, other._at
-        return checked(calls.is_same_between(*both))
+        return isinstance(other, URLPattern) and self._source == other._source
 
     def __hash__(self) -> int:
-        return hash(tuple(getattr(self, name) for name in COMPONENTS))
-
-    def __str__(self) -> str:
-        return self.text or repr(self)
+        pattern, base, ignore_case = self._source
+        texts = frozenset(pattern.items()) if isinstance(pattern, dict) else pattern
+        return hash((texts, base, ignore_case))
 
     def __repr__(self) -> str:
         texts = {name: getattr(self, name) for name in COMPONENTS}
-        written = {name: text for name, text in texts.items() if text != "*"}
-        return f"URLPattern({written}{', ignore_case=True' if self.ignore_case else ''})"
-
-    @property
-    def ignore_case(self) -> bool:
-        """Whether the path, the query and the fragment are matched without regard to the case of
-        ASCII letters.
-
-        >>> URLPattern({"pathname": "/a"}, ignore_case=True)
-        URLPattern({'pathname': '/a'}, ignore_case=True)
-        """
-        return self._source.ignore_case
+        return f"URLPattern({ {name: text for name, text in texts.items() if text != '*'} })"
 
     def test(
-        self,
-        url: Optional[Input] = None,
-        base: Optional[str] = None,
-        *,
-        path: Optional[str] = None,
+        self, url: Optional[str] = None, base: Optional[str] = None, *, path: Optional[str] = None
     ) -> bool:
-        """Whether the pattern matches: a URL; a text that may be relative to a base URL; a path
-        under a base URL, which begins with `/`, and has the host of the base whatever it is; or a
-        dict of the texts of components with a `baseURL`, as browsers match it: what it leaves out
-        is that of the base, or empty.
+        """Whether the pattern matches: a URL; a text that may be relative to a base URL; or a path
+        under a base URL, which begins with `/`, and has the host of the base whatever it is.
 
         >>> pattern = URLPattern("https://example.com/users/:id")
         >>> pattern.test("/users/7", "https://example.com")
@@ -202,8 +175,6 @@ class URLPattern:
         True
         >>> URLPattern("https://other.com/*").test(path="//other.com/x", base="https://example.com")
         False
-        >>> pattern.test({"pathname": "/users/7", "baseURL": "https://example.com"})
-        True
         """
         if base is not None or path is not None or not isinstance(url, str):
             return self._list.test(self._index, url, base, path=path)
@@ -212,11 +183,7 @@ class URLPattern:
         return status == DONE if status < TOO_LONG else checked(status)
 
     def match(
-        self,
-        url: Optional[Input] = None,
-        base: Optional[str] = None,
-        *,
-        path: Optional[str] = None,
+        self, url: Optional[str] = None, base: Optional[str] = None, *, path: Optional[str] = None
     ) -> Optional[Match]:
         """The match, or None.
 
@@ -239,11 +206,7 @@ class URLPattern:
         return self._list.mismatch(self._index, url, base, path=path)
 
     def exec(
-        self,
-        url: Optional[Input] = None,
-        base: Optional[str] = None,
-        *,
-        path: Optional[str] = None,
+        self, url: Optional[str] = None, base: Optional[str] = None, *, path: Optional[str] = None
     ) -> Optional[Dict[str, Any]]:
         """The match as a browser has it, or None: a dict of components, each with `input` and
         `groups`.
@@ -255,11 +218,7 @@ class URLPattern:
         return self._list.exec(self._index, url, base, path=path)
 
     def captures(
-        self,
-        url: Optional[Input] = None,
-        base: Optional[str] = None,
-        *,
-        path: Optional[str] = None,
+        self, url: Optional[str] = None, base: Optional[str] = None, *, path: Optional[str] = None
     ) -> Optional[Groups]:
         """The groups of the match, or None: a list of tuples of the component, the name, and what
         the group captured, which is None where it took no part. It has what `exec` has, in the
@@ -280,18 +239,6 @@ class URLPattern:
         """
         return self._list.link(self._index, groups)
 
-    def generate(
-        self, component: str, groups: Iterable[Tuple[str, str, Optional[str]]] = ()
-    ) -> str:
-        """The text of a component that the pattern matches with these groups, as `link` has a whole
-        URL. Groups of other components are passed over. ValueError: there is no such text, and the
-        message says why.
-
-        >>> URLPattern({"pathname": "/users/:id"}).generate("pathname", [("pathname", "id", "7")])
-        '/users/7'
-        """
-        return self._list.generate(self._index, component, groups)
-
     def covers(self, asked: URLPattern) -> Optional[bool]:
         """Whether the pattern matches each URL that the asked pattern matches, or None if it is not
         known.
@@ -299,51 +246,12 @@ class URLPattern:
         >>> URLPattern("https://example.com/*").covers(URLPattern("https://example.com/users/:id"))
         True
         """
-        if self._is_of_list(asked):
+        if not isinstance(asked, URLPattern):
+            raise TypeError(f"what is compared is a URLPattern, not {type(asked).__name__}")
+        if asked._list is self._list:
             return self._list.covers(self._index, asked._index)
         both = self._address, self._at, asked._address, asked._at
         return covers(calls.covers_between, *both)
-
-    def counterexample(self, asked: URLPattern) -> Optional[Dict[str, str]]:
-        """Texts of components that the asked pattern matches and this one does not, without those
-        that are not known; or None if there are none, or it is not known.
-
-        >>> users = URLPattern("https://example.com/users/:id")
-        >>> users.counterexample(URLPattern("https://example.com/*"))["pathname"]
-        '/'
-        """
-        if self._is_of_list(asked):
-            return self._list.counterexample(self._index, asked._index)
-        both = self._address, self._at, asked._address, asked._at
-        return counterexample(calls.counterexample_between, *both)
-
-    def overlaps(self, other: URLPattern) -> Optional[bool]:
-        """Whether there are texts that both patterns match, or None if it is not known.
-
-        >>> users = URLPattern({"pathname": "/users/:id"})
-        >>> users.overlaps(URLPattern({"pathname": "/*/7"}))
-        True
-        """
-        if self._is_of_list(other):
-            return self._list.overlaps(self._index, other._index)
-        both = self._address, self._at, other._address, other._at
-        return overlaps(calls.overlaps_between, *both)
-
-    def _is_of_list(self, other: URLPattern) -> bool:
-        """Whether the other pattern is one of the same handle."""
-        if not isinstance(other, URLPattern):
-            raise TypeError(f"what is compared is a URLPattern, not {type(other).__name__}")
-        return other._list is self._list
-
-    @property
-    def text(self) -> Optional[str]:
-        """The pattern as one text, of which URLPattern makes the same one, with the same
-        `ignore_case`; or None if it has none.
-
-        >>> URLPattern({"protocol": "https", "hostname": "example.com", "pathname": "/:id"}).text
-        'https://example.com:*/:id'
-        """
-        return self._list.text(self._index)
 
     @property
     def has_regexp_groups(self) -> bool:

@@ -14,9 +14,6 @@ from ._library import (
 # The texts of components, with a base URL if there is one.
 Init = Mapping[str, Union[str, int]]
 
-# What is matched: a URL, or an init.
-Input = Union[str, Init]
-
 # The groups of a match: of each the component, the name, and what it captured.
 Groups = List[Tuple[str, str, Optional[str]]]
 
@@ -62,14 +59,10 @@ class Source(NamedTuple):
     def texts(self) -> Tuple[Any, ...]:
         """The texts, each with the number of its bytes."""
         if isinstance(self.pattern, dict):
-            text = _json(self.pattern)
+            text = json.dumps(self.pattern, ensure_ascii=False).encode()
             return text, len(text)
         text, base = self.pattern.encode(), (self.base or "").encode()
         return text, len(text), base, len(base)
-
-
-def _json(init: Dict[str, str]) -> bytes:
-    return json.dumps(init, ensure_ascii=False).encode()
 
 
 def encoded(text: Any, name: str, kind: str = "a str") -> bytes:
@@ -116,15 +109,7 @@ def _init(given: Init) -> Dict[str, str]:
     return texts
 
 
-def init_text(init: Any, base: Optional[str], path: Optional[str]) -> Tuple[Any, ...]:
-    """A dict that is matched, with the number of its bytes, as arguments."""
-    if base is not None or path is not None:
-        raise TypeError("the base URL of a dict is its `baseURL`, and its path its `pathname`")
-    text = _json(_init(init))
-    return text, SIZE[len(text)]
-
-
-def url_texts(url: Any, base: Optional[str], path: Optional[str]) -> Tuple[Any, ...]:
+def url_texts(url: Optional[str], base: Optional[str], path: Optional[str]) -> Tuple[Any, ...]:
     """A URL and its base, each with the number of its bytes, as arguments."""
     if path is not None:
         url = _within(url, base, path)
@@ -135,7 +120,7 @@ def url_texts(url: Any, base: Optional[str], path: Optional[str]) -> Tuple[Any, 
     return text, SIZE[len(text)], base_text, SIZE[len(base_text)]
 
 
-def _within(url: Any, base: Optional[str], path: str) -> str:
+def _within(url: Optional[str], base: Optional[str], path: str) -> str:
     """A path as a text that has the host of its base. No host begins at `/.`, as one does at `//`,
     and the URL is without this segment."""
     if url is not None or base is None:

@@ -189,11 +189,7 @@ fn linked(list: &UrlPatternList, words: &[&str]) -> bool {
             )
         })
         .collect();
-    let made = match words.get(5) {
-        Some(of) => list.generate(0, ComponentName::ALL[of.parse::<usize>().unwrap()], &given),
-        None => list.link(0, &given),
-    };
-    match made {
+    match list.link(0, &given) {
         Ok(url) => words[1] == DONE && url == text(words.get(4)),
         Err(error) => {
             words[1] == REFUSED && matches!(error, Error::NoLink(reason) if !reason.is_empty())
@@ -201,58 +197,7 @@ fn linked(list: &UrlPatternList, words: &[&str]) -> bool {
     }
 }
 
-/// Whether the match of an init is the one of the line. `None`: this crate cannot ask it.
-fn matched(list: &UrlPatternList, words: &[&str]) -> Option<bool> {
-    let init = init(&text(words.get(2)))?;
-    let (found, captured) = (list.exec_of_init(0, &init), list.captures_of_init(0, &init));
-    Some(
-        status(&found) == words[1]
-            && status(&captured) == words[1]
-            && !matches!(&found, Ok(Some(it)) if json(it) != text(words.get(3)))
-            && !matches!(&captured, Ok(Some(it)) if groups(it) != wanted(words.get(4))),
-    )
-}
-
-/// The groups that a line wants.
-fn wanted(word: Option<&&str>) -> Vec<String> {
-    let text = text(word);
-    let mut all: Vec<_> = text
-        .split(['\u{1}', '\u{3}'])
-        .filter(|it| !it.is_empty())
-        .map(str::to_owned)
-        .collect();
-    all.sort();
-    all
-}
-
-/// Whether the pattern has the text of the line, and the pattern of the text is the same.
-fn is_whole(list: &UrlPatternList, words: &[&str]) -> bool {
-    let found = list.to_constructor_string(0);
-    let Ok(Some(whole)) = &found else {
-        return status(&found) == words[1];
-    };
-    let (mut again, ignore_case) = (UrlPatternList::new(), words[2] == "1");
-    again
-        .push(whole, None, UrlPatternOptions { ignore_case })
-        .unwrap();
-    words[1] == DONE
-        && *whole == text(words.get(3))
-        && list.is_same(0, &again, 0) == Ok(true)
-        && list.is_same(0, list, 0) == Ok(true)
-}
-
 fn covered(list: &UrlPatternList, other: &UrlPatternList, words: &[&str]) -> bool {
-    let overlaps = match words[3] {
-        UNKNOWN => None,
-        status => Some(status == DONE),
-    };
-    if list.overlaps(0, other, 0) != Ok(overlaps) || list.overlaps(0, list, 1) != Ok(overlaps) {
-        return false;
-    }
-    let shown = list.counterexample(0, other, 0).unwrap().is_some();
-    if shown != (words[1] == NO_MATCH) {
-        return false;
-    }
     [list.covers_of(0, other, 0), list.covers(0, 1)]
         .into_iter()
         .all(|found| {
@@ -273,8 +218,7 @@ fn main() {
         let words: Vec<&str> = line.split(' ').collect();
         // The third word of a link is a list of numbers.
         let (url, base) = match words[0] {
-            "link" | "generate" | "whole" => (String::new(), String::new()),
-            "first_init" => (text(words.get(2)), String::new()),
+            "link" => (String::new(), String::new()),
             _ => (text(words.get(2)), text(words.get(3))),
         };
         let base = Some(base.as_str()).filter(|base| !base.is_empty());
@@ -308,17 +252,16 @@ fn main() {
             }
             "groups" => {
                 let found = list.captures(0, &url, base);
+                let mut wanted: Vec<_> = text(words.get(4))
+                    .split(['\u{1}', '\u{3}'])
+                    .filter(|it| !it.is_empty())
+                    .map(str::to_owned)
+                    .collect();
+                wanted.sort();
                 status(&found) == words[1]
-                    && !matches!(&found, Ok(Some(it)) if groups(it) != wanted(words.get(4)))
+                    && !matches!(&found, Ok(Some(it)) if groups(it) != wanted)
             }
-            "match_init" => matched(&list, &words).unwrap_or(true),
-            "first_init" => init(&url).map_or(true, |init| {
-                let found = list.first_captures_of_init(&init);
-                status(&found) == words[1]
-                    && !matches!(&found, Ok(Some(it)) if it.index.to_string() != words[3])
-            }),
-            "whole" => is_whole(&list, &words),
-            "link" | "generate" => linked(&list, &words),
+            "link" => linked(&list, &words),
             "text" => {
                 list.component(0, ComponentName::ALL[words[1].parse::<usize>().unwrap()]) == Ok(url)
             }

@@ -80,24 +80,13 @@ extern "C" {
     pub fn urlpattern_first_captures_of_path(list: *mut List, path: *const u8, length: usize, index: *mut usize, buffer: *mut u8, room: usize, spans: *mut Span, span_room: usize, needed: *mut Sizes) -> u32;
     pub fn urlpattern_captures_of_texts(list: *mut List, index: usize, text: *const u8, length: usize, parts: *const Parts, buffer: *mut u8, room: usize, spans: *mut Span, span_room: usize, needed: *mut Sizes) -> u32;
     pub fn urlpattern_first_captures_of_texts(list: *mut List, text: *const u8, length: usize, parts: *const Parts, index: *mut usize, buffer: *mut u8, room: usize, spans: *mut Span, span_room: usize, needed: *mut Sizes) -> u32;
-    pub fn urlpattern_captures_of_init(list: *mut List, index: usize, json: *const u8, length: usize, buffer: *mut u8, room: usize, spans: *mut Span, span_room: usize, needed: *mut Sizes) -> u32;
-    pub fn urlpattern_first_captures_of_init(list: *mut List, json: *const u8, length: usize, index: *mut usize, buffer: *mut u8, room: usize, spans: *mut Span, span_room: usize, needed: *mut Sizes) -> u32;
-    pub fn urlpattern_exec_of_init(list: *mut List, index: usize, json: *const u8, length: usize, buffer: *mut u8, room: usize, needed: *mut usize) -> u32;
     pub fn urlpattern_link(list: *mut List, index: usize, text: *const u8, length: usize, given: *const Given, count: usize, buffer: *mut u8, room: usize, needed: *mut usize) -> u32;
-    pub fn urlpattern_generate(list: *mut List, index: usize, component: u32, text: *const u8, length: usize, given: *const Given, count: usize, buffer: *mut u8, room: usize, needed: *mut usize) -> u32;
     pub fn urlpattern_group_name(list: *mut List, index: usize, component: u32, group: usize, buffer: *mut u8, room: usize, needed: *mut usize) -> u32;
     pub fn urlpattern_component(list: *mut List, index: usize, component: u32, buffer: *mut u8, room: usize, needed: *mut usize) -> u32;
-    pub fn urlpattern_text(list: *mut List, index: usize, buffer: *mut u8, room: usize, needed: *mut usize) -> u32;
-    pub fn urlpattern_is_same_within(list: *mut List, index: usize, other: usize) -> u32;
-    pub fn urlpattern_is_same_between(list: *mut List, index: usize, others: *mut List, other: usize) -> u32;
     pub fn urlpattern_has_regexp_groups(list: *mut List, index: usize) -> u32;
     pub fn urlpattern_has_meaning(list: *mut List, index: usize) -> u32;
     pub fn urlpattern_covers_within(list: *mut List, index: usize, asked: usize, component: *mut u32) -> u32;
     pub fn urlpattern_covers_between(list: *mut List, index: usize, others: *mut List, asked: usize, component: *mut u32) -> u32;
-    pub fn urlpattern_counterexample_within(list: *mut List, index: usize, asked: usize, buffer: *mut u8, room: usize, needed: *mut usize) -> u32;
-    pub fn urlpattern_counterexample_between(list: *mut List, index: usize, others: *mut List, asked: usize, buffer: *mut u8, room: usize, needed: *mut usize) -> u32;
-    pub fn urlpattern_overlaps_within(list: *mut List, index: usize, other: usize, buffer: *mut u8, room: usize, needed: *mut usize) -> u32;
-    pub fn urlpattern_overlaps_between(list: *mut List, index: usize, others: *mut List, other: usize, buffer: *mut u8, room: usize, needed: *mut usize) -> u32;
     pub fn urlpattern_diagnose(text: *const u8, length: usize, base: *const u8, base_length: usize, ignore_case: bool, buffer: *mut u8, room: usize, needed: *mut usize, place: *mut Place) -> u32;
     pub fn urlpattern_diagnose_init(json: *const u8, length: usize, ignore_case: bool, buffer: *mut u8, room: usize, needed: *mut usize, place: *mut Place) -> u32;
 }

@@ -71,25 +71,6 @@ pub(crate) fn joined(texts: &[&str; 8]) -> (String, c::Parts) {
     (all, parts)
 }
 
-/// Names and texts of groups as one text, and where each of them lies.
-pub(crate) fn given(groups: &[(ComponentName, &str, &str)]) -> (String, Vec<c::Given>) {
-    let (mut text, mut given) = (String::new(), Vec::new());
-    for &(component, name, value) in groups {
-        let (name_start, start) = (text.len(), text.len() + name.len());
-        let (name_length, length) = (name.len(), value.len());
-        given.push(c::Given {
-            component: component as u32,
-            name_start,
-            name_length,
-            start,
-            length,
-        });
-        text.push_str(name);
-        text.push_str(value);
-    }
-    (text, given)
-}
-
 /// Calls what writes a text, with as much room as it needs. The text is empty if none is written.
 pub(crate) fn written(call: impl Fn(*mut u8, usize, *mut usize) -> u32) -> (u32, String) {
     let (mut buffer, mut needed, mut status) = (Vec::new(), ROOM, c::TOO_SMALL);

@@ -31,7 +31,7 @@ pub enum Error {
     },
     /// The base URL of an init is refused.
     RefusedBase,
-    /// The pattern has no URL, or the component no text, with the given groups, for this reason.
+    /// The pattern has no URL with the given groups, for this reason.
     NoLink(String),
     /// A text is no URL, or its base is none.
     NoUrl,

@@ -30,8 +30,6 @@ mod calls;
 mod error;
 mod init;
 mod list;
-mod list_inits;
-mod list_pairs;
 mod pattern;
 mod result;
 

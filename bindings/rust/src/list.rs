@@ -1,5 +1,5 @@
 //! Lists of patterns.
-use crate::calls::{covering, given, joined, pushed, written};
+use crate::calls::{covering, joined, pushed, written};
 use crate::error::answer;
 use crate::{
     c, Captures, ComponentName, Error, UrlPatternInit, UrlPatternOptions, UrlPatternResult,
@@ -310,7 +310,20 @@ impl UrlPatternList {
         index: usize,
         groups: &[(ComponentName, &str, &str)],
     ) -> Result<String, Error> {
-        let (text, given) = given(groups);
+        let (mut text, mut given) = (String::new(), Vec::new());
+        for &(component, name, value) in groups {
+            let (name_start, start) = (text.len(), text.len() + name.len());
+            let (name_length, length) = (name.len(), value.len());
+            given.push(c::Given {
+                component: component as u32,
+                name_start,
+                name_length,
+                start,
+                length,
+            });
+            text.push_str(name);
+            text.push_str(value);
+        }
         let (status, url) = written(|buffer, room, needed| unsafe {
             c::urlpattern_link(
                 self.at(),

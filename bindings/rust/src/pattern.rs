@@ -66,16 +66,6 @@ impl UrlPattern {
         self.list.captures_of_path(0, path)
     }
 
-    /// What the groups capture of an init, with what it inherits from its base URL.
-    pub fn captures_of_init(&self, init: &UrlPatternInit) -> Result<Option<Captures>, Error> {
-        self.list.captures_of_init(0, init)
-    }
-
-    /// The match of an init, as a browser has it.
-    pub fn exec_of_init(&self, init: &UrlPatternInit) -> Result<Option<UrlPatternResult>, Error> {
-        self.list.exec_of_init(0, init)
-    }
-
     /// The first component that does not match a URL.
     pub fn mismatch(&self, url: &str, base: Option<&str>) -> Result<Option<ComponentName>, Error> {
         self.list.mismatch(0, url, base)
@@ -86,40 +76,9 @@ impl UrlPattern {
         self.list.link(0, groups)
     }
 
-    /// The text of a component with these groups, as `link` has a whole URL.
-    pub fn generate(
-        &self,
-        component: ComponentName,
-        groups: &[(ComponentName, &str, &str)],
-    ) -> Result<String, Error> {
-        self.list.generate(0, component, groups)
-    }
-
     /// Whether the pattern matches each URL that the asked one matches.
     pub fn covers(&self, asked: &UrlPattern) -> Result<Covering, Error> {
         self.list.covers_of(0, &asked.list, 0)
-    }
-
-    /// The pattern as one text, a constructor string of which the same one is compiled. `None`: it
-    /// has none.
-    pub fn to_constructor_string(&self) -> Result<Option<String>, Error> {
-        self.list.to_constructor_string(0)
-    }
-
-    /// Whether both patterns have the same parts, names and options.
-    pub fn is_same(&self, other: &UrlPattern) -> Result<bool, Error> {
-        self.list.is_same(0, &other.list, 0)
-    }
-
-    /// Texts that the asked pattern matches and this one does not: an init without those that are
-    /// not known. `None`: there are none, or it is not known.
-    pub fn counterexample(&self, asked: &UrlPattern) -> Result<Option<UrlPatternInit>, Error> {
-        self.list.counterexample(0, &asked.list, 0)
-    }
-
-    /// Whether there are texts that both patterns match. `None`: it is not known.
-    pub fn overlaps(&self, other: &UrlPattern) -> Result<Option<bool>, Error> {
-        self.list.overlaps(0, &other.list, 0)
     }
 
     /// The pattern text of a component.

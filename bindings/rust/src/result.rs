@@ -1,5 +1,5 @@
 //! Matches, as a browser has them, and as spans of one text.
-use crate::{ComponentName, UrlPatternInit};
+use crate::ComponentName;
 use std::collections::BTreeMap;
 
 /// The match of a component: its text, and what each group captured, or `None` if the group took no
@@ -58,29 +58,6 @@ impl UrlPatternResult {
             })
         })?;
         Some(result)
-    }
-}
-
-impl UrlPatternInit {
-    /// The init that the library writes as JSON.
-    pub(crate) fn from_json(json: &str) -> Option<Self> {
-        let mut init = Self::default();
-        Reader { rest: json }.members(|reader, name| {
-            let text = Some(reader.text()?);
-            match name.as_str() {
-                "protocol" => init.protocol = text,
-                "username" => init.username = text,
-                "password" => init.password = text,
-                "hostname" => init.hostname = text,
-                "port" => init.port = text,
-                "pathname" => init.pathname = text,
-                "search" => init.search = text,
-                "hash" => init.hash = text,
-                _ => return None,
-            }
-            Some(())
-        })?;
-        Some(init)
     }
 }
 

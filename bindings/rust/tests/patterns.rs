@@ -104,53 +104,6 @@ fn a_path_has_no_host() {
 }
 
 #[test]
-fn an_init_is_matched() {
-    let users = pattern("https://example.com/users/:id");
-    let init = UrlPatternInit {
-        pathname: Some("users/7".to_owned()),
-        base_url: Some("https://example.com/x".to_owned()),
-        ..Default::default()
-    };
-    let found = users.captures_of_init(&init).unwrap().unwrap();
-    assert_eq!(found.get(ComponentName::Pathname, "id"), Some("7"));
-    let found = users.exec_of_init(&init).unwrap().unwrap();
-    assert_eq!(found.pathname.input, "/users/7");
-    let found = routes().first_captures_of_init(&init).unwrap().unwrap();
-    assert_eq!(found.index, 0);
-    let empty = UrlPatternInit::default();
-    assert_eq!(users.captures_of_init(&empty), Ok(None));
-    assert_eq!(users.exec_of_init(&empty), Ok(None));
-    let no_url = UrlPatternInit {
-        base_url: Some("no URL".to_owned()),
-        ..Default::default()
-    };
-    assert_eq!(users.captures_of_init(&no_url), Err(Error::NoUrl));
-}
-
-#[test]
-fn one_text_and_the_same_pattern() {
-    let base = Some("https://example.com/users/:id");
-    let users = pattern("https://example.com/users/:id");
-    let text = users.to_constructor_string().unwrap();
-    assert_eq!(text.as_deref(), base);
-    let again =
-        UrlPattern::from_constructor_string("/users/:id", Some("https://example.com"), PLAIN);
-    assert_eq!(users.is_same(&again.unwrap()), Ok(true));
-    assert_eq!(users.is_same(&users), Ok(true));
-    assert_eq!(
-        users.is_same(&pattern("https://example.com/users/:it")),
-        Ok(false)
-    );
-    let init = UrlPatternInit {
-        pathname: Some("a*".to_owned()),
-        ..Default::default()
-    };
-    let none = UrlPattern::parse(&init, PLAIN).unwrap();
-    assert_eq!(none.to_constructor_string(), Ok(None));
-    assert_eq!(routes().is_same(3, &routes(), 0), Err(Error::NoPattern));
-}
-
-#[test]
 fn eight_texts_are_matched_as_they_are() {
     let mut texts = ["https", "", "", "example.com", "", "/users/é", "", ""];
     let found = routes().first_captures_of_texts(&texts).unwrap().unwrap();
@@ -218,11 +171,6 @@ fn links_and_coverings() {
         Ok("https://example.com/users/a%20b")
     );
     assert!(matches!(users.link(&[]), Err(Error::NoLink(reason)) if reason.contains("id")));
-    let id = [(ComponentName::Pathname, "id", "7")];
-    let path = users.generate(ComponentName::Pathname, &id);
-    assert_eq!(path.as_deref(), Ok("/users/7"));
-    let none = users.generate(ComponentName::Pathname, &[]);
-    assert!(matches!(none, Err(Error::NoLink(reason)) if reason.contains("id")));
     let all = pattern("https://example.com/*");
     assert_eq!(all.covers(&users), Ok(Covering::Covered));
     assert_eq!(
@@ -230,16 +178,6 @@ fn links_and_coverings() {
         Ok(Covering::NotCovered(ComponentName::Pathname))
     );
     assert_eq!(users.covers(&users), Ok(Covering::Covered));
-    let texts = users.counterexample(&all).unwrap().unwrap();
-    assert_eq!(texts.hostname.as_deref(), Some("example.com"));
-    assert_eq!(texts.pathname.as_deref(), Some("/"));
-    assert_eq!(all.counterexample(&users), Ok(None));
-    assert_eq!(users.overlaps(&all), Ok(Some(true)));
-    let list = routes();
-    assert_eq!(list.overlaps(0, &list, 1), Ok(None));
-    assert_eq!(list.counterexample(2, &list, 0), Ok(None));
-    let about = pattern("https://example.com/about");
-    assert_eq!(users.overlaps(&about), Ok(Some(false)));
     assert_eq!(
         routes().covers(1, 2),
         Ok(Covering::Unknown(Some(ComponentName::Pathname)))

@@ -17,7 +17,7 @@ pub fn is_same(case: &Case<'_>) -> Result<bool, Fault> {
     let Answer::Ok(recorded) = case.answer else {
         return Ok(false);
     };
-    let policy = policy(case.alloc, case.question)?;
+    let policy = policy_of(case.alloc, case.question)?;
     let base = base(case.alloc, case.question)?;
     for pair in list(recorded, "decisions")? {
         let decision = policy.decide(case.alloc, text(pair, "of")?, base.as_ref());
@@ -31,8 +31,8 @@ pub fn is_same(case: &Case<'_>) -> Result<bool, Fault> {
     Ok(true)
 }
 
-/// The policy of a question.
-fn policy(alloc: Global, question: &Value) -> Result<UrlPolicy<PatternRegexp>, Fault> {
+/// The policy that an object describes.
+pub fn policy_of(alloc: Global, question: &Value) -> Result<UrlPolicy<PatternRegexp>, Fault> {
     let mut policy = UrlPolicy::new(alloc);
     policy.options.plain_spelling = !is_set(question, "as_spelled");
     policy.options.denies_credentials = is_set(question, "denies_credentials");

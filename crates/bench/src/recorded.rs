@@ -94,14 +94,18 @@ pub enum Operation {
     Covers,
     /// Finds the patterns of a list that an earlier one covers.
     Unreachable,
-    /// Finds the pairs of patterns of a list that contend.
-    Contending,
     /// Finds texts that some patterns match, and others do not.
     Common,
     /// Finds the patterns of a list that cover another one together.
     Together,
     /// Decides about texts by a policy.
     Decide,
+    /// Compares two policies.
+    Difference,
+    /// Finds what a policy allows and a pattern does not match.
+    Within,
+    /// Finds the rules of a policy that never decide.
+    Dead,
     /// Decides which components of a pattern have a meaning.
     Meaning,
     /// Writes a plain value as JSON that was parsed from JSON.
@@ -134,10 +138,12 @@ pub const OPERATIONS: &[(&str, Operation)] = &[
     ("compare", Operation::Compare),
     ("covers", Operation::Covers),
     ("unreachable", Operation::Unreachable),
-    ("contending", Operation::Contending),
     ("common", Operation::Common),
     ("together", Operation::Together),
     ("decide", Operation::Decide),
+    ("difference", Operation::Difference),
+    ("within", Operation::Within),
+    ("dead", Operation::Dead),
     ("meaning", Operation::Meaning),
     ("json", Operation::Json),
     ("equal", Operation::Equal),

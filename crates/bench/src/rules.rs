@@ -94,7 +94,7 @@ pub fn is_same_meaning(case: &Case<'_>) -> Result<bool, Fault> {
 }
 
 /// The list of patterns.
-pub fn listed(alloc: Global, given: &[Value]) -> Result<UrlPatternList<PatternRegexp>, Fault> {
+fn listed(alloc: Global, given: &[Value]) -> Result<UrlPatternList<PatternRegexp>, Fault> {
     let mut patterns = UrlPatternList::new(alloc);
     for fields in given {
         made(patterns.try_push(pattern(alloc, fields)?))?;
@@ -103,7 +103,7 @@ pub fn listed(alloc: Global, given: &[Value]) -> Result<UrlPatternList<PatternRe
 }
 
 /// The map of patterns, each with its index.
-pub fn mapped(alloc: Global, given: &[Value]) -> Result<UrlPatternMap<usize, PatternRegexp>, Fault> {
+fn mapped(alloc: Global, given: &[Value]) -> Result<UrlPatternMap<usize, PatternRegexp>, Fault> {
     let mut patterns = UrlPatternMap::new(alloc);
     for (index, fields) in given.iter().enumerate() {
         made(patterns.try_insert(pattern(alloc, fields)?, index))?;

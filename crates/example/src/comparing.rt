@@ -1,15 +1,11 @@
-//! Comparing: whether a pattern covers another, whether two have a URL in common, which rule of a
-//! list is dead, and what a change of a rule lets in. A pattern as one text, and a hash of its
-//! parts.
+//! Comparing: whether a pattern covers another, and whether two have a URL in common. A pattern as
+//! one text, and a hash of its parts.
 
-use crate::{parts, pattern, text};
+use crate::pattern;
 use std::alloc::Global;
 use std::hash::{DefaultHasher, Hasher};
-use urlpattern::rules::{
-    Common, PatternAutomata, PatternCovering, PatternOverlap, PatternParts, Reach, USUAL_LIMITS,
-    find_common,
-};
-use urlpattern::{Error, UrlPatternList};
+use urlpattern::Error;
+use urlpattern::rules::{PatternCovering, PatternOverlap, PatternParts};
 
 /// Whether a pattern covers another, in words; if not, with a text of a component that only the
 /// other matches.
@@ -54,38 +50,6 @@ pub fn overlaps_line(alloc: Global) -> Result<String, Error> {
             None => Ok(format!(in alloc; "common, with the same parts")?),
         },
         PatternOverlap::Unknown(component, _) => Ok(format!(in alloc; "unknown: {component}")?),
-    }
-    // docs: end
-}
-
-/// Whether the last rule of a list is the first match of some URL, in words.
-pub fn reach_line(alloc: Global) -> Result<String, Error> {
-    // docs: reach
-    let mut rules = UrlPatternList::new(alloc);
-    rules.try_push(pattern(alloc, "https://example.com/users/*")?)?;
-    rules.try_push(pattern(alloc, "https://example.com/users/:id")?)?;
-    let Ok(reach) = rules.reach_of_each(alloc, USUAL_LIMITS) else {
-        return Err(Error::OutOfMemory);
-    };
-    // docs: end
-    // docs: reached
-    match reach.last() {
-        Some(Reach::Never(earlier)) => Ok(format!(in alloc; "dead, by the rules {earlier:?}")?),
-        Some(Reach::First(texts)) => Ok(format!(in alloc; "first for {}", texts.pathname)?),
-        _ => text(alloc, "not known"),
-    }
-    // docs: end
-}
-
-/// A path that a rule matches after a change, and did not match before, in words.
-pub fn change_line(alloc: Global) -> Result<String, Error> {
-    // docs: change
-    let before = PatternAutomata::new(alloc, parts(alloc, "https://example.com/users/:id")?)?;
-    let after = PatternAutomata::new(alloc, parts(alloc, "https://example.com/users/*")?)?;
-    match find_common(alloc, &[&after], &[&before], USUAL_LIMITS)? {
-        Common::Texts(texts) => Ok(format!(in alloc; "lets in {}", texts.pathname)?),
-        Common::Nothing => text(alloc, "lets in nothing new"),
-        Common::Unknown(_) => text(alloc, "not known"),
     }
     // docs: end
 }

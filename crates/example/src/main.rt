@@ -2,15 +2,14 @@
 //! router for paths alone, a router with values, a permission check, a store of permissions, rules
 //! for a cache, a pattern that is printed and read again, and users, orders and pages of
 //! documentation by their URLs. And small uses of each call, without contracts: matching,
-//! comparing, generating, diagnosing, components by themselves, the responses of a server, cache
-//! keys, a policy, and calls for browsers.
+//! comparing, generating, diagnosing, components by themselves, the responses of a server, and
+//! calls for browsers.
 #![tactic(auto)]
 
 ghost use Rattle.std.specs.Prelude.{◌≡◌, ◌+◌, length, OnOk};
 
 mod browser;
 mod cache;
-mod cache_keys;
 mod comparing;
 mod components;
 mod diagnosing;
@@ -21,7 +20,6 @@ mod matching;
 mod orders;
 mod path;
 mod permission;
-mod policy;
 mod printed;
 mod router;
 mod routes;
@@ -229,11 +227,9 @@ fn printed_line(alloc: Global) -> Result<String, Error> {
 }
 
 /// A copy of a text.
-// docs: text
 fn text(alloc: Global, words: &str) -> Result<String, Error> {
     Ok(String::from_str(alloc, words)?)
 }
-// docs: end
 
 /// Appends a pattern.
 fn add(patterns: &mut UrlPatternList<PatternRegexp>, pattern: Pattern) -> Result<(), Error>
@@ -268,18 +264,9 @@ fn lines(alloc: Global, url: &str) -> Result<String, Error> {
     Ok(format!(in alloc; "{url}: {user}, {page}, {permission}, {cached}")?)
 }
 
-/// Writes the lines about URLs, permissions, links and parts that were printed.
-fn urls<W: Write>(alloc: Global, out: &mut W) -> io::Result<()> {
-    for url in ["https://example.com/users/123", "https://example.com/about"] {
-        write_line(out, lines(alloc, url))?;
-    }
-    for asked in ["https://cdn.example.com/:file", "https://example.com/*"] {
-        write_line(out, grants_line(alloc, asked))?;
-    }
-    for id in ["a b", "a/b"] {
-        write_line(out, link_line(alloc, id))?;
-    }
-    write_line(out, printed_line(alloc))?;
+/// Writes the lines about custom expressions, and those of the modules that show small uses of the
+/// calls.
+fn calls<W: Write>(alloc: Global, out: &mut W) -> io::Result<()> {
     for url in [
         "https://example.com/orders/17",
         "https://example.com/orders/x",
@@ -288,41 +275,19 @@ fn urls<W: Write>(alloc: Global, out: &mut W) -> io::Result<()> {
     ] {
         write_line(out, custom_line(alloc, url))?;
     }
-    Ok(())
-}
-
-/// Writes the lines about users, and those of the modules that show small uses of the calls.
-fn calls<W: Write>(alloc: Global, out: &mut W) -> io::Result<()> {
-    urls(alloc, out)?;
     write_line(out, matching::test_line(alloc))?;
     write_line(out, matching::exec_line(alloc))?;
     write_line(out, matching::groups_line(alloc))?;
-    for url in [
-        "http://www.example.com/about",
-        "https://example.com:8080/about",
-        "https://example.com:81/about",
-    ] {
-        write_line(out, matching::hosts_line(alloc, url))?;
-    }
     write_line(out, matching::mismatch_line(alloc))?;
     write_line(out, matching::matches_line(alloc))?;
     write_line(out, matching::entry_line(alloc))?;
     write_line(out, comparing::covers_line(alloc))?;
     write_line(out, comparing::overlaps_line(alloc))?;
-    write_line(out, comparing::reach_line(alloc))?;
-    write_line(out, comparing::change_line(alloc))?;
     write_line(out, comparing::text_line(alloc))?;
     write_line(out, comparing::hash_line(alloc))?;
-    texts(alloc, out)?;
-    servers(alloc, out)
-}
-
-/// Writes the lines about texts of components, diagnoses, components by themselves, and browsers.
-fn texts<W: Write>(alloc: Global, out: &mut W) -> io::Result<()> {
     for id in ["a b", ""] {
         write_line(out, generating::generate_line(alloc, id))?;
     }
-    write_line(out, generating::search_line(alloc, "a&b=c"))?;
     for pattern in ["https://example.com/:id", "https://example.com/:id/:id"] {
         write_line(out, diagnosing::diagnosis_line(alloc, pattern))?;
     }
@@ -332,42 +297,16 @@ fn texts<W: Write>(alloc: Global, out: &mut W) -> io::Result<()> {
     write_line(out, components::path_line(alloc))?;
     write_line(out, components::matcher_line(alloc))?;
     write_line(out, components::canonical_line(alloc))?;
-    write_line(out, browser::plain_line(alloc))?;
-    write_line(out, browser::texts_line(alloc))?;
-    write_line(out, browser::init_line(alloc))
-}
-
-/// Writes the lines about the responses of a server, its redirects, its cache, and its policy.
-fn servers<W: Write>(alloc: Global, out: &mut W) -> io::Result<()> {
     for (method, path) in [
-        ("HEAD", "/users/a%20b"),
+        ("HEAD", "/users/123"),
         ("POST", "/users/123"),
         ("GET", "/files"),
     ] {
         write_line(out, server::response_line(alloc, method, path))?;
     }
-    write_line(out, server::link_line(alloc, "123"))?;
-    for url in [
-        "https://example.com/blog/hello?page=2",
-        "https://example.com/about",
-    ] {
-        write_line(out, generating::redirect_line(alloc, url))?;
-    }
-    for url in [
-        "https://example.com/docs/start?page=2&lang=fr&ref=mail",
-        "https://example.com/docs/start?page=2",
-    ] {
-        write_line(out, cache_keys::key_line(alloc, url))?;
-    }
-    for asked in [
-        "https://api.example.com/users",
-        "https://api.example.com/%69nternal/keys",
-        "https://user@api.example.com/",
-        "//api.example.com/",
-    ] {
-        write_line(out, policy::decision_line(alloc, asked))?;
-    }
-    Ok(())
+    write_line(out, browser::plain_line(alloc))?;
+    write_line(out, browser::texts_line(alloc))?;
+    write_line(out, browser::init_line(alloc))
 }
 
 /// A line about a URL, by patterns with custom expressions: its order, and its language.
@@ -381,7 +320,17 @@ fn custom_line(alloc: Global, url: &str) -> Result<String, Error> {
 // docs: main
 fn main(rt: HostRuntime) -> io::Result<()> {
     let mut out = rt.stdout();
+    for url in ["https://example.com/users/123", "https://example.com/about"] {
+        write_line(&mut out, lines(rt.alloc(), url))?;
+    }
+    for asked in ["https://cdn.example.com/:file", "https://example.com/*"] {
+        write_line(&mut out, grants_line(rt.alloc(), asked))?;
+    }
+    for id in ["a b", "a/b"] {
+        write_line(&mut out, link_line(rt.alloc(), id))?;
+    }
     write_line(&mut out, path_line(rt.alloc(), "/users/123"))?;
+    write_line(&mut out, printed_line(rt.alloc()))?;
     calls(rt.alloc(), &mut out)
 }
 // docs: end

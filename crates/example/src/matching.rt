@@ -76,20 +76,6 @@ pub fn mismatch_line(alloc: Global) -> Result<String, Error> {
     Ok(format!(in alloc; "{component:?}, {of_texts:?}")?)
 }
 
-/// The host and the port that a pattern of several hosts and ports captures, in words.
-pub fn hosts_line(alloc: Global, url: &str) -> Result<String, Error> {
-    // docs: hosts
-    let pages = pattern(alloc, "http{s}?://{:sub.}?example.com::port(8080)?/:page")?;
-    let url = Url::parse(alloc, url)?;
-    // docs: end
-    let Some(found) = pages.captures(alloc, &url)? else {
-        return text(alloc, "another host or port");
-    };
-    let sub = found.get(ComponentName::Hostname, "sub");
-    let port = found.get(ComponentName::Port, "port");
-    Ok(format!(in alloc; "below {sub:?}, port {port:?}")?)
-}
-
 /// The index of the first pattern of a list that matches a URL, and the path of the URL, in words.
 pub fn matches_line(alloc: Global) -> Result<String, Error> {
     let mut patterns = UrlPatternList::new(alloc);

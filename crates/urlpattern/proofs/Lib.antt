@@ -9,8 +9,5 @@ pub mod NextLemmas
 pub mod PatternMapLemmas
 pub mod MapFinding
 pub mod RouteLemmas
-pub mod RouteExamples
-pub mod RouteReachLemmas
 pub mod ListedParts
 pub mod ReachedLaws
-pub mod ContentionLemmas

@@ -46,7 +46,7 @@ copy_made engine parts others view equal made name =
       has_engine = (made name).has_engine;
     }
 
-pub zip_push : {A B : Type 0} (R : A → B → Type 0) (xs : List A) (ys : List B) (x : A) (y : B) → AllZip R xs ys → R x y → AllZip R (xs ++ x ∷ []) (ys ++ y ∷ [])
+zip_push : {A B : Type 0} (R : A → B → Type 0) (xs : List A) (ys : List B) (x : A) (y : B) → AllZip R xs ys → R x y → AllZip R (xs ++ x ∷ []) (ys ++ y ∷ [])
 zip_push R [] [] x y all last = (last, tt)
 zip_push R [] (other ∷ ys) x y all last = absurd all
 zip_push R (other ∷ xs) [] x y all last = absurd all
@@ -58,19 +58,13 @@ all_automata engine [] (it ∷ all) have = absurd have
 all_automata engine (pattern ∷ patterns) [] have = absurd have
 all_automata engine (pattern ∷ patterns) (it ∷ all) have = All-cons AreAutomata it all have.0.are_automata (all_automata engine patterns all have.1)
 
--- The automata of a pattern with these parts.
-pub appended_automata : {E : Type 0} (engine : Engine E) (pattern : UrlPattern E) (old new : List PatternAutomata) (parts : PatternParts) → pattern.parts ≡ Some parts → HasOwnParts engine pattern
-    → AreAppended parts old new → (one : PatternAutomata) × (new ≡ old ++ one ∷ []) × HasAutomata engine pattern one
-appended_automata engine pattern old new parts has own (one, grown, automata, equal) =
-    let made : AreMadeOfParts engine parts (pattern_view pattern) = subst (λ found. IfSome found (λ them. AreMadeOfParts engine them (pattern_view pattern))) has own in
-    (one, grown, record { are_automata = automata; made = copy_made engine parts one.parts (pattern_view pattern) equal made })
-
 module _ {E : Type 0} (engine : Engine E) (patterns : List (UrlPattern E)) (i : ℕ) (pattern : UrlPattern E) (within : i < length patterns) (is : pattern ≡ get_or patterns i pattern) where
   -- The automata of a pattern are appended.
   pub automata_more : (old new : List PatternAutomata) (parts : PatternParts) → pattern.parts ≡ Some parts → HasOwnParts engine pattern → AreAppended parts old new
       → HaveAllAutomata engine (take i patterns) old → HaveAllAutomata engine (take (i + 1) patterns) new
-  automata_more old new parts has own appended have =
-      let (one, grown, last) = appended_automata engine pattern old new parts has own appended in
+  automata_more old new parts has own (one, grown, automata, equal) have =
+      let made : AreMadeOfParts engine parts (pattern_view pattern) = subst (λ found. IfSome found (λ them. AreMadeOfParts engine them (pattern_view pattern))) has own in
+      let last : HasAutomata engine pattern one = record { are_automata = automata; made = copy_made engine parts one.parts (pattern_view pattern) equal made } in
       let seen : take (i + 1) patterns ≡ take i patterns ++ pattern ∷ [] = take_more patterns i pattern within ∙ ap (λ (p : UrlPattern E). take i patterns ++ p ∷ []) (sym is) in
       subst (λ them. HaveAllAutomata engine them new) (sym seen)
       (subst (λ them. HaveAllAutomata engine (take i patterns ++ pattern ∷ []) them) (sym grown) (zip_push (HasAutomata engine) (take i patterns) old pattern one have last))

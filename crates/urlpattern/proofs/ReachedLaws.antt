@@ -6,7 +6,6 @@ use Rattle.std.proofs.lemmas.Option.{slice_get-map}
 use Rattle.std.specs.Prelude.{All, Ok, Option, None, Some, IsTrue, String, Vec, is_some, option_map, slice_get}
 use Rattle.std.specs.declared.alloc.Global.{Global}
 use Rattle.url.specs.Parts.{IsValid, Parts}
-use Rattle.urlpattern.specs.Contending.{ContendingMatch, HasTexts, IsAnswer, IsContended, IsContention, MatchesAlone}
 use Rattle.urlpattern.specs.FirstMatch.{FirstView, IsFirstMatch, patterns_view}
 use Rattle.urlpattern.specs.Reached.{HasAutomata, HaveAllAutomata, MatchesStrings, ReachedAreFirst, UnreachedAreNeverFirst}
 use Rattle.urlpattern_compare.proofs.SameParts.{known_or_not, same_flips, same_within}
@@ -18,8 +17,6 @@ use Rattle.urlpattern_compare.specs.CoveringTogether.{AreCovering, at_each}
 use Rattle.urlpattern_compare.specs.Reaching.{AreReached, IsReach}
 use Rattle.urlpattern_compare.specs.TextSearch.{IsLine}
 use Rattle.urlpattern_compare.specs.declared.candidates.Limits.{Limits}
-use Rattle.urlpattern.specs.declared.contention.Contended.{Contended}
-use Rattle.urlpattern_compare.specs.declared.common_texts.Common.TheVariants.{Texts as CommonTexts}
 use Rattle.urlpattern_compare.specs.declared.common_texts.PatternAutomata.{PatternAutomata}
 use Rattle.urlpattern_compare.specs.declared.pattern_parts.PatternParts.{PatternParts}
 use Rattle.urlpattern_compare.specs.declared.reaching.Reach.{Reach}
@@ -294,58 +291,3 @@ module _ {E : Type 0} (engine : Engine E) where
     pub reached_first : ReachedAreFirst engine
     reached_first patterns limits found reached index texts has_texts pattern pattern_there =
         is_first patterns limits found reached.0 reached.1 reached.2 index texts has_texts pattern pattern_there
-
-    -- ---- patterns that contend
-
-    abbrev meaning_of : (it : PatternAutomata) → PatternView E → PatternMeaning
-    meaning_of it view = record { parts = it.parts; means = matches view }
-
-    has_meaning : (it : PatternAutomata) (view : PatternView E) → AreMadeOfParts engine it.parts view → IsMeaningOf Any (meaning_of it view)
-    has_meaning it view made = (view, made, λ name text. refl, tt)
-
-    by_meaning : (it : PatternAutomata) (view : PatternView E) (texts : Eight (String Global)) → MeansEach (meaning_of it view) (string_at texts) → MatchesStrings engine.answer texts view
-    by_meaning it view texts each name = (matches_are view name (string_at texts name)).0 (each name)
-
-    alone_match : (limits : Limits) (one other : PatternAutomata) (view another : PatternView E) → AreMadeOfParts engine one.parts view → AreMadeOfParts engine other.parts another
-        → HasTexts limits (one ∷ []) (other ∷ []) → MatchesAlone engine.answer view another
-    alone_match limits one other view another made made_too has =
-        let own = meaning_of one view in
-        let others = meaning_of other another in
-        let common = has.1.0 (own ∷ []) (others ∷ []) (are_meanings Any Any (own ∷ []) (others ∷ []) (one ∷ []) (other ∷ []) refl refl
-        (All-cons (IsMeaningOf Any) own [] (has_meaning one view made) (All-nil (IsMeaningOf Any))) (All-cons (IsMeaningOf Any) others [] (has_meaning other another made_too) (All-nil (IsMeaningOf Any)))) in (
-          has.0,
-          by_meaning one view has.0 (All-head (λ it. MeansEach it (string_at has.0)) own [] common.meant),
-          λ each. All-head (λ it. ¬ MeansEach it (string_at has.0)) others [] common.unmeant (λ name. (matches_are another name (string_at has.0 name)).1 (each name)),
-        )
-
-    both_match : (limits : Limits) (one other : PatternAutomata) (view another : PatternView E) (texts : Eight (String Global)) → AreMadeOfParts engine one.parts view → AreMadeOfParts engine other.parts another
-        → IsAnswer limits (one ∷ other ∷ []) [] (CommonTexts texts) → MatchesStrings engine.answer texts view × MatchesStrings engine.answer texts another
-    both_match limits one other view another texts made made_too is =
-        let own = meaning_of one view in
-        let others = meaning_of other another in
-        let common = is.0 (own ∷ others ∷ []) [] (are_meanings Any Any (own ∷ others ∷ []) [] (one ∷ other ∷ []) [] refl refl
-        (All-cons (IsMeaningOf Any) own (others ∷ []) (has_meaning one view made) (All-cons (IsMeaningOf Any) others [] (has_meaning other another made_too) (All-nil (IsMeaningOf Any)))) (All-nil (IsMeaningOf Any))) in
-        let Means : PatternMeaning → Type 0 = λ it. MeansEach it (string_at texts) in (
-          by_meaning one view texts (All-head Means own (others ∷ []) common.meant),
-          by_meaning other another texts (All-head Means others [] (All-tail Means own (others ∷ []) common.meant)),
-        )
-
-    made_at : (patterns : List (UrlPattern E)) (all : List PatternAutomata) → HaveAllAutomata engine patterns all → (i : ℕ) (it : PatternAutomata) (pattern : UrlPattern E) → slice_get all i ≡ Some it → slice_get patterns i ≡ Some pattern
-        → AreMadeOfParts engine it.parts (pattern_view pattern)
-    made_at patterns all have i it pattern at_i pattern_there =
-        let (again, again_there, has) = there patterns all have i it at_i in
-        let same : again ≡ pattern = (let both : Some again ≡ Some pattern = sym again_there ∙ pattern_there in cc) in
-        subst (λ (p : UrlPattern E). AreMadeOfParts engine it.parts (pattern_view p)) same has.made
-
-    pub contending_match : ContendingMatch engine
-    contending_match patterns limits found (all, have, are) pair contains texts has_texts first second first_there second_there =
-        let (one, other, lt, at_one, at_other, some) = subst (IsContention limits all) contains.2 (are.contend contains.0 pair contains.1) in
-        let contended = subst (λ (it : Contended). IsContended limits one other (Some it)) has_texts some in
-        let made = made_at patterns all have pair.first one first at_one first_there in
-        let made_too = made_at patterns all have pair.second other second at_other second_there in
-        let both = both_match limits one other (pattern_view first) (pattern_view second) texts made made_too contended.0 in (
-          both.0,
-          both.1,
-          alone_match limits one other (pattern_view first) (pattern_view second) made made_too contended.1,
-          alone_match limits other one (pattern_view second) (pattern_view first) made_too made contended.2,
-        )

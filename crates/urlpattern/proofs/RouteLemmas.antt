@@ -6,17 +6,16 @@ use Rattle.std.proofs.lemmas.Str.Ascii.{IsAscii-cons, IsAscii-nil}
 use Rattle.std.proofs.lemmas.Option.{same_Some, slice_get-map, slice_get_within}
 use Rattle.std.specs.Borrow.{Bor}
 use Rattle.std.specs.Map.{keys_of, values_of}
-use Rattle.std.specs.Prelude.{IfSome, None, Option, Some, bytes_eq, codes, is_some, option_map, slice_get, unwrap_or}
+use Rattle.std.specs.Prelude.{IfSome, None, Option, Some, bytes_eq, codes, is_some, not, option_map, slice_get, unwrap_or}
 use Rattle.std.specs.Str.{chars, IsAscii, IsUtf8}
 use Rattle.urlpattern.proofs.NextLemmas.{some-mapped}
 use Rattle.urlpattern.proofs.PatternMapLemmas.{length-mapped}
 use Rattle.urlpattern.specs.FirstMatch.{HasGroupsInOrder}
 use Rattle.urlpattern.specs.NextMatch.{CallsEngineBeforeMatchFrom, IsFirstCapturedFrom, NoneMatchBetween}
 use Rattle.urlpattern.specs.PatternMaps.{HasValueAt, entry_patterns, without_value}
-use Rattle.urlpattern.specs.Routes.{HasMethod, HasMethodBefore, HasName, HasNoNewMethod, IsCandidate, IsRouteError, IsRouteNamed, NoneAddsMethod, NoneIsNamedBefore, NoneServesAt, NoneServesBefore, OfRouteNamed, Routes, RoutesLeft}
+use Rattle.urlpattern.specs.Routes.{HasMethod, HasMethodBefore, HasName, HasNoNewMethod, IsCandidate, IsHead, IsRouteFound, IsRouteNamed, IsServed, NoneAddsMethod, NoneIsNamedBefore, NoneServesAt, NoneServesBefore, OfRouteNamed, Routes, RoutesLeft}
+use Rattle.urlpattern.specs.declared.router.UrlPatternRouter.{UrlPatternRouter}
 use Rattle.urlpattern.specs.declared.router.route.Route.{Route}
-use Rattle.urlpattern.specs.declared.router.route_error.RouteError.{RouteError}
-use Rattle.urlpattern.specs.declared.router.route_error.RouteError.TheVariants.{NameTaken, NotAMethod, OutOfMemory}
 use Rattle.urlpattern_canonical.proofs.MarkLemmas.{bytes_eq-chars}
 use Rattle.urlpattern_components.specs.Eight.{Texts}
 use Rattle.urlpattern_matches.specs.BorrowedMatches.{groups_view, pattern_captures_view}
@@ -80,17 +79,17 @@ module _ {E X : Type 0} where
         within = slice_get_within entries index entry there;
       }
 
-module _ {E T : Type 0} (answer : E → List ℕ → Option Captures) (routes : Routes E T) (Is : Route T → Type 0) (texts : Texts) where
+module _ {E T : Type 0} (answer : E → List ℕ → Option Captures) (routes : Routes E T) (method : List ℕ) (texts : Texts) where
   -- The routes up to the next one that matches.
-  pub served-up_to : (from index : ℕ) → NoneServesBefore answer routes Is texts from → NoneMatchBetween answer (entry_patterns routes) texts from index
-      → NoneServesBefore answer routes Is texts index
+  pub served-up_to : (from index : ℕ) → NoneServesBefore answer routes method texts from → NoneMatchBetween answer (entry_patterns routes) texts from index
+      → NoneServesBefore answer routes method texts index
   served-up_to from index before between = λ k entry lt is. elim (cases_lt k from) [
     | inl earlier ↦ before k entry earlier is
     | inr later ↦ inr (between k (pattern_view entry.0) later lt (pattern_at routes k entry is))
   ]
 
   -- A route that does not serve the request.
-  pub served-more : (index : ℕ) → NoneServesBefore answer routes Is texts index → NoneServesAt answer routes Is texts index → NoneServesBefore answer routes Is texts (index + 1)
+  pub served-more : (index : ℕ) → NoneServesBefore answer routes method texts index → NoneServesAt answer routes method texts index → NoneServesBefore answer routes method texts (index + 1)
   served-more index before refused = λ k entry lt is. elim (cases_lt k index) [
     | inl earlier ↦ before k entry earlier is
     | inr later ↦
@@ -101,14 +100,14 @@ module _ {E T : Type 0} (answer : E → List ℕ → Option Captures) (routes : 
   -- The route at an index is tried next, or none is, and no route before it serves the request.
   abbrev pub IsNextRoute : Option ℕ → Type 0
   IsNextRoute found =
-      IfSome found (λ index. index < length routes) × NoneServesBefore answer routes Is texts (unwrap_or found (length routes))
+      IfSome found (λ index. index < length routes) × NoneServesBefore answer routes method texts (unwrap_or found (length routes))
 
   -- The candidate is tried first.
   pub candidate-first : (first : ℕ) → IsCandidate answer routes texts first → IsNextRoute (Some first)
   candidate-first first (within, before) = (within, served-up_to 0 first (λ k entry lt. absurd (omega (arith, lt))) before)
 
   -- The next route after one that does not serve the request.
-  pub next-route : (index : ℕ) → NoneServesBefore answer routes Is texts index → NoneServesAt answer routes Is texts index → (found : Option ℕ)
+  pub next-route : (index : ℕ) → NoneServesBefore answer routes method texts index → NoneServesAt answer routes method texts index → (found : Option ℕ)
       → IfSome found (λ next. (index + 1 ≤ next) × (next < length routes))
       → NoneMatchBetween answer (entry_patterns routes) texts (index + 1) (unwrap_or found (length (entry_patterns routes))) → IsNextRoute found
   next-route index before refused None inside passed = (
@@ -120,15 +119,15 @@ module _ {E T : Type 0} (answer : E → List ℕ → Option Captures) (routes : 
 
   -- The route at an index does not match.
   pub unmatched-at : (pattern : UrlPattern E) (route : Route T) (index : ℕ) → Some (pattern, route) ≡ slice_get routes index → DoesNotMatch answer (pattern_view pattern) texts
-      → NoneServesAt answer routes Is texts index
+      → NoneServesAt answer routes method texts index
   unmatched-at pattern route index is refused = λ entry there.
       inr (subst (λ (one : UrlPattern E × Route T). DoesNotMatch answer (pattern_view one.0) texts) (same_Some (pattern, route) entry (is ∙ there)) refused)
 
--- No route matches.
-pub none-matches : {E T : Type 0} (answer : E → List ℕ → Option Captures) (routes : Routes E T) (texts : Texts) → NoneMatchBetween answer (entry_patterns routes) texts 0 (length (entry_patterns routes))
-    → (index : ℕ) (entry : UrlPattern E × Route T) → slice_get routes index ≡ Some entry → DoesNotMatch answer (pattern_view entry.0) texts
-none-matches answer routes texts none index entry is =
-    none index (pattern_view entry.0) (omega arith) (slice_get_within (entry_patterns routes) index (pattern_view entry.0) (pattern_at routes index entry is)) (pattern_at routes index entry is)
+  -- No route matches.
+  pub none-matches : NoneMatchBetween answer (entry_patterns routes) texts 0 (length (entry_patterns routes)) → (index : ℕ) (entry : UrlPattern E × Route T) → slice_get routes index ≡ Some entry
+      → DoesNotMatch answer (pattern_view entry.0) texts
+  none-matches none index entry is =
+      none index (pattern_view entry.0) (omega arith) (slice_get_within (entry_patterns routes) index (pattern_view entry.0) (pattern_at routes index entry is)) (pattern_at routes index entry is)
 
 -- A further route without the name.
 pub unnamed-more : {E T : Type 0} (routes : Routes E T) (name : List ℕ) (index : ℕ) → NoneIsNamedBefore routes name index
@@ -162,23 +161,26 @@ module _ {E T : Type 0} (routes : Routes E T) (name : List ℕ) where
   named-new None is none = is
   named-new (Some first) is none = absurd (false≢true (sym none))
 
--- The errors of adding a route without a name, for a name that no route has.
-pub rename_error : {E T : Type 0} (routes : Routes E T) (name method : List ℕ) → NoneIsNamedBefore routes name (length routes) → (error : RouteError) → IsRouteError routes None method error
-    → IsRouteError routes (Some name) method error
-rename_error routes name method new NameTaken some = absurd some
-rename_error routes name method new NotAMethod (none, never) = (new, never)
-rename_error routes name method new OutOfMemory (none, is) = (new, is)
+true_of_not : (test : Bool) → not test ≡ false → test ≡ true
+true_of_not true is = refl
+true_of_not false is = absurd (false≢true (sym is))
 
 head_ascii : IsAscii (codes "HEAD")
 head_ascii = IsAscii-cons 72 (codes "EAD") (omega arith) (IsAscii-cons 69 (codes "AD") (omega arith) (IsAscii-cons 65 (codes "D") (omega arith) (IsAscii-cons 68 [] (omega arith) IsAscii-nil)))
 
 -- Whether the method is `HEAD`, by its bytes.
-pub is_head : (method : List ℕ) → IsUtf8 method → (same : Bool) → same ≡ bytes_eq method (codes "HEAD")
-    → (same ≡ true → chars method ≡ codes "HEAD") × (chars method ≡ codes "HEAD" → same ≡ true)
-is_head method utf8 same test =
+pub is_head : (method : List ℕ) → IsUtf8 method → (other : Bool) → other ≡ not (bytes_eq method (codes "HEAD"))
+    → (other ≡ true → ¬ (chars method ≡ codes "HEAD")) × (other ≡ false → chars method ≡ codes "HEAD")
+is_head method utf8 other test =
     let equal = bytes_eq-Decides (chars method) (codes "HEAD") in
-    let by : same ≡ bytes_eq (chars method) (codes "HEAD") = test ∙ sym (bytes_eq-chars method (codes "HEAD") utf8 head_ascii) in
-    (λ is. equal.0 (sym by ∙ is), λ head. by ∙ equal.1 head)
+    let same : other ≡ not (bytes_eq (chars method) (codes "HEAD")) = test ∙ ap not (sym (bytes_eq-chars method (codes "HEAD") utf8 head_ascii)) in
+    (λ is head. false≢true (sym (ap not (equal.1 head)) ∙ sym same ∙ is), λ is. equal.0 (true_of_not _ (sym same ∙ is)))
+
+-- A request with the method `HEAD` gets what is found for `GET`, if no route is for `HEAD`.
+pub served-by_get : {E T : Type 0} (answer : E → List ℕ → Option Captures) (router : UrlPatternRouter T E) (method : List ℕ) (texts : Texts) (found : Option (ℕ × Bor T × UrlPatternCaptures))
+    → IsHead router method → IsRouteFound answer router.routes method texts None → IsRouteFound answer router.routes (codes "GET") texts found → IsServed answer router method texts found
+served-by_get answer router method texts None head own get = record { own = own; get = λ is. get }
+served-by_get answer router method texts (Some found) head own get = inr (head, own, get)
 
 module _ {E T : Type 0} (answer : E → List ℕ → Option Captures) (left : RoutesLeft E T) where
   -- A pattern that does not match texts does not match them.
@@ -192,13 +194,13 @@ module _ {E T : Type 0} (answer : E → List ℕ → Option Captures) (left : Ro
     | inr later ↦ never-matched (pattern_view entry.0) (between k (pattern_view entry.0) later lt (pattern_at left.routes k entry is)) matched
   ]
 
-  pub unlisted-more : (method : List ℕ) (index : ℕ) (last : UrlPattern E × Route T) → slice_get left.routes index ≡ Some last → ¬ HasMethodBefore answer left method index → ¬ HasMethod method last.1
+  pub unlisted-more : (method : List ℕ) (index : ℕ) (last : UrlPattern E × Route T) → slice_get left.routes index ≡ Some last → ¬ HasMethodBefore answer left method index → ¬ HasMethod last.1 method
       → ¬ HasMethodBefore answer left method (index + 1)
   unlisted-more method index last is_last none other (k, entry, lt, is, has, matched) = elim (cases_lt k index) [
     | inl earlier ↦ none (k, entry, earlier, is, has, matched)
     | inr later ↦
         let same : k ≡ index = omega arith in
-        other (subst (λ (one : UrlPattern E × Route T). HasMethod method one.1) (same_Some entry last (sym is ∙ ap (slice_get left.routes) same ∙ is_last)) has)
+        other (subst (λ (one : UrlPattern E × Route T). HasMethod one.1 method) (same_Some entry last (sym is ∙ ap (slice_get left.routes) same ∙ is_last)) has)
   ]
 
   pub unlisted-shorter : (method : List ℕ) (end index : ℕ) → end ≤ index → ¬ HasMethodBefore answer left method index → ¬ HasMethodBefore answer left method end

@@ -40,7 +40,6 @@ pub use Rattle.urlpattern_plain.specs.PatternJson
 pub use Rattle.urlpattern_plain.specs.Plain
 pub use Rattle.urlpattern_plain.specs.Values
 pub use Rattle.urlpattern_matches.specs.BorrowedMatches
-pub use Rattle.urlpattern_matches.specs.DecodedCaptures
 pub use Rattle.urlpattern_pattern.specs.ByText
 pub use Rattle.urlpattern_pattern.specs.ByTextLaws
 pub use Rattle.urlpattern_pattern.specs.MatchCalls
@@ -55,7 +54,6 @@ pub use Rattle.urlpattern_pattern.specs.Mismatch
 pub use Rattle.urlpattern_pattern.specs.ComponentTexts
 pub use Rattle.urlpattern_pattern.specs.KeptMeanings
 pub use Rattle.urlpattern_pattern.specs.KeptParts
-pub use Rattle.urlpattern_pattern.specs.EncodedLinks
 pub use Rattle.urlpattern_pattern.specs.LinkedUrls
 pub use Rattle.urlpattern_pattern.specs.Patterns
 pub use Rattle.urlpattern_pattern.specs.UrlPatterns
@@ -83,7 +81,6 @@ pub use Rattle.urlpattern_syntax.specs.RegexpText
 pub use Rattle.urlpattern_syntax.specs.Stops
 pub use Rattle.urlpattern_syntax.specs.Text
 pub use Rattle.urlpattern_syntax.specs.Tokens
-pub use Rattle.urlpattern_generate.specs.EncodedGroups
 pub use Rattle.urlpattern_generate.specs.GenerateErrorText
 pub use Rattle.urlpattern_generate.specs.WriteSettings
 pub use Rattle.urlpattern_generate.specs.NoLinkText
@@ -103,14 +100,12 @@ pub use Rattle.urlpattern_syntax.specs.declared.error.ParserError
 pub use Rattle.urlpattern_syntax.specs.declared.parser.Options as ParserOptions
 pub use Rattle.urlpattern_syntax.specs.declared.parser.Part
 pub use Rattle.urlpattern_syntax.specs.declared.parser.RegexSyntax
-pub mod Contending
 pub mod FirstMatch
 pub mod MapMatches
 pub mod NextMatch
 pub mod Paths
 pub mod PatternKeys
 pub mod PatternMaps
-pub mod RouteReach
 pub mod Routes
 pub mod Theorem
 pub mod Reached

@@ -1,7 +1,7 @@
 -- The routes of a router. `answer` is what an engine returns for a text.
 use Rattle.http_header.specs.Token.{IsToken}
 use Rattle.std.specs.Borrow.{Bor}
-use Rattle.std.specs.Prelude.{◌≡◌, ◌⊎◌, ◌+◌, ◌++◌, ◌∷◌, [], ◌<◌, ◌≤◌, Bool, true, false, ℕ, IfSome, IsSomeAnd, IsTrue, List, MatchOption, None, Option, Result, Ok, Err, Some, codes, length, option_map, slice_get}
+use Rattle.std.specs.Prelude.{◌≡◌, ◌⊎◌, ◌+◌, ◌++◌, ◌∷◌, [], ◌<◌, ◌≤◌, ℕ, IfSome, IsSomeAnd, IsTrue, List, MatchOption, None, Option, Result, Ok, Err, Some, codes, length, option_map, slice_get}
 use Rattle.std.specs.Str.{chars}
 use Rattle.url.specs.Parts.{Parts}
 use Rattle.urlpattern.specs.FirstMatch.{CallsEngineBeforeMatch}
@@ -18,7 +18,6 @@ use Rattle.urlpattern.specs.declared.router.route_error.RouteError.TheVariants.{
 use Rattle.urlpattern.specs.declared.router.routed.Routed.{Routed}
 use Rattle.urlpattern.specs.declared.router.routed.Routed.TheVariants.{Found, MethodNotAllowed, NotFound}
 use Rattle.urlpattern_components.specs.Eight.{Texts}
-use Rattle.urlpattern_generate.specs.EncodedGroups.{encoded_groups}
 use Rattle.urlpattern_generate.specs.WriteSettings.{GivenView}
 use Rattle.urlpattern_generate.specs.declared.no_link.NoLink.{NoLink}
 use Rattle.urlpattern_init.specs.declared.init.UrlPatternMatchInput.TheVariants as inputs
@@ -27,8 +26,7 @@ use Rattle.urlpattern_matches.specs.GroupTexts.{borrowed_texts}
 use Rattle.urlpattern_matches.specs.MatchInput.{pathname_alone}
 use Rattle.urlpattern_matches.specs.declared.captures.UrlPatternCaptures.{UrlPatternCaptures}
 use Rattle.urlpattern_meaning.specs.PartMeaning.{Captures}
-use Rattle.urlpattern_pattern.specs.EncodedLinks.{RejectsEncoded, ReturnsDecoded}
-use Rattle.urlpattern_pattern.specs.LinkedUrls.{IsLink}
+use Rattle.urlpattern_pattern.specs.LinkedUrls.{IsLink, RejectsLink, ReturnsGiven}
 use Rattle.urlpattern_pattern.specs.Match.{AreGroupsInOrder, AreMatched, CallsAnEngine, DoesNotMatch, HasMatch, IsMatchOf}
 use Rattle.urlpattern_pattern.specs.Patterns.{pattern_view}
 use Rattle.urlpattern_pattern.specs.UrlPatterns.{UrlPattern}
@@ -43,57 +41,52 @@ abbrev pub Routes : (E T : Type 0) → Type 0
 Routes E T = List (UrlPattern E × Route T)
 
 -- The route serves requests with this method, since it is its own, or since it has none.
-abbrev pub Takes : {T : Type 0} → (method : List ℕ) → Route T → Type 0
-Takes method route = MatchOption route.method (Unit {0}) (λ own. text_of own ≡ method)
+abbrev pub Takes : {T : Type 0} → Route T → (method : List ℕ) → Type 0
+Takes route method = MatchOption route.method (Unit {0}) (λ own. text_of own ≡ method)
 
 -- The route has this method.
-abbrev pub HasMethod : {T : Type 0} → (method : List ℕ) → Route T → Type 0
-HasMethod method route = IsSomeAnd route.method (λ own. text_of own ≡ method)
+abbrev pub HasMethod : {T : Type 0} → Route T → (method : List ℕ) → Type 0
+HasMethod route method = IsSomeAnd route.method (λ own. text_of own ≡ method)
 
--- The route has this method or, if `or_any` is true, serves every method.
-abbrev pub TakesBy : {T : Type 0} → (or_any : Bool) → (method : List ℕ) → Route T → Type 0
-TakesBy true method route = Takes method route
-TakesBy false method route = HasMethod method route
-
--- The route is not one for which `Is` holds, or its pattern does not match the texts.
+-- The route does not answer requests with this method, or its pattern does not match the texts.
 abbrev pub DoesNotServe : {E T : Type 0} → (answer : E → List ℕ → Option Captures)
-    → (Is : Route T → Type 0) → Texts → UrlPattern E × Route T → Type 0
-DoesNotServe answer Is texts (pattern, route) =
-    (¬ Is route) ⊎ DoesNotMatch answer (pattern_view pattern) texts
+    → (method : List ℕ) → Texts → UrlPattern E × Route T → Type 0
+DoesNotServe answer method texts (pattern, route) =
+    (¬ Takes route method) ⊎ DoesNotMatch answer (pattern_view pattern) texts
 
--- No route before the index `end` for which `Is` holds matches the texts.
+-- No route before the index `end` serves requests with this method and matches the texts.
 abbrev pub NoneServesBefore : {E T : Type 0} → (answer : E → List ℕ → Option Captures)
-    → Routes E T → (Is : Route T → Type 0) → Texts → (end : ℕ) → Type 0
-NoneServesBefore {E} {T} answer routes Is texts end =
+    → Routes E T → (method : List ℕ) → Texts → (end : ℕ) → Type 0
+NoneServesBefore {E} {T} answer routes method texts end =
     (index : ℕ) (entry : UrlPattern E × Route T) → index < end
-    → slice_get routes index ≡ Some entry → DoesNotServe answer Is texts entry
+    → slice_get routes index ≡ Some entry → DoesNotServe answer method texts entry
 
--- `Is` holds for the route at an index, which matches the texts, with this value and this match.
+-- The route at an index serves requests with this method and matches the texts, with this value and
+-- this match.
 abbrev pub Serves : {E T : Type 0} → (answer : E → List ℕ → Option Captures) → Routes E T
-    → (Is : Route T → Type 0) → Texts → ℕ × Bor T × UrlPatternCaptures → Type 0
-Serves {E} {T} answer routes Is texts (index, value, captures) =
+    → (method : List ℕ) → Texts → ℕ × Bor T × UrlPatternCaptures → Type 0
+Serves {E} {T} answer routes method texts (index, value, captures) =
     (entry : UrlPattern E × Route T) × (slice_get routes index ≡ Some entry)
-    × Is entry.1
+    × Takes entry.1 method
     × (value.now ≡ entry.1.value)
     × IsMatchOf answer (pattern_view entry.0) texts (pattern_captures_view captures)
     × AreGroupsInOrder answer (pattern_view entry.0) texts (groups_view captures)
 
--- `found` is the first route for which `Is` holds that matches the texts: its index, its value, and
--- the match. `None`: there is no such route.
+-- `found` is the first route that serves requests with this method and matches the texts: its
+-- index, its value, and the match. `None`: there is no such route.
 abbrev pub IsRouteFound : {E T : Type 0} → (answer : E → List ℕ → Option Captures)
-    → Routes E T → (Is : Route T → Type 0) → Texts → Option (ℕ × Bor T × UrlPatternCaptures)
-    → Type 0
-IsRouteFound answer routes Is texts (Some first) =
-    Serves answer routes Is texts first × NoneServesBefore answer routes Is texts first.0
-IsRouteFound answer routes Is texts None =
-    NoneServesBefore answer routes Is texts (length routes)
+    → Routes E T → (method : List ℕ) → Texts → Option (ℕ × Bor T × UrlPatternCaptures) → Type 0
+IsRouteFound answer routes method texts (Some first) =
+    Serves answer routes method texts first × NoneServesBefore answer routes method texts first.0
+IsRouteFound answer routes method texts None =
+    NoneServesBefore answer routes method texts (length routes)
 
--- No route at the index for which `Is` holds matches the texts.
+-- No route at the index serves requests with this method and matches the texts.
 abbrev pub NoneServesAt : {E T : Type 0} → (answer : E → List ℕ → Option Captures) → Routes E T
-    → (Is : Route T → Type 0) → Texts → (index : ℕ) → Type 0
-NoneServesAt {E} {T} answer routes Is texts index =
+    → (method : List ℕ) → Texts → (index : ℕ) → Type 0
+NoneServesAt {E} {T} answer routes method texts index =
     (entry : UrlPattern E × Route T) → slice_get routes index ≡ Some entry
-    → DoesNotServe answer Is texts entry
+    → DoesNotServe answer method texts entry
 
 -- A route at the index may match the texts, and no route before the index does.
 abbrev pub IsCandidate : {E T : Type 0} → (answer : E → List ℕ → Option Captures) → Routes E T
@@ -101,21 +94,21 @@ abbrev pub IsCandidate : {E T : Type 0} → (answer : E → List ℕ → Option 
 IsCandidate answer routes texts index =
     (index < length routes) × NoneMatchBetween answer (entry_patterns routes) texts 0 index
 
--- `Is` holds for the route at the index, which calls an engine for the texts.
+-- The route at the index serves requests with this method and calls an engine for the texts.
 abbrev pub CallsEngineAt : {E T : Type 0} → (answer : E → List ℕ → Option Captures) → Routes E T
-    → (Is : Route T → Type 0) → Texts → (index : ℕ) → Type 0
-CallsEngineAt {E} {T} answer routes Is texts index =
+    → (method : List ℕ) → Texts → (index : ℕ) → Type 0
+CallsEngineAt {E} {T} answer routes method texts index =
     (entry : UrlPattern E × Route T) × (slice_get routes index ≡ Some entry)
-    × Is entry.1
+    × Takes entry.1 method
     × CallsAnEngine answer (pattern_view entry.0) texts
 
--- Some route for which `Is` holds calls an engine for the texts, and no such route before it
--- matches them.
+-- Some route that serves requests with this method calls an engine for the texts, and no route
+-- before it both serves them and matches the texts.
 abbrev pub CallsEngineBeforeRoute : {E T : Type 0} → (answer : E → List ℕ → Option Captures)
-    → Routes E T → (Is : Route T → Type 0) → Texts → Type 0
-CallsEngineBeforeRoute answer routes Is texts =
-    (index : ℕ) × CallsEngineAt answer routes Is texts index
-    × NoneServesBefore answer routes Is texts index
+    → Routes E T → (method : List ℕ) → Texts → Type 0
+CallsEngineBeforeRoute answer routes method texts =
+    (index : ℕ) × CallsEngineAt answer routes method texts index
+    × NoneServesBefore answer routes method texts index
 
 -- ---- a request
 
@@ -141,6 +134,12 @@ allowed_left methods = record {
 abbrev pub IsHead : {E T : Type 0} → UrlPatternRouter T E → (method : List ℕ) → Type 0
 IsHead router method = IsTrue router.head_as_get × (method ≡ codes "HEAD")
 
+-- No route matches that serves a request with this method.
+pub record HasNoRoute {E T : Type 0} (answer : E → List ℕ → Option Captures)
+    (router : UrlPatternRouter T E) (method : List ℕ) (texts : Texts) : Type 0 where
+  pub own : IsRouteFound answer router.routes method texts None
+  pub get : IsHead router method → IsRouteFound answer router.routes (codes "GET") texts None
+
 -- Some route matches the texts, whatever its method.
 abbrev pub SomeMatches : {E T : Type 0} → (answer : E → List ℕ → Option Captures)
     → Routes E T → Texts → Type 0
@@ -148,24 +147,17 @@ SomeMatches {E} {T} answer routes texts =
     (index : ℕ) × (entry : UrlPattern E × Route T) × (slice_get routes index ≡ Some entry)
     × AreMatched answer (pattern_view entry.0) texts
 
--- `found` is the first route whose own method is `HEAD` that matches the texts or, if there is
--- none, the first that serves `GET`.
-abbrev pub IsServedAsHead : {E T : Type 0} → (answer : E → List ℕ → Option Captures)
-    → Routes E T → Texts → Option (ℕ × Bor T × UrlPatternCaptures) → Type 0
-IsServedAsHead answer routes texts found =
-    IsSomeAnd found (λ own.
-    IsRouteFound answer routes (HasMethod (codes "HEAD")) texts (Some own))
-    ⊎ (IsRouteFound answer routes (HasMethod (codes "HEAD")) texts None
-    × IsRouteFound answer routes (Takes (codes "GET")) texts found)
-
--- `found` is the route that serves a request with this method and eight texts. `None`: no route
--- serves it.
-pub record IsServed {E T : Type 0} (answer : E → List ℕ → Option Captures)
-    (router : UrlPatternRouter T E) (method : List ℕ) (texts : Texts)
-    (found : Option (ℕ × Bor T × UrlPatternCaptures)) : Type 0 where
-  pub head : IsHead router method → IsServedAsHead answer router.routes texts found
-  pub other : ¬ IsHead router method
-      → IsRouteFound answer router.routes (Takes method) texts found
+-- `found` is the route that serves a request with this method and eight texts: the first for the
+-- method, or, for `HEAD`, the first for `GET` if there is none. `None`: no route serves it.
+abbrev pub IsServed : {E T : Type 0} → (answer : E → List ℕ → Option Captures)
+    → UrlPatternRouter T E → (method : List ℕ) → Texts → Option (ℕ × Bor T × UrlPatternCaptures)
+    → Type 0
+IsServed answer router method texts (Some found) =
+    IsRouteFound answer router.routes method texts (Some found)
+    ⊎ (IsHead router method
+    × IsRouteFound answer router.routes method texts None
+    × IsRouteFound answer router.routes (codes "GET") texts (Some found))
+IsServed answer router method texts None = HasNoRoute answer router method texts
 
 -- What a router returns for a request with this method and eight texts. `Found`: the route that
 -- serves it. `MethodNotAllowed`: no route serves it, but some route matches, and the methods are
@@ -189,16 +181,15 @@ IsRoutedPath answer router method path routed =
     IsPath path × IsRouted answer router method (pathname_alone path) routed
 
 -- An engine is called to find the route that serves a request with this method and eight texts: by
--- a route for the method, or, for `HEAD` if no route of its own matches, by one for `GET`; and no
--- such route before it matches.
-pub record CallsEngineOfServing {E T : Type 0} (answer : E → List ℕ → Option Captures)
-    (router : UrlPatternRouter T E) (method : List ℕ) (texts : Texts) : Type 0 where
-  pub head : IsHead router method
-      → CallsEngineBeforeRoute answer router.routes (HasMethod (codes "HEAD")) texts
-      ⊎ (IsRouteFound answer router.routes (HasMethod (codes "HEAD")) texts None
-      × CallsEngineBeforeRoute answer router.routes (Takes (codes "GET")) texts)
-  pub other : ¬ IsHead router method
-      → CallsEngineBeforeRoute answer router.routes (Takes method) texts
+-- a route for the method, or, for `HEAD` if no such route matches, by one for `GET`; and no route
+-- before it serves the request.
+abbrev pub CallsEngineOfServing : {E T : Type 0} → (answer : E → List ℕ → Option Captures)
+    → UrlPatternRouter T E → (method : List ℕ) → Texts → Type 0
+CallsEngineOfServing answer router method texts =
+    CallsEngineBeforeRoute answer router.routes method texts
+    ⊎ (IsHead router method
+    × IsRouteFound answer router.routes method texts None
+    × CallsEngineBeforeRoute answer router.routes (codes "GET") texts)
 
 -- An engine is called for a request with this method and eight texts: to find the route that serves
 -- it, or, if no route does, by any route before one matches.
@@ -206,7 +197,7 @@ abbrev pub CallsEngineOfRequest : {E T : Type 0} → (answer : E → List ℕ �
     → UrlPatternRouter T E → (method : List ℕ) → Texts → Type 0
 CallsEngineOfRequest answer router method texts =
     CallsEngineOfServing answer router method texts
-    ⊎ (IsServed answer router method texts None
+    ⊎ (HasNoRoute answer router method texts
     × CallsEngineBeforeMatch answer (entry_patterns router.routes) texts)
 
 -- What each error of a request for a path says. `NotAPath`: the text is no path. `OutOfMemory`: it
@@ -232,7 +223,7 @@ abbrev pub HasMethodBefore : {E T : Type 0} → (answer : E → List ℕ → Opt
 HasMethodBefore {E} {T} answer left method end =
     (index : ℕ) × (entry : UrlPattern E × Route T) × (index < end)
     × (slice_get left.routes index ≡ Some entry)
-    × HasMethod method entry.1
+    × HasMethod entry.1 method
     × AreMatched answer (pattern_view entry.0) left.texts
 
 -- The route has no method, or one that a route before the index `end` that matches has.
@@ -240,7 +231,7 @@ abbrev pub HasNoNewMethod : {E T : Type 0} → (answer : E → List ℕ → Opti
     → RoutesLeft E T → (end : ℕ) → Route T → Type 0
 HasNoNewMethod answer left end route =
     (route.method ≡ None)
-    ⊎ ((method : List ℕ) × HasMethod method route × HasMethodBefore answer left method end)
+    ⊎ ((method : List ℕ) × HasMethod route method × HasMethodBefore answer left method end)
 
 -- The entry, whose index is `index`, does not match the texts, has no method, or has one that an
 -- earlier entry that matches has.
@@ -262,7 +253,7 @@ pub record IsNextMethod {E T : Type 0} (answer : E → List ℕ → Option Captu
     (left : RoutesLeft E T) (index : ℕ) (method : List ℕ) : Type 0 where
   pub later : left.from ≤ index
   pub has : (entry : UrlPattern E × Route T) × (slice_get left.routes index ≡ Some entry)
-      × HasMethod method entry.1
+      × HasMethod entry.1 method
       × AreMatched answer (pattern_view entry.0) left.texts
   pub once : ¬ HasMethodBefore answer left method index
   pub before : NoneAddsMethod answer left index
@@ -323,54 +314,46 @@ OfRouteNamed {E} {T} routes name Is =
     × IsFirstNamed routes name index entry
     × Is entry.0
 
--- The URL is the link of the first route with this name for the values of `groups`, which are
--- percent-encoded: its pattern matches the URL, and what it captures decodes to exactly these
--- values. `None`: no route has the name.
+-- The URL is the link for `groups` of the first route with this name: its pattern matches the URL,
+-- and captures what `groups` gives. `None`: no route has the name.
 abbrev pub IsRouteLink : {E T : Type 0} → (answer : E → List ℕ → Option Captures) → Routes E T
     → (name : List ℕ) → List GivenView → Option Parts → Type 0
 IsRouteLink answer routes name groups (Some url) = OfRouteNamed routes name (λ pattern.
-    IsLink answer pattern (encoded_groups groups) url
-    × ReturnsDecoded answer pattern groups url
+    IsLink answer pattern groups url
+    × ReturnsGiven answer pattern groups url
     × HasMatch answer (pattern_view pattern) (inputs.Url url))
 IsRouteLink answer routes name groups None = NoneIsNamedBefore routes name (length routes)
 
--- The error says why the pattern of the first route with this name has no link for the values of
--- `groups`.
+-- The error says why the pattern of the first route with this name has no link for `groups`.
 abbrev pub RejectsRouteLink : {E T : Type 0} → (answer : E → List ℕ → Option Captures)
     → Routes E T → (name : List ℕ) → List GivenView → NoLink → Type 0
 RejectsRouteLink answer routes name groups error =
-    OfRouteNamed routes name (λ pattern.
-    RejectsEncoded answer pattern (encoded_groups groups) error)
+    OfRouteNamed routes name (λ pattern. RejectsLink answer pattern groups error)
 
 -- ---- adding a route
-
--- The route has this name, method and value.
-pub record IsRoute {T : Type 0} (name method : Option (List ℕ)) (value : T) (route : Route T)
-    : Type 0 where
-  pub has_name : option_map (λ own. text_of own) route.name ≡ name
-  pub has_method : option_map (λ own. text_of own) route.method ≡ method
-  pub has_value : route.value ≡ value
 
 -- `new` has a further route after those of `old`: the pattern, with this name, method and value.
 abbrev pub AppendsRoute : {E T : Type 0} → (old : UrlPatternRouter T E)
     → (name method : Option (List ℕ)) → UrlPattern E → (value : T) → (new : UrlPatternRouter T E)
     → Type 0
 AppendsRoute {E} {T} old name method pattern value new =
-    (route : Route T) × IsRoute name method value route
-    × (new ≡ record old { routes = old.routes ++ (pattern, route) ∷ [] })
+    (route : Route T) × (new ≡ record old { routes = old.routes ++ (pattern, route) ∷ [] })
+    × (option_map (λ own. text_of own) route.name ≡ name)
+    × (option_map (λ own. text_of own) route.method ≡ method)
+    × (route.value ≡ value)
 
 -- No route has the name, if there is one.
 abbrev pub IsNewName : {E T : Type 0} → Routes E T → (name : Option (List ℕ)) → Type 0
 IsNewName routes name = IfSome name (λ name. NoneIsNamedBefore routes name (length routes))
 
--- What each error of adding a route says. `NameTaken`: some route has the name. `NotAMethod`: none
--- has it, and the method is no token. `OutOfMemory`: none has it, and the method is a token.
+-- What each error of adding a route says. `NotAMethod`: the method is no token. `NameTaken`: it is
+-- one, and some route has the name. `OutOfMemory`: it is one, and no route has the name.
 abbrev pub IsRouteError : {E T : Type 0} → Routes E T → (name : Option (List ℕ))
     → (method : List ℕ) → RouteError → Type 0
+IsRouteError routes name method NotAMethod = ¬ IsToken method
 IsRouteError {E} {T} routes name method NameTaken =
-    IsSomeAnd name (λ name. OfRouteNamed routes name (λ pattern. Unit {0}))
-IsRouteError routes name method NotAMethod = IsNewName routes name × (¬ IsToken method)
-IsRouteError routes name method OutOfMemory = IsNewName routes name × IsToken method
+    IsToken method × IsSomeAnd name (λ name. OfRouteNamed routes name (λ pattern. Unit {0}))
+IsRouteError routes name method OutOfMemory = IsToken method × IsNewName routes name
 
 -- The text as which the error is printed.
 abbrev pub route_error_text : RouteError → List ℕ

@@ -19,21 +19,18 @@ ghost use Rattle.urlpattern_pattern.specs.Match.{IfUrl};
 ghost use Rattle.urlpattern_pattern.specs.UrlPatterns.{UrlPattern};
 ghost use Rattle.urlpattern_syntax.specs.Errors.{OnlyOutOfMemory};
 
-mod contending;
 mod finding;
 mod matches;
 mod other_inputs;
 mod pattern_fixed;
 mod unreached;
 
-pub use contending::contending_patterns_match;
 pub use matches::UrlPatternMatches;
 use pattern_fixed::fixed_of;
 use std::alloc::Global;
 use std::marker::Model;
 use std::slice;
 pub use unreached::unreachable_patterns_are_never_first;
-pub(crate) use unreached::{push_automata, reach_of_all};
 use url::{Url, quirks};
 use urlpattern_index::{Address, AddressHashes, Index};
 use urlpattern_init::UrlPatternMatchInput;

@@ -11,7 +11,6 @@ ghost use Rattle.urlpattern_init.specs.declared.init.UrlPatternMatchInput.TheVar
 ghost use Rattle.urlpattern.specs.FirstMatch.{CallsEngineBeforeMatch, HasGroupsInOrder, IsFirstMatch};
 ghost use Rattle.urlpattern.specs.MapMatches.{all_entries, entries_left};
 ghost use Rattle.urlpattern.specs.PatternMaps.{entry_patterns, first_entry_view, AppendsUntilRefused, HasValueAt, without_value};
-ghost use Rattle.urlpattern.specs.Contending.{AreContentionsBy};
 ghost use Rattle.urlpattern.specs.Reached.{AreReachedBy, LacksParts};
 ghost use Rattle.urlpattern_pattern.specs.UrlPatterns.{UrlPattern};
 ghost use Rattle.urlpattern_syntax.specs.Errors.{OnlyOutOfMemory};
@@ -20,7 +19,6 @@ mod finding;
 mod iter;
 mod matches;
 
-use crate::contention::Contention;
 use crate::list::UrlPatternList;
 pub use iter::UrlPatternMapIter;
 pub use matches::UrlPatternMapMatches;
@@ -213,17 +211,6 @@ impl<T, R: RegExp> UrlPatternMap<T, R> {
         ensures missing { IfErr result (LacksParts (keys_of self.now)) }
     {
         self.patterns.reach_of_each(alloc, limits)
-    }
-
-    /// Returns the pairs of patterns that contend, as `UrlPatternList::contending` does.
-    ///
-    /// The error is `NoParts` if a pattern has no parts, else `OutOfMemory`.
-    pub fn contending(&self, alloc: Global, limits: Limits) -> Result<Vec<Contention>, CompareError>
-        ensures found { IfOk result (λ found.
-            AreContentionsBy R.RegExp limits (keys_of self.now) found.items) }
-        ensures missing { IfErr result (LacksParts (keys_of self.now)) }
-    {
-        self.patterns.contending(alloc, limits)
     }
 }
 

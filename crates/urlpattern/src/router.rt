@@ -2,22 +2,19 @@
 //!
 //! The routes are a map, whose index finds those that can match.
 ghost use Rattle.http_header.specs.Token.{IsToken};
-ghost use Rattle.std.specs.Prelude.{◌≡◌, ◌↔◌, [], true, IfErr, IfOk, IsTrue, MatchOption, None, OnErr, OnOk, Some};
+ghost use Rattle.std.specs.Prelude.{◌≡◌, [], true, IfErr, IfOk, MatchOption, None, OnErr, OnOk, Some};
 ghost use Rattle.std.specs.Str.{chars};
 ghost use Rattle.urlpattern.specs.PatternKeys.{address_of};
-ghost use Rattle.urlpattern.specs.Routes.{AppendsRoute, CallsEngineAt, CallsEngineBeforeRoute, CallsEngineOfRequest, CallsEngineOfServing, IsCandidate, IsHead, IsNewName, IsRouteError, IsRoutePathError, IsRouteFound, IsRouted, IsRoutedPath, IsServed, NoneServesAt, Serves, TakesBy};
+ghost use Rattle.urlpattern.specs.Routes.{AppendsRoute, CallsEngineAt, CallsEngineBeforeRoute, CallsEngineOfRequest, CallsEngineOfServing, IsCandidate, IsNewName, IsRouteError, IsRoutePathError, IsRouteFound, IsRouted, IsRoutedPath, IsServed, NoneServesAt, Serves};
 ghost use Rattle.urlpattern_index.specs.Keys.{hashes_of, hashes_view};
 ghost use Rattle.urlpattern_init.specs.Inheritance.{texts_of_url};
 ghost use Rattle.urlpattern_matches.specs.GroupTexts.{borrowed_texts};
 ghost use Rattle.urlpattern_syntax.specs.Errors.{OnlyOutOfMemory};
-ghost use Rattle.urlpattern_syntax.specs.Text.{option_text};
 
 mod allowed_methods;
 mod named;
-mod reach;
 mod route;
 mod route_error;
-mod route_reaches;
 mod routed;
 
 use crate::map::UrlPatternMap;
@@ -27,7 +24,6 @@ pub use allowed_methods::AllowedMethods;
 use http_header::is_token;
 pub use route::Route;
 pub use route_error::RouteError;
-pub use route_reaches::RouteReaches;
 pub use routed::Routed;
 use std::alloc::Global;
 use url::Url;
@@ -45,8 +41,8 @@ use urlpattern_syntax::error::OutOfMemory;
 pub struct UrlPatternRouter<T, R: RegExp = regex::Regex> {
     /// The routes, in order.
     pub routes: UrlPatternMap<Route<T>, R>,
-    /// Whether a request with the method `HEAD` is served as one with `GET` if no route that has
-    /// the method `HEAD` matches. True unless it is changed.
+    /// Whether a request with the method `HEAD` is served by a route for `GET` if it is served
+    /// by no other. True unless it is changed.
     pub head_as_get: bool,
 }
 
@@ -183,33 +179,25 @@ impl<T, R: RegExp> UrlPatternRouter<T, R> {
             CallsEngineOfServing R.answer self.now (chars method.now)
             (borrowed_texts texts.now)) }
     {
-        if !self.is_head(method) {
-            return self.first_that_takes(alloc, true, method, texts, hashes, first);
-        }
-        let own = self.first_that_takes(alloc, false, "HEAD", texts, hashes, first)?;
-        if let Some((index, value, captures)) = own {
+        let found = self.first_that_takes(alloc, method, texts, hashes, first)?;
+        if let Some((index, value, captures)) = found {
             return Ok(Some((index, value, captures)));
         }
-        self.first_that_takes(alloc, true, "GET", texts, hashes, first)
-    }
-
-    /// Whether the method is `HEAD`, and is served by routes for `GET`.
-    fn is_head(&self, method: &str) -> bool
-        ensures { IsTrue result ↔ IsHead self.now (chars method.now) }
-    {
         if !self.head_as_get {
-            return false;
+            return Ok(None);
         }
-        method == "HEAD"
+        if method != "HEAD" {
+            return Ok(None);
+        }
+        self.first_that_takes(alloc, "GET", texts, hashes, first)
     }
 
-    /// Returns the first route with this method or, if `or_any` is true, for every method whose
-    /// pattern matches eight texts: its index, its value, and the match. `hashes` are those of the
-    /// texts, and no route before the index `first` matches them.
+    /// Returns the first route that serves this method and whose pattern matches eight texts: its
+    /// index, its value, and the match. `hashes` are those of the texts, and no route before the
+    /// index `first` matches them.
     fn first_that_takes<'m, 'u>(
         &'m self,
         alloc: Global,
-        or_any: bool,
         method: &str,
         texts: &Eight<&'u str>,
         hashes: &AddressHashes,
@@ -218,16 +206,16 @@ impl<T, R: RegExp> UrlPatternRouter<T, R> {
         requires hashes { hashes_view hashes.now
             ≡ hashes_of (address_of (borrowed_texts texts.now)) }
         requires first { IsCandidate R.answer self.now.routes (borrowed_texts texts.now) first }
-        ensures found { IfOk result (IsRouteFound R.answer self.now.routes
-            (TakesBy or_any (chars method.now)) (borrowed_texts texts.now)) }
+        ensures found { IfOk result (IsRouteFound R.answer self.now.routes (chars method.now)
+            (borrowed_texts texts.now)) }
         ensures asked { IfErr result (λ _.
-            CallsEngineBeforeRoute R.answer self.now.routes (TakesBy or_any (chars method.now))
+            CallsEngineBeforeRoute R.answer self.now.routes (chars method.now)
             (borrowed_texts texts.now)) }
     {
         let len = self.routes.len();
         let mut found = Some(first);
         while let Some(index) = found {
-            if let Some((value, captures)) = self.served_at(alloc, or_any, method, texts, index)? {
+            if let Some((value, captures)) = self.served_at(alloc, method, texts, index)? {
                 return Ok(Some((index, value, captures)));
             }
             let next = index + 1;
@@ -239,29 +227,28 @@ impl<T, R: RegExp> UrlPatternRouter<T, R> {
         Ok(None)
     }
 
-    /// Returns the value of the route at an index, and the match, if the route has this method or,
-    /// if `or_any` is true, serves every method, and its pattern matches eight texts.
+    /// Returns the value of the route at an index, and the match, if the route serves this method
+    /// and its pattern matches eight texts.
     fn served_at<'m, 'u>(
         &'m self,
         alloc: Global,
-        or_any: bool,
         method: &str,
         texts: &Eight<&'u str>,
         index: usize,
     ) -> Result<Option<(&'m T, UrlPatternCaptures<'m, 'u>)>, OutOfMemory>
         ensures served { IfOk result (λ found. MatchOption found
-            (NoneServesAt R.answer self.now.routes (TakesBy or_any (chars method.now))
-            (borrowed_texts texts.now) index)
-            (λ first. Serves R.answer self.now.routes (TakesBy or_any (chars method.now))
+            (NoneServesAt R.answer self.now.routes (chars method.now) (borrowed_texts texts.now)
+            index)
+            (λ first. Serves R.answer self.now.routes (chars method.now)
             (borrowed_texts texts.now) (index, first.0, first.1))) }
         ensures asked { IfErr result (λ _.
-            CallsEngineAt R.answer self.now.routes (TakesBy or_any (chars method.now))
-            (borrowed_texts texts.now) index) }
+            CallsEngineAt R.answer self.now.routes (chars method.now) (borrowed_texts texts.now)
+            index) }
     {
         let Some((pattern, route)) = self.routes.get(index) else {
             return Ok(None);
         };
-        if !route.takes_by(or_any, method) {
+        if !route.takes(method) {
             return Ok(None);
         }
         match match_of_texts(alloc, pattern, texts)? {
@@ -289,13 +276,27 @@ impl<T: Drop, R: RegExp> UrlPatternRouter<T, R> {
         ensures method { OnOk result (IsToken method.now) }
         ensures refused { IfErr result (IsRouteError self.old.routes None method.now) }
     {
-        self.append(alloc, None, method, pattern, value)
+        if !is_token(method.as_bytes()) {
+            return Err(RouteError::NotAMethod);
+        }
+        let Ok(method) = String::from_str(alloc, method) else {
+            return Err(RouteError::OutOfMemory);
+        };
+        let route = Route {
+            name: None,
+            method: Some(method),
+            value,
+        };
+        let Ok(()) = self.routes.try_insert(pattern, route) else {
+            return Err(RouteError::OutOfMemory);
+        };
+        Ok(())
     }
 
     /// Appends a route for this method, with a name, by which `find` and `link` find it.
     ///
-    /// The error is `NameTaken` if a route has the name, `NotAMethod` unless the method is a token
-    /// of HTTP, else `OutOfMemory`. The pattern and the value are then dropped, and the router is
+    /// The error is `NotAMethod` unless the method is a token of HTTP, `NameTaken` if a route has
+    /// the name, else `OutOfMemory`. The pattern and the value are then dropped, and the router is
     /// unchanged. Takes time in proportion to the number of routes.
     pub fn insert_named(
         &mut self,
@@ -314,36 +315,22 @@ impl<T: Drop, R: RegExp> UrlPatternRouter<T, R> {
         ensures refused { IfErr result
             (IsRouteError self.old.routes (Some (chars name.now)) method.now) }
     {
-        if self.find(name).is_some() {
-            return Err(RouteError::NameTaken);
-        }
-        self.append(alloc, Some(name), method, pattern, value)
-    }
-
-    /// Appends a route for this method, with the name if there is one.
-    ///
-    /// The error is `NotAMethod` unless the method is a token of HTTP, else `OutOfMemory`. The
-    /// pattern and the value are then dropped, and the router is unchanged.
-    fn append(
-        &mut self,
-        alloc: Global,
-        name: Option<&str>,
-        method: &str,
-        pattern: UrlPattern<R>,
-        value: T,
-    ) -> Result<(), RouteError>
-        ensures appended { OnOk result
-            (AppendsRoute self.old (option_text name.entry) (Some (chars method.now)) pattern value
-            self.new) }
-        ensures unchanged { OnErr result (self.new ≡ self.old) }
-        ensures method { OnOk result (IsToken method.now) }
-        ensures refused { IfErr result (IsRouteError self.old.routes None method.now) }
-    {
         if !is_token(method.as_bytes()) {
             return Err(RouteError::NotAMethod);
         }
-        let Ok(route) = Route::new(alloc, name, method, value) else {
+        if self.find(name).is_some() {
+            return Err(RouteError::NameTaken);
+        }
+        let Ok(method) = String::from_str(alloc, method) else {
             return Err(RouteError::OutOfMemory);
+        };
+        let Ok(name) = String::from_str(alloc, name) else {
+            return Err(RouteError::OutOfMemory);
+        };
+        let route = Route {
+            name: Some(name),
+            method: Some(method),
+            value,
         };
         let Ok(()) = self.routes.try_insert(pattern, route) else {
             return Err(RouteError::OutOfMemory);

@@ -33,7 +33,7 @@ use crate::regexp::RegExp;
 /// - `pattern_engine`: a matcher made by `PatternRegexp` from parts without custom expressions
 ///   returns the first way as well, without any premise on the engine.
 /// - `custom`: `regex::Regex` and `PatternRegexp` match custom parts correctly, if case is kept and
-///   the expressions stand alone and capture nothing themselves (`is_self_contained`,
+///   the expressions stand alone and capture nothing themselves (`stands_alone`,
 ///   `captures_nothing`): a matcher returns what the parts capture, where a custom part matches
 ///   what its expression matches by itself. An engine that is needed has to accept the regular
 ///   expression.

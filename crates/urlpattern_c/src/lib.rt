@@ -7,13 +7,10 @@
 
 mod box_parts;
 mod exports;
-mod init_exports;
-mod pair_exports;
 mod patterns;
 mod sharing;
 mod slot;
 mod text_exports;
-mod whole_exports;
 
 pub use exports::{
     urlpattern_add, urlpattern_add_init, urlpattern_captures, urlpattern_component,
@@ -22,20 +19,10 @@ pub use exports::{
     urlpattern_free, urlpattern_group_name, urlpattern_has_meaning, urlpattern_has_regexp_groups,
     urlpattern_link, urlpattern_mismatch, urlpattern_test, urlpattern_version,
 };
-pub use init_exports::{
-    urlpattern_captures_of_init, urlpattern_exec_of_init, urlpattern_first_captures_of_init,
-};
-pub use pair_exports::{
-    urlpattern_counterexample_between, urlpattern_counterexample_within,
-    urlpattern_overlaps_between, urlpattern_overlaps_within,
-};
 pub use patterns::Patterns;
 pub use sharing::{handles_are_sent, urlpattern_share};
 pub use slot::Slot;
 pub use text_exports::{
     urlpattern_captures_of_path, urlpattern_captures_of_texts, urlpattern_first_captures_of_path,
     urlpattern_first_captures_of_texts,
-};
-pub use whole_exports::{
-    urlpattern_generate, urlpattern_is_same_between, urlpattern_is_same_within, urlpattern_text,
 };

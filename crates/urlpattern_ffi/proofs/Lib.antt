@@ -5,7 +5,3 @@ pub mod ReportedInitLemmas
 pub mod WrittenLinkLemmas
 pub mod SpanLemmas
 pub mod ResultDepth
-pub mod InitMatchLemmas
-pub mod WholeTextLemmas
-pub mod PairTextLemmas
-pub mod WrittenTextLemmas

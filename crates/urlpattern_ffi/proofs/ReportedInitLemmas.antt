@@ -1,10 +1,10 @@
 -- Lemmas on inits.
-use Rattle.std.proofs.Common.{ℕ, Bool, List, refl, inl, inr}
+use Rattle.std.proofs.Common.{ℕ, Bool, List, refl, inr}
 use Rattle.urlpattern.specs.Errors.{MemoryOr, error_view}
 use Rattle.urlpattern.specs.Patterns.{pattern_view}
 use Rattle.urlpattern_ffi.proofs.CallLemmas.{reported}
 use Rattle.urlpattern_ffi.specs.Calls.{c_options, error_status, IsPushed}
-use Rattle.urlpattern_ffi.specs.Inits.{IsInitAdded, IsInitOfJson, IsNoInit, IsUnread}
+use Rattle.urlpattern_ffi.specs.Inits.{IsInitAdded, IsInitOfJson}
 use Rattle.urlpattern_ffi.specs.KeptPatterns.{PatternList}
 use Rattle.urlpattern_ffi.specs.declared.status.Status.{Status}
 use Rattle.urlpattern_ffi.specs.declared.status.Status.TheVariants as statuses
@@ -28,8 +28,3 @@ pub init_refused : (old : PatternList) (json : List ℕ) (ignores : Bool) (init 
     → IsInitOfJson json init → MemoryOr (RejectsInit pattern_engine init (c_options ignores)) error → IsInitAdded old json ignores old (error_status (error_view error))
 init_refused old json ignores init error is why =
     reported (IsInitAdded old json ignores old) (RejectsInit pattern_engine init (c_options ignores)) error refl (λ reason. (inr (error_view error, (init, is, reason)), refl)) why
-
--- What is not read is no init.
-pub no_init : (json : List ℕ) (status : Status) → IsUnread json status → IsNoInit json status
-no_init json statuses.Refused unread = inl unread
-no_init json status unread = unread

@@ -37,20 +37,14 @@ HasRejectedBase json error =
     (plain : PlainInit) × (plain_init_of json ≡ Some (init_view plain))
     × RejectsInput (inputs.Init plain) None error
 
--- The status says why a text is not read as an init. `Refused`: the text is not the JSON of an
--- init.
-abbrev pub IsUnread : (json : List ℕ) → Status → Type 0
-IsUnread json statuses.NotUtf8 = ¬ IsUtf8 json
-IsUnread json statuses.Refused = plain_init_of json ≡ None
-IsUnread json statuses.OutOfMemory = Unit {0}
-IsUnread json status = ⊥
-
 -- The status says why there is no init. `Refused`: the text is not the JSON of an init, or its base
--- URL is rejected. Any other status is as in `IsUnread`.
+-- URL is rejected.
 abbrev pub IsNoInit : (json : List ℕ) → Status → Type 0
+IsNoInit json statuses.NotUtf8 = ¬ IsUtf8 json
 IsNoInit json statuses.Refused =
-    IsUnread json statuses.Refused ⊎ ((error : ErrorView) × HasRejectedBase json error)
-IsNoInit json status = IsUnread json status
+    (plain_init_of json ≡ None) ⊎ ((error : ErrorView) × HasRejectedBase json error)
+IsNoInit json statuses.OutOfMemory = Unit {0}
+IsNoInit json status = ⊥
 
 -- The JSON is an init, which is rejected with this error when it is compiled.
 abbrev pub IsInitRejected : (json : List ℕ) → (ignore_case : Bool) → ErrorView → Type 0

@@ -2,7 +2,6 @@ pub mod Calls
 pub mod ReportedCoverings
 pub mod ReportedDiagnoses
 pub mod ReportedMeanings
-pub mod InitMatches
 pub mod Inits
 pub mod KeptPatterns
 pub mod WrittenLinks
@@ -12,6 +11,3 @@ pub mod GroupSpans
 pub mod Statuses
 pub mod TextBuffers
 pub mod TextCaptures
-pub mod WholeTexts
-pub mod PairTexts
-pub mod WrittenTexts

@@ -168,7 +168,7 @@ fn match_text(
 }
 
 /// The JSON of a result, as text with no white space between tokens.
-pub(crate) fn json_text(alloc: Global, found: &UrlPatternResult) -> Result<String, Error>
+fn json_text(alloc: Global, found: &UrlPatternResult) -> Result<String, Error>
     ensures { IfOk result (λ text. IsResultText found.now (string_bytes text)) }
 {
     let tree = found.to_json_value(alloc)?;

@@ -1,6 +1,6 @@
 //! Compiles inits, which C passes as JSON.
 ghost use Rattle.std.specs.Prelude.{◌≡◌, IfErr, IfOk, Some};
-ghost use Rattle.urlpattern_ffi.specs.Inits.{plain_init_of, IsInitAdded, IsInitOfJson, IsNoInit, IsUnread};
+ghost use Rattle.urlpattern_ffi.specs.Inits.{plain_init_of, IsInitAdded, IsInitOfJson, IsNoInit};
 ghost use Rattle.urlpattern_ffi.specs.KeptPatterns.{boxed_patterns};
 ghost use Rattle.urlpattern_inputs.specs.InputValues.{init_view};
 
@@ -43,7 +43,6 @@ pub fn add_init(
 /// Parses an init in JSON, and its base URL.
 ///
 /// The error is the status that says why there is no init.
-#[tactic(auto, using(crate::proofs::ReportedInitLemmas::no_init))]
 pub(crate) fn init_of(alloc: Global, json: &[u8]) -> Result<UrlPatternInit, Status>
     ensures found { IfOk result (IsInitOfJson json.now) }
     ensures missing { IfErr result (IsNoInit json.now) }
@@ -64,11 +63,10 @@ pub(crate) fn init_of(alloc: Global, json: &[u8]) -> Result<UrlPatternInit, Stat
 
 /// Parses an init in JSON, without parsing its base URL.
 ///
-/// The error is the status that says why the JSON is not read: `NotUtf8`, `Refused` if it is not
-/// the JSON of an init, or `OutOfMemory`.
-pub(crate) fn plain_init(alloc: Global, json: &[u8]) -> Result<quirks::UrlPatternInit, Status>
+/// The error is the status that says why there is no init.
+fn plain_init(alloc: Global, json: &[u8]) -> Result<quirks::UrlPatternInit, Status>
     ensures found { IfOk result (λ init. plain_init_of json.now ≡ Some (init_view init)) }
-    ensures missing { IfErr result (IsUnread json.now) }
+    ensures missing { IfErr result (IsNoInit json.now) }
 {
     let Ok(text) = str::from_utf8(json) else {
         return Err(Status::NotUtf8);

@@ -69,7 +69,7 @@ pub fn captures_of_texts(
 
 /// Matches a pattern against eight texts. If it matches, writes the captures of its groups to
 /// `buffer`, a span for each group to `spans`, and the room that both need to `needed`.
-pub(crate) fn write_captures(
+fn write_captures(
     alloc: Global,
     pattern: &UrlPattern<PatternRegexp>,
     texts: &Eight<&str>,
@@ -153,7 +153,7 @@ pub fn first_captures_of_texts(
 /// Finds the first pattern of a list that matches eight texts. If there is one, writes its index,
 /// the captures of its groups to `buffer`, a span for each group to `spans`, and the room that both
 /// need to `needed`.
-pub(crate) fn write_first(
+fn write_first(
     alloc: Global,
     list: &UrlPatternList<PatternRegexp>,
     texts: &Eight<&str>,

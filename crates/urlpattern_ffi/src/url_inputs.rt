@@ -10,7 +10,7 @@ use url::Url;
 use urlpattern_canonical::find_url;
 
 /// From how many bytes on a text is too long.
-pub(crate) const LONG_TEXT: usize = 1 << 24;
+const LONG_TEXT: usize = 1 << 24;
 
 /// Parses `text` as a URL, under a base URL unless `base` is empty.
 ///

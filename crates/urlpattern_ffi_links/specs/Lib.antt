@@ -1,3 +1,2 @@
 pub mod GivenBytes
 pub mod GivenLinks
-pub mod GivenTexts

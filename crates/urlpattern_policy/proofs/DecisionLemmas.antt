@@ -20,7 +20,7 @@ use Rattle.urlpattern_policy.specs.Spellings.{ArePlain, plain_texts}
 use Rattle.urlpattern_policy.specs.declared.decision.Decision.TheVariants.{Deny}
 use Rattle.urlpattern_policy.specs.declared.decision.DenyReason.{DenyReason}
 use Rattle.urlpattern_policy.specs.declared.decision.DenyReason.TheVariants as reasons
-use Rattle.urlpattern_policy.specs.declared.decision.Effect.{Effect}
+use Rattle.urlpattern_differences.specs.declared.rules.Effect.{Effect}
 use Rattle.urlpattern_policy.specs.declared.policy.PolicyOptions.{PolicyOptions}
 use Rattle.urlpattern_policy.specs.declared.policy.UrlPolicy.{UrlPolicy}
 

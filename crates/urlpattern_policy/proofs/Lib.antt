@@ -2,3 +2,4 @@ pub mod DecisionLemmas
 mod SpellingExamples
 pub mod SpellingLaws
 pub mod SpellingLemmas
+pub mod ComparingLemmas

@@ -1,3 +1,4 @@
+pub mod Comparing
 pub mod Decisions
 pub mod DecisionWords
 pub mod PolicyWords

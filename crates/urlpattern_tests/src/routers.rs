@@ -5,11 +5,10 @@ use regex::Regex;
 use std::alloc::Global;
 use std::process::Abort;
 use std::test::Fail;
-use urlpattern::rules::{Reach, USUAL_LIMITS};
 use urlpattern::{ComponentName, Error, NoLink, PathError, RouteError, Routed, UrlPatternRouter};
 
 /// Routes, each with its value. A route without a method is for every method.
-const ROUTES: [(Option<&str>, &str, u32); 11] = [
+const ROUTES: [(Option<&str>, &str, u32); 7] = [
     (Some("GET"), "/users/:id", 1),
     (Some("POST"), "/users/:id", 2),
     (Some("GET"), "/users/:id/*", 3),
@@ -17,15 +16,11 @@ const ROUTES: [(Option<&str>, &str, u32); 11] = [
     (Some("HEAD"), "/files/:id", 5),
     (None, "/state/:id", 6),
     (Some("GET"), "/users/m:id", 7),
-    (Some("GET"), "/docs/:id", 8),
-    (None, "/docs/*", 9),
-    (Some("HEAD"), "/docs/own", 10),
-    (Some("HEAD"), "/state/own", 11),
 ];
 
 /// What is returned for requests: the index of a route, its value and what it captures, or the
 /// methods that are allowed.
-const REQUESTS: [(&str, &str, &str); 22] = [
+const REQUESTS: [(&str, &str, &str); 16] = [
     ("GET", "/users/me", "0 1 me"),
     ("POST", "/users/me", "1 2 me"),
     ("GET", "/users/me/files", "2 3 me"),
@@ -34,12 +29,6 @@ const REQUESTS: [(&str, &str, &str); 22] = [
     ("GET", "/files/a", "3 4 a"),
     ("BREW", "/state/a", "5 6 a"),
     ("HEAD", "/state/a", "5 6 a"),
-    ("GET", "/docs/a", "7 8 a"),
-    ("HEAD", "/docs/a", "7 8 a"),
-    ("POST", "/docs/a", "8 9 "),
-    ("HEAD", "/docs/own", "9 10 "),
-    ("HEAD", "/docs/a/b", "8 9 "),
-    ("HEAD", "/state/own", "10 11 "),
     ("PUT", "/users/you", "not allowed: GET POST"),
     ("PUT", "/users/me", "not allowed: GET POST"),
     ("get", "/users/me", "not allowed: GET POST"),
@@ -170,7 +159,7 @@ fn a_request_gets_the_first_route_for_its_method(rt: HostRuntime) -> Result<(), 
     Ok(())
 }
 
-/// Compares what requests with the method `HEAD` get if routes for `GET` do not serve them.
+/// Compares what requests with the method `HEAD` get if no route for `GET` serves them.
 fn expect_of_head(
     rt: &impl Abort,
     alloc: Global,
@@ -180,8 +169,6 @@ fn expect_of_head(
         ("/users/me", "not allowed: GET POST"),
         ("/files/a", "4 5 a"),
         ("/state/a", "5 6 a"),
-        ("/state/own", "5 6 own"),
-        ("/docs/a", "8 9 "),
         ("/", "not found"),
     ] {
         expect_of_path(rt, alloc, router, ("HEAD", path), Some(expected))?;
@@ -305,11 +292,10 @@ fn expect_link(
     rt: &impl Abort,
     alloc: Global,
     router: &UrlPatternRouter<u32>,
-    link: (&str, &str),
+    name: &str,
     expected: Option<&str>,
 ) -> Result<(), Error> {
-    let (name, id) = link;
-    match linked(alloc, router, name, id) {
+    match linked(alloc, router, name, "a b") {
         Ok(text) => {
             expect_same(rt, text.as_ref().map(|it| it.as_str()), expected, name);
             Ok(())
@@ -328,11 +314,8 @@ fn expect_names(
     expect_named(rt, router, "change", Some((2, 3)));
     expect_named(rt, router, "User", None);
     expect_named(rt, router, "", None);
-    let link = Some("https://example.com/users/a%20b");
-    expect_link(rt, alloc, router, ("change", "a b"), link)?;
-    let link = Some("https://example.com/users/a%2Fb%3Fc");
-    expect_link(rt, alloc, router, ("change", "a/b?c"), link)?;
-    expect_link(rt, alloc, router, ("other", "a b"), None)?;
+    expect_link(rt, alloc, router, "change", Some("https://example.com/users/a%20b"))?;
+    expect_link(rt, alloc, router, "other", None)?;
     let pattern = pattern_of(alloc, &[("pathname", "/")])?;
     match router.insert_named(alloc, "user", "GET", pattern, 4) {
         Err(RouteError::NameTaken) => {}
@@ -340,7 +323,7 @@ fn expect_names(
         Ok(()) => assert!(rt; false),
     }
     let pattern = pattern_of(alloc, &[("pathname", "/")])?;
-    let refused = router.insert_named(alloc, "other", "G T", pattern, 4);
+    let refused = router.insert_named(alloc, "user", "G T", pattern, 4);
     expect_same(rt, refused, Err(RouteError::NotAMethod), "the method");
     let Some((pattern, route)) = router.remove(0) else {
         assert!(rt; false);
@@ -363,56 +346,6 @@ fn expect_names(
 fn a_route_is_found_by_its_name(rt: HostRuntime) -> Result<(), Fail> {
     let mut router = named_routes(rt.alloc())?;
     let outcome = expect_names(&rt, rt.alloc(), &mut router);
-    drop(router);
-    outcome?;
-    Ok(())
-}
-
-/// What is returned of the routes that are tried first for a method: the index of each, and `+` if
-/// it is reached, or the places of those that cover it.
-fn reached(
-    alloc: Global,
-    router: &UrlPatternRouter<u32>,
-    method: &str,
-) -> Result<String, Error> {
-    let mut text = String::new(alloc);
-    let Ok(found) = router.reach_of_each(alloc, method, USUAL_LIMITS) else {
-        return Err(Error::OutOfMemory);
-    };
-    for (index, reach) in found.routes.iter().zip(&found.reaches) {
-        let shown = match reach {
-            Reach::First(_) => format!(in alloc; "{index}+ ")?,
-            Reach::Never(by) => format!(in alloc; "{index}{by:?} ")?,
-            Reach::Unknown(_) => format!(in alloc; "{index}? ")?,
-        };
-        text.push_str(&shown)?;
-    }
-    drop(found);
-    Ok(text)
-}
-
-/// Compares which routes are reached by each method.
-fn expect_reached(
-    rt: &impl Abort,
-    alloc: Global,
-    router: &UrlPatternRouter<u32>,
-) -> Result<(), Error> {
-    for (method, expected) in [
-        ("GET", "0+ 2+ 3+ 5+ 6[0] 7+ 8+ "),
-        ("POST", "1+ 5+ 8+ "),
-        ("HEAD", "4+ 9+ 10+ "),
-        ("PUT", "5+ 8+ "),
-    ] {
-        let found = reached(alloc, router, method)?;
-        expect_same(rt, found.as_str(), expected, method);
-    }
-    Ok(())
-}
-
-#[test]
-fn routes_that_others_cover_are_not_reached(rt: HostRuntime) -> Result<(), Fail> {
-    let router = router_of(rt.alloc())?;
-    let outcome = expect_reached(&rt, rt.alloc(), &router);
     drop(router);
     outcome?;
     Ok(())

@@ -167,15 +167,13 @@ fn by_loop<E: RegExp>(
     method: &str,
     path: &str,
 ) -> Result<Found, Error> {
-    let is_head = router.head_as_get && method == "HEAD";
-    if is_head {
-        if let Some(index) = first_for(alloc, router, method, false, path)? {
+    if let Some(index) = first_for(alloc, router, method, path)? {
+        return Ok(Found::Route(index));
+    }
+    if router.head_as_get && method == "HEAD" {
+        if let Some(index) = first_for(alloc, router, "GET", path)? {
             return Ok(Found::Route(index));
         }
-    }
-    let method = if is_head { "GET" } else { method };
-    if let Some(index) = first_for(alloc, router, method, true, path)? {
-        return Ok(Found::Route(index));
     }
     let mut is_matched = false;
     let mut text = String::new(alloc);
@@ -198,18 +196,15 @@ fn by_loop<E: RegExp>(
     }
 }
 
-/// The index of the first route for a method whose pattern matches a path, by a loop. Routes for
-/// every method count if `or_any` is true.
+/// The index of the first route for a method whose pattern matches a path, by a loop.
 fn first_for<E: RegExp>(
     alloc: Global,
     router: &UrlPatternRouter<usize, E>,
     method: &str,
-    or_any: bool,
     path: &str,
 ) -> Result<Option<usize>, Error> {
     for (index, (pattern, route)) in router.iter().enumerate() {
-        let is_for = route.takes(method) && (or_any || route.method.is_some());
-        if is_for && pattern.test_texts(alloc, &pathname_texts(path))? {
+        if route.takes(method) && pattern.test_texts(alloc, &pathname_texts(path))? {
             return Ok(Some(index));
         }
     }

@@ -77,7 +77,7 @@ impl<'m, 'u, T, R: RegExp> AllowedMethods<'m, 'u, T, R> {
         requires { end ≤ length self.now.routes.now }
         ensures new { IfOk result (λ found. MatchOption found
             (HasNoNewMethod R.answer (allowed_left self.now) end route.now)
-            (λ method. HasMethod (chars method.now) route.now
+            (λ method. HasMethod route.now (chars method.now)
             × ¬ HasMethodBefore R.answer (allowed_left self.now) (chars method.now) end)) }
         ensures asked { IfErr result (λ _. CallsEngineOfRoutes R.answer (allowed_left self.now)) }
     {

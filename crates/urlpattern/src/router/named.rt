@@ -71,12 +71,10 @@ impl<T, R: RegExp> UrlPatternRouter<T, R> {
         Some((pattern, route))
     }
 
-    /// Returns a URL that the pattern of the first route with this name matches, with the values of
-    /// `groups` percent-encoded, as `UrlPattern::link_encoded` does: `decoded` of a match of the
-    /// URL returns exactly these values. `None`: no route has the name.
+    /// Returns a URL that the pattern of the first route with this name matches, as
+    /// `UrlPattern::link` does for `groups`. `None`: no route has the name.
     ///
-    /// The error is that of `UrlPattern::link_encoded`. For values that are not to be encoded,
-    /// `find` returns the pattern, whose `link` writes them as they are.
+    /// The error is that of `UrlPattern::link`.
     pub fn link(
         &self,
         alloc: Global,
@@ -91,7 +89,7 @@ impl<T, R: RegExp> UrlPatternRouter<T, R> {
         let Some((_, pattern, _)) = self.find(name) else {
             return Ok(None);
         };
-        match pattern.link_encoded(alloc, groups) {
+        match pattern.link(alloc, groups) {
             Ok(url) => Ok(Some(url)),
             Err(error) => Err(error),
         }

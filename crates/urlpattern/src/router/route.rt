@@ -1,10 +1,7 @@
 //! Routes of a router: the method that each serves, its name, and its value.
-ghost use Rattle.std.specs.Prelude.{◌≡◌, ◌↔◌, IfOk, IsTrue, Some, option_map};
+ghost use Rattle.std.specs.Prelude.{◌↔◌, IsTrue};
 ghost use Rattle.std.specs.Str.{chars};
-ghost use Rattle.urlpattern.specs.Routes.{HasMethod, HasName, IsRoute, Takes, TakesBy};
-ghost use Rattle.urlpattern_syntax.specs.Text.{option_text, text_of};
-
-use std::alloc::{AllocError, Global};
+ghost use Rattle.urlpattern.specs.Routes.{HasMethod, HasName, Takes};
 
 /// What a router has for a pattern: the method of the requests that the route serves, a value, and
 /// a name if the route has one.
@@ -18,32 +15,10 @@ pub struct Route<T> {
     pub value: T,
 }
 
-impl<T: Drop> Route<T> {
-    /// Returns a route for this method, with the name if there is one.
-    ///
-    /// If memory runs out, the value is dropped.
-    pub(super) fn new(
-        alloc: Global,
-        name: Option<&str>,
-        method: &str,
-        value: T,
-    ) -> Result<Self, AllocError>
-        ensures { IfOk result (IsRoute (option_text name.entry) (Some (chars method.now)) value) }
-    {
-        let name = copied(alloc, name)?;
-        let method = String::from_str(alloc, method)?;
-        Ok(Self {
-            name,
-            method: Some(method),
-            value,
-        })
-    }
-}
-
 impl<T> Route<T> {
     /// Whether the route has this method. Case counts.
     pub(super) fn has_method(&self, method: &str) -> bool
-        ensures { IsTrue result ↔ HasMethod (chars method.now) self.now }
+        ensures { IsTrue result ↔ HasMethod self.now (chars method.now) }
     {
         match &self.method {
             Some(own) => own.as_str() == method,
@@ -63,29 +38,8 @@ impl<T> Route<T> {
 
     /// Whether the route serves requests with this method. Case counts.
     pub fn takes(&self, method: &str) -> bool
-        ensures { IsTrue result ↔ Takes (chars method.now) self.now }
+        ensures { IsTrue result ↔ Takes self.now (chars method.now) }
     {
         self.method.is_none() || self.has_method(method)
     }
-
-    /// Whether the route has this method or, if `or_any` is true, serves every method.
-    pub(super) fn takes_by(&self, or_any: bool, method: &str) -> bool
-        ensures { IsTrue result ↔ TakesBy or_any (chars method.now) self.now }
-    {
-        if or_any {
-            return self.takes(method);
-        }
-        self.has_method(method)
-    }
-}
-
-/// Returns a copy of the name, if there is one.
-fn copied(alloc: Global, name: Option<&str>) -> Result<Option<String>, AllocError>
-    ensures { IfOk result (λ copy.
-        option_map (λ own. text_of own) copy ≡ option_text name.entry) }
-{
-    let Some(name) = name else {
-        return Ok(None);
-    };
-    Ok(Some(String::from_str(alloc, name)?))
 }

@@ -10,11 +10,12 @@ ghost use Rattle.urlpattern_policy.specs.Decisions.{Decides, DecidesTexts, Decid
 ghost use Rattle.urlpattern_syntax.specs.RegexpText.{is_empty};
 
 use super::UrlPolicy;
-use crate::decision::{Decision, DenyReason, Effect};
+use crate::decision::{Decision, DenyReason};
 use crate::spelled_texts::{are_plain, plain_texts};
 use std::alloc::Global;
 use url::{ParseError, Url};
 use urlpattern_components::Eight;
+use urlpattern_differences::Effect;
 use urlpattern_matcher::regexp::RegExp;
 use urlpattern_matches::{input_texts, url_texts};
 

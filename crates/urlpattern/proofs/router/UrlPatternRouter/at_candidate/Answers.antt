@@ -1,4 +1,5 @@
 use Rattle.std.proofs.Common.{inr}
+use Rattle.std.specs.Str.{chars}
 use Rattle.urlpattern.proofs.NextLemmas.{asks-of_all}
 use Rattle.urlpattern.proofs.RouteLemmas.{next_entry, none-matches}
 use Rattle.urlpattern.specs.PatternMaps.{entry_patterns}
@@ -24,4 +25,4 @@ returns-in-Some-2-clause-routed g c =
 
 pub returns-in-None-clause-routed : goal.returns-in-None-clause-routed
 returns-in-None-clause-routed g c =
-    none-matches g.R.RegExp.answer c.args.self.now.routes (borrowed_texts c.args.texts) (rw c.in-None.is at c.in_ok-captures.ensures.first)
+    none-matches g.R.RegExp.answer c.args.self.now.routes (chars c.args.method.now) (borrowed_texts c.args.texts) (rw c.in-None.is at c.in_ok-captures.ensures.first)

@@ -1,3 +1,4 @@
+use Rattle.std.specs.Str.{chars}
 use Rattle.urlpattern.proofs.RouteLemmas.{none-matches}
 use Rattle.urlpattern_matches.specs.GroupTexts.{borrowed_texts}
 use Rattle.urlpattern.proofs.router.UrlPatternRouter.at_texts.Goals as goal
@@ -7,4 +8,4 @@ at_candidate-requires-clause-first g c = (c.in-Some.ensures.within.1, c.in-Some.
 
 pub returns-in-None-clause-routed : goal.returns-in-None-clause-routed
 returns-in-None-clause-routed g c =
-    none-matches g.R.RegExp.answer c.args.self.now.routes (borrowed_texts c.args.texts) (c.in-None.ensures.passed (borrowed_texts c.args.texts) c.fill.ensures)
+    none-matches g.R.RegExp.answer c.args.self.now.routes (chars c.args.method.now) (borrowed_texts c.args.texts) (c.in-None.ensures.passed (borrowed_texts c.args.texts) c.fill.ensures)

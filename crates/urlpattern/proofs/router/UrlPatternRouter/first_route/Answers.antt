@@ -1,44 +1,27 @@
-use Rattle.std.proofs.Common.{inl, inr, sym, ◌∙◌}
-use Rattle.std.proofs.lemmas.Bool.{false≢true}
+use Rattle.std.proofs.Common.{inr}
 use Rattle.std.proofs.lemmas.Result.{IfErr-weaker}
 use Rattle.std.specs.Str.{chars}
 use Rattle.urlpattern.proofs.FixedLemmas.{ok-weaker}
-use Rattle.urlpattern_pattern.proofs.Results.{if_err}
+use Rattle.urlpattern.proofs.RouteLemmas.{is_head, served-by_get}
+use Rattle.urlpattern.specs.Routes.{IsHead}
+use Rattle.urlpattern_matches.specs.GroupTexts.{borrowed_texts}
 use Rattle.urlpattern.proofs.router.UrlPatternRouter.first_route.Goals as goal
 
-pub returns-then-not-is_head-clause-served : goal.returns-then-not-is_head-clause-served
-returns-then-not-is_head-clause-served g c =
-    ok-weaker _ _ c.first_that_takes.result c.first_that_takes.ensures.found (λ found is.
-    record { head = λ head. absurd (false≢true (sym c.if-not-is_head.true ∙ c.is_head.ensures.1 head)); other = λ _. is })
-
-pub returns-then-not-is_head-clause-asked : goal.returns-then-not-is_head-clause-asked
-returns-then-not-is_head-clause-asked g c =
-    IfErr-weaker c.first_that_takes.result _ _ (λ error asks.
-    record { head = λ head. absurd (false≢true (sym c.if-not-is_head.true ∙ c.is_head.ensures.1 head)); other = λ _. asks })
-    c.first_that_takes.ensures.asked
-
-pub returns-in_err-own-clause-asked : goal.returns-in_err-own-clause-asked
-unfolding chars
-returns-in_err-own-clause-asked g c =
-    let head = c.is_head.ensures.0 c.if-not-is_head.false in
-    if_err _ c.from_residual.result (record { head = λ _. inl c.in_err-own.ensures.asked; other = λ no. absurd (no head) })
-
-pub returns-in-Some-clause-served : goal.returns-in-Some-clause-served
-unfolding chars
-returns-in-Some-clause-served g c =
-    let head = c.is_head.ensures.0 c.if-not-is_head.false in
-    record { head = λ _. inl (rw c.in-Some.is at c.in_ok-own.ensures.found); other = λ no. absurd (no head) }
+pub returns-then-ne-clause-served : goal.returns-then-ne-clause-served
+returns-then-ne-clause-served g c = record {
+  own = rw c.in_default.is at c.in_ok-found.ensures.found;
+  get = λ (on, head). absurd ((is_head c.args.method.now c.utf8.method c.ne.result c.ne.ensures).0 c.if-ne.true head);
+}
 
 pub returns-clause-served : goal.returns-clause-served
 unfolding chars
 returns-clause-served g c =
-    let head = c.is_head.ensures.0 c.if-not-is_head.false in
-    ok-weaker _ _ c.first_that_takes-3.result c.first_that_takes-3.ensures.found (λ found is.
-    record { head = λ _. inr (rw c.in_default.is at c.in_ok-own.ensures.found, is); other = λ no. absurd (no head) })
+    let head : IsHead c.args.self.now (chars c.args.method.now) = (c.if-not-self.false, (is_head c.args.method.now c.utf8.method c.ne.result c.ne.ensures).1 c.if-ne.false) in
+    ok-weaker _ _ c.first_that_takes-2.result c.first_that_takes-2.ensures.found (λ found is.
+    served-by_get g.R.RegExp.answer c.args.self.now (chars c.args.method.now) (borrowed_texts c.args.texts.now) found head (rw c.in_default.is at c.in_ok-found.ensures.found) is)
 
 pub returns-clause-asked : goal.returns-clause-asked
 unfolding chars
 returns-clause-asked g c =
-    let head = c.is_head.ensures.0 c.if-not-is_head.false in
-    IfErr-weaker c.first_that_takes-3.result _ _ (λ error asks.
-    record { head = λ _. inr (rw c.in_default.is at c.in_ok-own.ensures.found, asks); other = λ no. absurd (no head) }) c.first_that_takes-3.ensures.asked
+    let head : IsHead c.args.self.now (chars c.args.method.now) = (c.if-not-self.false, (is_head c.args.method.now c.utf8.method c.ne.result c.ne.ensures).1 c.if-ne.false) in
+    IfErr-weaker c.first_that_takes-2.result _ _ (λ error asks. inr (head, rw c.in_default.is at c.in_ok-found.ensures.found, asks)) c.first_that_takes-2.ensures.asked

@@ -1,20 +1,21 @@
-use Rattle.std.proofs.Common.{sym, ◌∙◌}
-use Rattle.std.proofs.lemmas.Result.{IfErr-weaker, on_ok_weaker}
+use Rattle.http_header.specs.Token.{IsToken}
+use Rattle.std.proofs.Common.{ap, refl, subst, sym, ◌∙◌}
+use Rattle.std.specs.Prelude.{Some}
 use Rattle.std.specs.Str.{chars}
-use Rattle.urlpattern.proofs.RouteLemmas.{named-new, named-taken, rename_error}
+use Rattle.urlpattern.proofs.RouteLemmas.{named-taken}
 use Rattle.urlpattern.proofs.router.UrlPatternRouter.insert_named.Goals as goal
 
 pub returns-then-is_some-clause-refused : goal.returns-then-is_some-clause-refused
-returns-then-is_some-clause-refused g c =
-    named-taken c.args.self.now.routes (chars c.args.name.now) c.find.result c.find.ensures (sym c.is_some.ensures ∙ c.if-is_some.true)
+returns-then-is_some-clause-refused g c = (
+  subst IsToken c.as_bytes.ensures.value (c.is_token.ensures.0 c.if-not-is_token.false),
+  named-taken c.args.self.now.routes (chars c.args.name.now) c.find.result c.find.ensures (sym c.is_some.ensures ∙ c.if-is_some.true),
+)
 
-pub returns-clause-refused : goal.returns-clause-refused
-returns-clause-refused g c =
-    let routes = c.args.self.now.routes in
-    let new = named-new routes (chars c.args.name.now) c.find.result c.find.ensures (sym c.is_some.ensures ∙ c.if-is_some.false) in
-    IfErr-weaker c.append.result _ _ (λ error is. rename_error routes (chars c.args.name.now) c.args.method.now new error is) c.append.ensures.refused
-
-pub returns-clause-name : goal.returns-clause-name
-returns-clause-name g c =
-    let new = named-new c.args.self.now.routes (chars c.args.name.now) c.find.result c.find.ensures (sym c.is_some.ensures ∙ c.if-is_some.false) in
-    on_ok_weaker c.append.result (λ token. new) c.append.ensures.method
+pub returns-clause-appended : goal.returns-clause-appended
+returns-clause-appended g c = (
+  record { name = Some c.in-Ok-from_str.name; method = Some c.in-Ok.method; value = c.args.value },
+  ap (λ routes. record { routes = routes; head_as_get = c.args.self.now.head_as_get }) c.in-Ok-try_insert.ensures.appended,
+  ap (λ bytes. Some (chars bytes)) c.in-Ok-from_str.ensures.ok,
+  ap (λ bytes. Some (chars bytes)) c.in-Ok.ensures.ok,
+  refl,
+)

@@ -45,7 +45,7 @@ returns-then-has_method-clause-listed g c =
         next.entry,
         below,
         next.there,
-        subst (HasMethod (chars c.args.method.now)) next.value_is (c.has_method.ensures.0 c.if-has_method.true),
+        subst (λ route. HasMethod route (chars c.args.method.now)) next.value_is (c.has_method.ensures.0 c.if-has_method.true),
         λ component. (next.matched.captures component, next.matched.are_answers component),
       ),
       λ before. refl,
@@ -59,7 +59,7 @@ loop-from-preserved g c =
     (rw c.in-Some.is at c.in_ok-index.ensures.groups) (rw c.in-Some.is at c.in_ok-index.ensures.value) in
     let method = chars c.args.method.now in
     unlisted-more answer left method c.in-Some.index next.entry next.there (unlisted-up_to answer left method c.loop-from.from c.in-Some.index c.loop-from.invariant next.before)
-    (λ has. false≢true (sym c.if-has_method.false ∙ c.has_method.ensures.1 (subst (HasMethod method) (sym next.value_is) has)))
+    (λ has. false≢true (sym c.if-has_method.false ∙ c.has_method.ensures.1 (subst (λ route. HasMethod route method) (sym next.value_is) has)))
 
 pub returns-clause-listed : goal.returns-clause-listed
 returns-clause-listed g c =

@@ -41,7 +41,7 @@ returns-in-Some-2-clause-next g c =
       has = (
         next.entry,
         next.there,
-        subst (HasMethod (chars c.in-Some-2.method.now)) {y = next.entry.1} next.value_is has,
+        subst (λ route. HasMethod route (chars c.in-Some-2.method.now)) {y = next.entry.1} next.value_is has,
         λ component. (next.matched.captures component, next.matched.are_answers component),
       );
       once = once;
