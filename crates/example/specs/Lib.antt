@@ -1,9 +1,0 @@
-pub mod NamedUsers
-pub mod FirstRule
-pub mod Grants
-pub mod Routes
-pub mod Same
-pub mod Users
-pub mod Sites
-pub mod Orders
-pub mod Docs

@@ -1,4 +1,0 @@
-pub mod Decisions
-pub mod DecisionWords
-pub mod PolicyWords
-pub mod Spellings
