@@ -7,3 +7,4 @@ pub mod Users
 pub mod Sites
 pub mod Orders
 pub mod Docs
+pub mod Server

@@ -31,6 +31,8 @@ pub struct Explained<'a> {
     pub values: &'a UrlPatternInit,
     /// What is noted of each component.
     pub noted: &'a Eight<Noted>,
+    /// The pattern as a constructor string that needs no base URL, if there is one.
+    pub text: &'a Option<String>,
 }
 
 impl Explained<'_> {

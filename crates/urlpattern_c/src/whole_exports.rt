@@ -30,7 +30,8 @@ pub extern "C" fn urlpattern_text(
     status.number()
 }
 
-/// Whether the patterns at two indices are the same: 1 if they are, 0 if not.
+/// Whether the patterns at two indices are the same: 1 if they are, 0 if not, 8 if an index is out
+/// of range.
 #[unsafe(no_mangle)]
 pub extern "C" fn urlpattern_is_same_within(
     alloc: Global,
@@ -49,7 +50,7 @@ pub extern "C" fn urlpattern_is_same_within(
 }
 
 /// Whether the pattern at `index` and the pattern of `others` at `other` are the same: 1 if they
-/// are, 0 if not.
+/// are, 0 if not, 8 if an index is out of range.
 #[unsafe(no_mangle)]
 pub extern "C" fn urlpattern_is_same_between(
     alloc: Global,

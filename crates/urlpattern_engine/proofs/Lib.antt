@@ -1,3 +1,4 @@
+pub mod GeneratedTextLemmas
 pub mod GrammarResults
 pub mod TextParts
 pub mod AutomatonLemmas

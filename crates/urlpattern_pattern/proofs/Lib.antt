@@ -11,4 +11,5 @@ pub mod MeaningLemmas
 pub mod MatchersDecide
 pub mod ByTextLemmas
 pub mod ReadBackLemmas
+pub mod CopyLemmas
 mod ConstructorTextExamples

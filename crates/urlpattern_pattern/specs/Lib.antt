@@ -14,3 +14,4 @@ pub mod Patterns
 pub mod UrlPatterns
 pub mod ConstructorTexts
 pub mod ReadBack
+pub mod PatternCopies

@@ -7,6 +7,8 @@
 #[cfg(test)]
 mod captures;
 #[cfg(test)]
+mod copies;
+#[cfg(test)]
 mod decoded;
 #[cfg(test)]
 mod given;
@@ -30,6 +32,8 @@ mod plain;
 mod requests;
 #[cfg(test)]
 mod results;
+#[cfg(test)]
+mod route_tables;
 #[cfg(test)]
 mod routers;
 #[cfg(test)]
