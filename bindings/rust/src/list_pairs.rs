@@ -4,6 +4,17 @@ use crate::error::answer;
 use crate::{c, Error, UrlPatternInit, UrlPatternList};
 use std::ptr;
 
+/// Why it is not known whether a pattern covers another one.
+#[derive(Clone, Copy, Debug, PartialEq, Eq)]
+pub enum CoveringReason {
+    /// A component has a custom regular expression.
+    CustomExpression,
+    /// A component ignores case.
+    IgnoredCase,
+    /// It would take too many steps to compare them.
+    TooMany,
+}
+
 impl UrlPatternList {
     /// Whether a pattern is the same as one of this list or of another: whether both have the same
     /// parts, names and options.
@@ -15,6 +26,30 @@ impl UrlPatternList {
                 c::urlpattern_is_same_between(self.at(), index, others.at(), other)
             }
         })
+    }
+
+    /// Why it is not known whether a pattern covers the asked one, of this list or of another.
+    /// `None`: it is known.
+    pub fn covering_reason(
+        &self,
+        index: usize,
+        others: &Self,
+        asked: usize,
+    ) -> Result<Option<CoveringReason>, Error> {
+        let mut number = 0;
+        let is_unknown = answer(unsafe {
+            if ptr::eq(self, others) {
+                c::urlpattern_covering_reason_within(self.at(), index, asked, &mut number)
+            } else {
+                let others = others.at();
+                c::urlpattern_covering_reason_between(self.at(), index, others, asked, &mut number)
+            }
+        })?;
+        Ok(is_unknown.then_some(match number {
+            1 => CoveringReason::CustomExpression,
+            2 => CoveringReason::IgnoredCase,
+            _ => CoveringReason::TooMany,
+        }))
     }
 
     /// Texts that the asked pattern, of this list or of another, matches and a pattern does not: an

@@ -12,9 +12,13 @@ use Rattle.regex_meta.specs.contracts.plan.Plans as Plans
 use Rattle.regex_meta.specs.contracts.program.Program as Program
 use Rattle.regex_nfa.proofs.nfa.Nfa.TheSendSync as nfa
 use Rattle.urlpattern.proofs.list.UrlPatternList.TheSendSync as list
+use Rattle.urlpattern.proofs.router.UrlPatternRouter.TheSendSync as router
 use Rattle.urlpattern_engine.proofs.strategy.StepSearch.TheSendSync as search_of_steps
 use Rattle.urlpattern_engine.specs.contracts.pattern_regexp.PatternRegexp as PatternRegexp
 use Rattle.urlpattern_ffi.specs.contracts.pattern_box.PatternBox as PatternBox
+use Rattle.urlpattern_ffi_tables.specs.contracts.policy_box.PolicyBox as PolicyBox
+use Rattle.urlpattern_ffi_tables.specs.contracts.router_box.RouterBox as RouterBox
+use Rattle.urlpattern_policy.proofs.policy.UrlPolicy.TheSendSync as policy
 use Rattle.urlpattern_steps.proofs.step.Step.TheSendSync as step
 
 hir_send : IsSend (Hir.the_field).row
@@ -29,6 +33,9 @@ program_send = search (hir_send, plans_send, dfa.the_field_send, byte_set.the_se
 regex_send : IsSend (Regex.the_field).row
 regex_send = search (program_send, crosses, sendable) depth 60 fits 20000
 
+engine_send : IsSend (PatternRegexp.the_field).row
+engine_send = search (regex_send, nfa.the_field_send, step.the_field_send, search_of_steps.the_field_send, crosses, sendable) depth 60 fits 20000
+
 hir_sync : IsSync (Hir.the_field).row
 hir_sync = search (crosses, knot.crosses_both, sendable) depth 60 fits 20000
 
@@ -41,14 +48,14 @@ program_sync = search (hir_sync, plans_sync, dfa.the_field_sync, byte_set.the_sy
 regex_sync : IsSync (Regex.the_field).row
 regex_sync = search (program_sync, crosses, sendable) depth 60 fits 20000
 
--- What the copies of a value share goes to another thread only if several may read it.
-ruleset shared = (regex_send, regex_sync, nfa.the_field_send, nfa.the_field_sync, step.the_field_send, step.the_field_sync, search_of_steps.the_field_send, search_of_steps.the_field_sync)
-
-engine_send : IsSend (PatternRegexp.the_field).row
-engine_send = search (shared, crosses, sendable) depth 60 fits 20000
-
 engine_sync : IsSync (PatternRegexp.the_field).row
-engine_sync = search (shared, crosses, sendable) depth 60 fits 20000
+engine_sync = search (regex_sync, nfa.the_field_sync, step.the_field_sync, search_of_steps.the_field_sync, crosses, sendable) depth 60 fits 20000
 
 pub patterns_send : IsSend PatternBox.the_row
 patterns_send = search (engine_send, engine_sync, list.the_send, list.the_sync, crosses, sendable) depth 60 fits 20000
+
+pub router_send : IsSend RouterBox.the_row
+router_send = search (engine_send, engine_sync, router.the_send, router.the_sync, crosses, sendable) depth 60 fits 20000
+
+pub policy_send : IsSend PolicyBox.the_row
+policy_send = search (engine_send, engine_sync, policy.the_send, policy.the_sync, crosses, sendable) depth 60 fits 20000

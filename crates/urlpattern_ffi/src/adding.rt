@@ -1,11 +1,10 @@
 //! Compiles constructor strings, and appends patterns to those of a handle.
-ghost use Rattle.std.specs.Arc.{arc_value};
-ghost use Rattle.std.specs.Prelude.{◌≡◌, ◌≢◌, [], option_copied, IfErr, IfOk};
+ghost use Rattle.std.specs.Prelude.{◌≡◌, option_copied, IfErr, IfOk};
 ghost use Rattle.urlpattern_ffi.specs.Calls.{given_base, c_options, error_status, IsAdded, IsCompiledFromText, IsPushed, KeepsItsParts, RejectsCompilation};
 ghost use Rattle.urlpattern_ffi.specs.KeptPatterns.{boxed_patterns};
 ghost use Rattle.urlpattern.specs.Errors.{error_view, MemoryOr};
 
-use crate::pattern_box::{PatternBox, boxed_pattern};
+use crate::pattern_box::{PatternBox, take_or_make_empty};
 use crate::status::Status;
 use std::alloc::Global;
 use std::str;
@@ -42,7 +41,7 @@ pub fn add(
 }
 
 /// The status for an error of compiling: `OutOfMemory`, or `Refused` for any other error.
-pub(crate) fn status_of_error(error: &Error) -> Status
+pub fn status_of_error(error: &Error) -> Status
     ensures { result ≡ error_status (error_view error.now) }
 {
     match error {
@@ -52,14 +51,14 @@ pub(crate) fn status_of_error(error: &Error) -> Status
 }
 
 /// The base URL that a text gives. `None`: the text is empty.
-pub(crate) fn given_base(text: &str) -> Option<&str>
+pub fn given_base(text: &str) -> Option<&str>
     ensures { option_copied result ≡ given_base text.now }
 {
     if text.is_empty() { None } else { Some(text) }
 }
 
 /// Compiles a constructor string, under a base URL if there is one.
-fn compiled(
+pub fn compiled(
     alloc: Global,
     text: &str,
     base: Option<&str>,
@@ -75,7 +74,7 @@ fn compiled(
 }
 
 /// The options with which patterns are compiled: the syntax of `regex`, and case ignored or not.
-pub(crate) fn options(ignore_case: bool) -> UrlPatternOptions
+pub fn options(ignore_case: bool) -> UrlPatternOptions
     ensures { result ≡ c_options ignore_case }
 {
     UrlPatternOptions {
@@ -86,8 +85,6 @@ pub(crate) fn options(ignore_case: bool) -> UrlPatternOptions
 
 /// Appends a pattern to `kept`, the patterns of a handle. `OutOfMemory`: memory ran out. `Shared`:
 /// another handle has the patterns. In both cases they are unchanged.
-///
-/// Handles that have no pattern share nothing: the first pattern gets a list of its own.
 pub(crate) fn push(
     alloc: Global,
     kept: &mut Option<Box<PatternBox>>,
@@ -95,34 +92,16 @@ pub(crate) fn push(
 ) -> Status
     ensures { IsPushed (boxed_patterns kept.old) pattern (boxed_patterns kept.new) result }
 {
-    match kept.take() {
-        Some(mut taken) if !taken.list.is_empty() => {
-            let status = append(&mut taken, pattern);
-            *kept = Some(taken);
-            status
-        }
-        _ => match boxed_pattern(alloc, pattern) {
-            Ok(made) => {
-                *kept = Some(made);
-                Status::Done
-            }
-            Err(_) => Status::OutOfMemory,
-        },
-    }
-}
-
-/// Appends a pattern to those in a box, of which there is one at least. `OutOfMemory`: memory ran
-/// out. `Shared`: another handle has the patterns. In both cases they are unchanged.
-fn append(kept: &mut Box<PatternBox>, pattern: UrlPattern<PatternRegexp>) -> Status
-    requires { arc_value kept.old.value.list ≢ [] }
-    ensures { IsPushed (arc_value kept.old.value.list) pattern (arc_value kept.new.value.list)
-        result }
-{
-    match Arc::get_mut(&mut kept.list) {
+    let Ok(mut taken) = take_or_make_empty(alloc, kept) else {
+        return Status::OutOfMemory;
+    };
+    let status = match Arc::get_mut(&mut taken.list) {
         Some(list) => match list.try_push(pattern) {
             Ok(()) => Status::Done,
             Err(_) => Status::OutOfMemory,
         },
         None => Status::Shared,
-    }
+    };
+    *kept = Some(taken);
+    status
 }

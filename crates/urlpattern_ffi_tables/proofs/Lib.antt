@@ -1,0 +1,5 @@
+mod AllowedLemmas
+mod NamedLinkLemmas
+mod PolicyLemmas
+mod ReasonLemmas
+mod RouteLemmas

@@ -1,0 +1,66 @@
+//! Writes the URL of the route with a name, for given groups.
+ghost use Rattle.urlpattern_ffi_tables.specs.KeptRouters.{boxed_router};
+ghost use Rattle.urlpattern_ffi_tables.specs.RouteLinks.{IsNamedLinkWritten, IsRouteLinkReported};
+
+use crate::router_box::{RouterBox, router_of};
+use std::alloc::Global;
+use std::str;
+use urlpattern::regexp::PatternRegexp;
+use urlpattern::{NoLink, UrlPatternRouter};
+use urlpattern_ffi::{GivenBytes, Status, write, write_reason};
+use urlpattern_ffi_links::{Unlinked, groups_of};
+
+/// Writes the URL of the first route with a name, with the groups that `given` cuts out of `text`,
+/// percent-encoded, to `buffer`, and its length in bytes to `needed`. `NoMatch`: no route has the
+/// name. `Refused`: there is no URL, and the reason is written in its place. `NoPattern`: the
+/// handle has no routes, or an element of `given` gives no group.
+pub fn link_route(
+    alloc: Global,
+    kept: &Option<Box<RouterBox>>,
+    name: &[u8],
+    text: &[u8],
+    given: &[GivenBytes],
+    buffer: &mut [u8],
+    needed: &mut usize,
+) -> Status
+    ensures { IsRouteLinkReported (boxed_router kept.now) name.now text.now given.now buffer.old
+        buffer.new needed.new result }
+{
+    let router = match router_of(kept) {
+        Some(router) => router,
+        None => return Status::NoPattern,
+    };
+    let Ok(name) = str::from_utf8(name) else {
+        return Status::NotUtf8;
+    };
+    link_named(alloc, router, name, text, given, buffer, needed)
+}
+
+/// Writes the URL of the first route of a router with a name, with the groups that `given` cuts out
+/// of `text`, percent-encoded, to `buffer`, and its length in bytes to `needed`. `NoMatch`: no
+/// route has the name. `Refused`: there is no URL, and the reason is written in its place.
+/// `NoPattern`: an element of `given` gives no group.
+fn link_named(
+    alloc: Global,
+    router: &UrlPatternRouter<(), PatternRegexp>,
+    name: &str,
+    text: &[u8],
+    given: &[GivenBytes],
+    buffer: &mut [u8],
+    needed: &mut usize,
+) -> Status
+    ensures { IsNamedLinkWritten router.now name.now text.now given.now buffer.old buffer.new
+        needed.new result }
+{
+    let groups = match groups_of(alloc, text, given) {
+        Ok(groups) => groups,
+        Err(Unlinked::Given) => return Status::NoPattern,
+        Err(_) => return Status::OutOfMemory,
+    };
+    match router.link(alloc, name, &groups) {
+        Ok(Some(url)) => write(url.as_str(), buffer, needed),
+        Ok(None) => Status::NoMatch,
+        Err(NoLink::OutOfMemory) => Status::OutOfMemory,
+        Err(reason) => write_reason(alloc, &reason, buffer, needed),
+    }
+}
