@@ -1,13 +1,13 @@
 //! Tests that the data replayed by `bench` cannot express: components built by hand, engines that
-//! return what no engine should, the elements of lists and maps, routers, borrowed matches, copies
-//! and comparisons of small values, calls with no or a bounded number of requests for memory, and
-//! lines that are too long. The crate has tests only.
+//! return what no engine should, the elements of lists and maps, routers, conditions, borrowed
+//! matches, copies and comparisons of small values, calls with no or a bounded number of requests
+//! for memory, and lines that are too long. The crate has tests only.
 #![tactic(auto)]
 
 #[cfg(test)]
 mod captures;
 #[cfg(test)]
-mod copies;
+mod conditions;
 #[cfg(test)]
 mod decoded;
 #[cfg(test)]
@@ -32,8 +32,6 @@ mod plain;
 mod requests;
 #[cfg(test)]
 mod results;
-#[cfg(test)]
-mod route_tables;
 #[cfg(test)]
 mod routers;
 #[cfg(test)]

@@ -1,0 +1,4 @@
+pub mod ConditionLemmas
+pub mod MemberLemmas
+pub mod ReadingExamples
+pub mod WritingLemmas

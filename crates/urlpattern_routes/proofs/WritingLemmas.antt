@@ -1,0 +1,20 @@
+-- Lemmas on the JSON of rules.
+use Rattle.std.proofs.Common.{◌≡◌, ℕ, Bool, List, [], ◌∷◌, ap, map, refl, rules}
+use Rattle.std.specs.List.{list_any}
+use Rattle.serde_json.specs.Data.{item}
+use Rattle.serde_json.specs.View.{items_of}
+use Rattle.urlpattern_routes.specs.Trees.{condition_tree, tree_items}
+use Rattle.urlpattern_routes.specs.Views.{condition_view, listed}
+use Rattle.urlpattern_routes.specs.declared.condition.RouterCondition.{RouterCondition}
+
+pub items-listed : (conditions : List RouterCondition) → items_of (map (λ one. condition_tree (condition_view one)) conditions) ≡ tree_items (listed (map condition_view conditions))
+items-listed [] = refl
+items-listed (one ∷ rest) = ap (item (condition_tree (condition_view one))) (items-listed rest)
+
+pub map-twice : {X Y Z : Type 0} (f : X → Y) (g : Y → Z) (xs : List X) → map (λ x. g (f x)) xs ≡ map g (map f xs)
+map-twice f g [] = refl
+map-twice f g (x ∷ xs) = ap (λ rest. g (f x) ∷ rest) (map-twice f g xs)
+
+pub list_any-map : {X Y : Type 0} (f : X → Y) (test : Y → Bool) (xs : List X) → list_any (λ x. test (f x)) xs ≡ list_any test (map f xs)
+list_any-map f test [] = refl
+list_any-map f test (x ∷ xs) = rw (list_any-map f test xs) refl

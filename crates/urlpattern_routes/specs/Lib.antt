@@ -1,0 +1,10 @@
+pub mod Names
+pub mod Methods
+pub mod Texts
+pub mod Faults
+pub mod Views
+pub mod Members
+pub mod Sources
+pub mod Conditions
+pub mod Rules
+pub mod Trees
