@@ -8,7 +8,7 @@ use std::alloc::Global;
 use url::Url;
 use urlpattern_engine::PatternRegexp;
 use urlpattern_pattern::UrlPattern;
-use urlpattern_policy::{Decision, DenyReason, Effect, UrlPolicy, is_plain_pattern};
+use urlpattern_policy::{Decision, DenyReason, Effect, UrlPolicy};
 use urlpattern_syntax::Error;
 
 /// Whether a policy decides about each text of the question as recorded. A decision is recorded as
@@ -17,22 +17,32 @@ pub fn is_same(case: &Case<'_>) -> Result<bool, Fault> {
     let Answer::Ok(recorded) = case.answer else {
         return Ok(false);
     };
-    let policy = policy(case.alloc, case.question)?;
+    let policy = policy_of(case.alloc, case.question)?;
     let base = base(case.alloc, case.question)?;
+    are_decided(case.alloc, &policy, base.as_ref(), recorded)
+}
+
+/// Whether a policy decides about texts as recorded, and alike about their URLs.
+pub fn are_decided(
+    alloc: Global,
+    policy: &UrlPolicy<PatternRegexp>,
+    base: Option<&Url>,
+    recorded: &Value,
+) -> Result<bool, Fault> {
     for pair in list(recorded, "decisions")? {
-        let decision = policy.decide(case.alloc, text(pair, "of")?, base.as_ref());
-        if !is_recorded(case.alloc, decision, text(pair, "is")?)? {
+        let decision = policy.decide(alloc, text(pair, "of")?, base);
+        if !is_recorded(alloc, decision, text(pair, "is")?)? {
             return Ok(false);
         }
-        if !agrees(case.alloc, &policy, base.as_ref(), text(pair, "of")?, decision)? {
+        if !agrees(alloc, policy, base, text(pair, "of")?, decision)? {
             return Ok(false);
         }
     }
     Ok(true)
 }
 
-/// The policy of a question.
-fn policy(alloc: Global, question: &Value) -> Result<UrlPolicy<PatternRegexp>, Fault> {
+/// The policy that an object describes.
+pub fn policy_of(alloc: Global, question: &Value) -> Result<UrlPolicy<PatternRegexp>, Fault> {
     let mut policy = UrlPolicy::new(alloc);
     policy.options.plain_spelling = !is_set(question, "as_spelled");
     policy.options.denies_credentials = is_set(question, "denies_credentials");
@@ -51,7 +61,7 @@ fn policy(alloc: Global, question: &Value) -> Result<UrlPolicy<PatternRegexp>, F
     Ok(policy)
 }
 
-/// The pattern of a rule, a constructor string in plain spelling, unless the rule says otherwise.
+/// The pattern of a rule, a constructor string.
 fn pattern(
     alloc: Global,
     rule: &Value,
@@ -59,8 +69,7 @@ fn pattern(
 ) -> Result<UrlPattern<PatternRegexp>, Fault> {
     let options = given::options(alloc, rule)?;
     match UrlPattern::from_constructor_string(alloc, text(rule, effect)?, None, options) {
-        Ok(pattern) if is_plain_pattern(&pattern) != is_set(rule, "not_plain") => Ok(pattern),
-        Ok(_) => Err(Fault::NoCase),
+        Ok(pattern) => Ok(pattern),
         Err(Error::OutOfMemory) => Err(Fault::OutOfMemory),
         Err(_) => Err(Fault::NoCase),
     }

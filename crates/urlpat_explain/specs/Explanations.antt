@@ -29,7 +29,6 @@ use Rattle.urlpattern_init.specs.declared.init.UrlPatternInit.{UrlPatternInit}
 use Rattle.urlpattern_init.specs.declared.init.UrlPatternMatchInput.TheVariants as match_inputs
 use Rattle.urlpattern_pattern.specs.Match.{TestsInput}
 use Rattle.urlpattern_pattern.specs.Patterns.{PatternView, pattern_view}
-use Rattle.urlpattern_pattern.specs.ReadBack.{IsConstructorString}
 use Rattle.urlpattern_pattern.specs.UrlPatterns.{UrlPattern}
 
 -- ---- arguments
@@ -102,16 +101,14 @@ IsExplained json explained base (Some input) found =
 abbrev pub IsExplanationOf : (json : Bool) → UrlPattern PatternRegexp → UrlPatternInit → Places
     → AskedView → Explanation → Type 0
 IsExplanationOf json compiled init places asked found =
-    (values : Values) × (noted : Eight Noted) × (text : Option (List ℕ))
+    (values : Values) × (noted : Eight Noted)
     × (pattern_values init ≡ Ok values) × AreNoted compiled noted
-    × IsConstructorString pattern_engine compiled text
     × IsExplained json (record {
       pattern = pattern_view compiled;
       given = values_view init;
       places = places;
       values = values;
       noted = noted;
-      text = text;
     }) asked.base asked.input found
 
 -- `found` is the output for the arguments, given the compiled pattern. The texts of the init have

@@ -158,7 +158,6 @@ fn explanation_of(
     ensures status { IfOk result (λ found. (found.status ≡ DONE) ⊎ (found.status ≡ NO_MATCH)) }
 {
     let noted = noted_of(alloc, pattern)?;
-    let text = pattern.to_constructor_string(alloc)?;
     let values = pattern_values(alloc, init)?;
     let explained = Explained {
         pattern,
@@ -166,7 +165,6 @@ fn explanation_of(
         places,
         values: &values,
         noted: &noted,
-        text: &text,
     };
     let found = answer(alloc, &explained, json, asked.base, asked.input);
     drop(values);

@@ -1,5 +1,6 @@
+pub mod AlikeDecisions
+pub mod Comparing
 pub mod Decisions
 pub mod DecisionWords
-pub mod PlainPatterns
 pub mod PolicyWords
 pub mod Spellings

@@ -4,15 +4,6 @@ ghost use Rattle.urlpattern_policy.specs.DecisionWords.{is_allow};
 
 use url::ParseError;
 
-/// What a rule decides about the URLs that its pattern matches.
-#[derive(Debug, Clone, Copy, PartialEq, Eq)]
-pub enum Effect {
-    /// Each of the URLs is denied.
-    Deny,
-    /// Each of the URLs is allowed.
-    Allow,
-}
-
 /// What a policy decides about a URL, or about a text that may be none.
 #[derive(Debug, Clone, Copy, PartialEq, Eq)]
 pub enum Decision {
@@ -41,7 +32,7 @@ pub enum DenyReason {
     Rule(usize),
     /// No rule matches, and the default is to deny.
     NoRule,
-    /// The text is no URL; or its host is opaque, and `url` rejects it under `http`.
+    /// The text is no URL.
     NotAUrl(ParseError),
     /// The text or the base URL has 16 MB or more.
     TooLong,

@@ -5,14 +5,17 @@
 //! brought to its plain spelling.
 #![tactic(auto)]
 
+mod comparing;
 mod decision;
 pub mod laws;
-mod plain_patterns;
 mod policy;
 mod spelled_texts;
 mod spelling;
 
-pub use decision::{Decision, DenyReason, Effect};
-pub use plain_patterns::is_plain_pattern;
+pub use comparing::{
+    DifferenceDoubt, DifferentTexts, PolicyDifference, PolicyExcess, difference, is_within,
+};
+pub use decision::{Decision, DenyReason};
 pub use policy::{PolicyOptions, UrlPolicy};
 pub use spelled_texts::{are_plain, plain_texts};
+pub use urlpattern_differences::Effect;
