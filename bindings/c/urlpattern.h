@@ -29,7 +29,7 @@
  * Rules. A program that permits what matches does so for DONE alone, which is not 0, so that a
  * variable of zeros permits nothing. A program that denies what matches permits the rest for
  * NO_MATCH alone: the text is a URL, a path or an init, and is not matched. No other status says
- * so. NO_MATCH is 0: there a status that was never written permits everything.
+ * so.
  *
  * Base URLs. A base URL does not tie a URL to its host. Under `https://example.com/` the text
  * `//other.com/x` is the URL `https://other.com/x`, also with backslashes, and an absolute URL is
@@ -73,7 +73,7 @@ typedef enum urlpattern_status {
     URLPATTERN_NO_URL = 2,        /* a text or an init is no URL, or its base is none */
     URLPATTERN_NO_PATH = 3,       /* a text is no path: it does not begin with `/`, or has a `?`, a
                                    * `#` or a line feed */
-    URLPATTERN_TOO_LONG = 4,      /* a URL, its base or an init has 16 MB (2^24 bytes) or more */
+    URLPATTERN_TOO_LONG = 4,      /* a URL or a base URL has 16 MB (2^24 bytes) or more */
     URLPATTERN_NOT_UTF8 = 5,      /* a text is not UTF-8 */
     URLPATTERN_REFUSED = 6,       /* a pattern is refused, or JSON is no init; of
                                    * `urlpattern_link` and `urlpattern_generate`: there is no
@@ -83,7 +83,7 @@ typedef enum urlpattern_status {
                                    * of `urlpattern_link` and `urlpattern_generate` also: a part
                                    * that is given is no text */
     URLPATTERN_TOO_SMALL = 9,     /* too little room; `needed` has the size that is needed */
-    URLPATTERN_UNKNOWN = 10,      /* a comparison of two patterns is not decided */
+    URLPATTERN_UNKNOWN = 10,      /* it is not known whether a pattern covers another one */
     URLPATTERN_SHARED = 11        /* another handle has the same patterns, so that none is added */
 } urlpattern_status;
 
@@ -142,7 +142,7 @@ void urlpattern_free(urlpattern_list *patterns);
 
 /* Gives another handle the same patterns, in the memory that they have. What the other one had is
  * freed, also if there are no patterns to give. As long as both have them, none is added to either,
- * and each frees them by itself. The caller passes two handles, not one twice.
+ * and each frees them by itself. The two are never the same handle.
  * DONE, or OUT_OF_MEMORY: both handles are as they were. */
 urlpattern_status urlpattern_share(urlpattern_list *patterns, urlpattern_list *other);
 
@@ -354,18 +354,15 @@ urlpattern_status urlpattern_text(urlpattern_list *patterns, size_t index, char 
 
 /* Whether two patterns of the handle are the same: each component has the same parts, the same
  * names of groups and the same options in both, however the patterns were written. The same
- * patterns match the same URLs with the same captures; that is proved unless one ignores case and
- * has a custom regular expression.
+ * patterns match the same URLs with the same captures.
  * DONE (they are), NO_MATCH (they are not), or NO_PATTERN (of one of the two indices). */
 urlpattern_status urlpattern_is_same_within(urlpattern_list *patterns, size_t index, size_t other);
 
-/* Does what `urlpattern_is_same_within` does, with a pattern of another handle. The caller
- * passes two handles, not one twice. */
+/* The same of a pattern of another handle. The two are never the same handle. */
 urlpattern_status urlpattern_is_same_between(urlpattern_list *patterns, size_t index,
                                              urlpattern_list *others, size_t other);
 
-/* Calls `urlpattern_is_same_within` if the handles are one, or else
- * `urlpattern_is_same_between`. */
+/* The same of a pattern of another handle or of the same one, as `urlpattern_covers` is. */
 static inline urlpattern_status urlpattern_is_same(urlpattern_list *patterns, size_t index,
                                                    urlpattern_list *others, size_t other) {
     return patterns == others ? urlpattern_is_same_within(patterns, index, other)
@@ -396,15 +393,15 @@ urlpattern_status urlpattern_has_meaning(urlpattern_list *patterns, size_t index
 urlpattern_status urlpattern_covers_within(urlpattern_list *patterns, size_t index, size_t asked,
                                            urlpattern_component_number *component);
 
-/* Does what `urlpattern_covers_within` does, with an asked pattern of another handle. The caller
- * passes two handles, not one twice: each is taken for the time of the call, and what the call
- * does with one that is taken twice is not known. */
+/* The same of an asked pattern of another handle. The two are never the same handle: each is
+ * taken for the time of the call, and what the call does with one that is taken twice is not
+ * known. */
 urlpattern_status urlpattern_covers_between(urlpattern_list *patterns, size_t index,
                                             urlpattern_list *others, size_t asked,
                                             urlpattern_component_number *component);
 
-/* Calls `urlpattern_covers_within` if the handles are one, or else `urlpattern_covers_between`.
- * The library has no function of this name: this one is the header's. */
+/* The same of an asked pattern of another handle or of the same one. The library has no function
+ * of this name: this one is the header's, and calls the one that is right for the handles. */
 static inline urlpattern_status urlpattern_covers(urlpattern_list *patterns, size_t index,
                                                   urlpattern_list *others, size_t asked,
                                                   urlpattern_component_number *component) {
@@ -415,32 +412,28 @@ static inline urlpattern_status urlpattern_covers(urlpattern_list *patterns, siz
 
 /* Writes texts that the asked pattern matches, another pattern of the handle, and the pattern of
  * this index does not, as an init in JSON: in the component that `urlpattern_covers` writes, the
- * one matches the text and the other does not. A component of which no text is known is left out:
- * the asked pattern may match none. The init has at most 1,048,576 bytes.
+ * one matches the text and the other does not. A component of which no text is known is left out.
  * DONE, NO_MATCH (there are none: the pattern covers the asked one), UNKNOWN (as of
  * `urlpattern_covers`), OUT_OF_MEMORY, NO_PATTERN (of one of the two indices), or TOO_SMALL. */
 urlpattern_status urlpattern_counterexample_within(urlpattern_list *patterns, size_t index,
                                                    size_t asked, char *buffer, size_t room,
                                                    size_t *needed);
 
-/* Does what `urlpattern_counterexample_within` does, with an asked pattern of another handle.
- * The caller passes two handles, not one twice. */
+/* The same of an asked pattern of another handle. The two are never the same handle. */
 urlpattern_status urlpattern_counterexample_between(urlpattern_list *patterns, size_t index,
                                                     urlpattern_list *others, size_t asked,
                                                     char *buffer, size_t room, size_t *needed);
 
 /* Whether two patterns of the handle overlap: whether there are texts that both match. Writes such
- * texts, as an init in JSON of at most 1,048,576 bytes. A component that is the same in both is
- * left out where no text is known that it matches: it may match none, as `([^\s\S])` does, and
- * then the patterns overlap in the others alone.
+ * texts, as an init in JSON. A component that is the same in both is left out where no text is
+ * known that it matches.
  * DONE (they overlap), NO_MATCH (there are no such texts), UNKNOWN (because of a component, where
  * no other one decides), OUT_OF_MEMORY, NO_PATTERN (of one of the two indices), or TOO_SMALL (they
  * overlap, and there is no room for the texts). */
 urlpattern_status urlpattern_overlaps_within(urlpattern_list *patterns, size_t index, size_t other,
                                              char *buffer, size_t room, size_t *needed);
 
-/* Does what `urlpattern_overlaps_within` does, with a pattern of another handle. The caller
- * passes two handles, not one twice. */
+/* The same of a pattern of another handle. The two are never the same handle. */
 urlpattern_status urlpattern_overlaps_between(urlpattern_list *patterns, size_t index,
                                               urlpattern_list *others, size_t other, char *buffer,
                                               size_t room, size_t *needed);
@@ -455,8 +448,7 @@ typedef struct urlpattern_place {
     size_t end;
 } urlpattern_place;
 
-/* Writes why `urlpattern_add` refuses these texts, and the place that is at fault. The reason has
- * at most 1,024 bytes and 16 for each byte of the two texts.
+/* Writes why `urlpattern_add` refuses these texts, and the place that is at fault.
  * DONE, NO_MATCH (they are accepted), NOT_UTF8, OUT_OF_MEMORY, or TOO_SMALL. For DONE and
  * TOO_SMALL `place` is written; for the others nothing is promised of it. */
 urlpattern_status urlpattern_diagnose(const char *text, size_t length, const char *base,
@@ -465,7 +457,7 @@ urlpattern_status urlpattern_diagnose(const char *text, size_t length, const cha
 
 /* Writes why `urlpattern_add_init` refuses an init, and the place that is at fault in one of its
  * texts; or, if the component at fault is inherited, since the init has no text for it, in what is
- * inherited. The reason has at most 1,024 bytes and 16 for each byte of the JSON.
+ * inherited.
  * DONE, NO_MATCH (it is accepted), NOT_UTF8, REFUSED (the JSON is no init, or the base URL is
  * refused, and no reason is written), OUT_OF_MEMORY, or TOO_SMALL, with `place` as of
  * `urlpattern_diagnose`. */

@@ -8,7 +8,7 @@ use std::alloc::Global;
 use url::Url;
 use urlpattern_engine::PatternRegexp;
 use urlpattern_pattern::UrlPattern;
-use urlpattern_policy::{Decision, DenyReason, Effect, UrlPolicy, is_plain_pattern};
+use urlpattern_policy::{Decision, DenyReason, Effect, UrlPolicy};
 use urlpattern_syntax::Error;
 
 /// Whether a policy decides about each text of the question as recorded. A decision is recorded as
@@ -51,7 +51,7 @@ fn policy(alloc: Global, question: &Value) -> Result<UrlPolicy<PatternRegexp>, F
     Ok(policy)
 }
 
-/// The pattern of a rule, a constructor string in plain spelling, unless the rule says otherwise.
+/// The pattern of a rule, a constructor string.
 fn pattern(
     alloc: Global,
     rule: &Value,
@@ -59,8 +59,7 @@ fn pattern(
 ) -> Result<UrlPattern<PatternRegexp>, Fault> {
     let options = given::options(alloc, rule)?;
     match UrlPattern::from_constructor_string(alloc, text(rule, effect)?, None, options) {
-        Ok(pattern) if is_plain_pattern(&pattern) != is_set(rule, "not_plain") => Ok(pattern),
-        Ok(_) => Err(Fault::NoCase),
+        Ok(pattern) => Ok(pattern),
         Err(Error::OutOfMemory) => Err(Fault::OutOfMemory),
         Err(_) => Err(Fault::NoCase),
     }

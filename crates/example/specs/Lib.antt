@@ -7,4 +7,3 @@ pub mod Users
 pub mod Sites
 pub mod Orders
 pub mod Docs
-pub mod Server

@@ -343,7 +343,6 @@ fn servers<W: Write>(alloc: Global, out: &mut W) -> io::Result<()> {
         ("HEAD", "/users/a%20b"),
         ("POST", "/users/123"),
         ("GET", "/files"),
-        ("GET", "/search?q=a"),
     ] {
         write_line(out, server::response_line(alloc, method, path))?;
     }

@@ -2,7 +2,6 @@
 
 use crate::{pattern, text};
 use std::alloc::Global;
-use url::Url;
 use urlpattern::Error;
 // docs: policy_imports
 use urlpattern::regexp::PatternRegexp;
@@ -20,7 +19,7 @@ pub fn decision_line(alloc: Global, asked: &str) -> Result<String, Error> {
     policy.deny(pattern(alloc, "https://api.example.com/internal/*")?)?;
     policy.allow(pattern(alloc, "https://api.example.com/*")?)?;
     // docs: end
-    let may_fetch = may_fetch(alloc, &policy, asked).is_some();
+    let may_fetch = may_fetch(alloc, &policy, asked);
     let reason = reason(alloc, &policy, asked);
     drop(policy);
     let reason = reason?;
@@ -28,14 +27,9 @@ pub fn decision_line(alloc: Global, asked: &str) -> Result<String, Error> {
 }
 
 // docs: may_fetch
-/// The URL that a program may fetch for this text, if there is one.
-fn may_fetch(alloc: Global, policy: &Policy, asked: &str) -> Option<Url> {
-    let url = Url::parse(alloc, asked).ok()?;
-    if policy.decide_url(alloc, &url).is_allowed() {
-        Some(url)
-    } else {
-        None
-    }
+/// Whether a program may fetch the URL of this text.
+fn may_fetch(alloc: Global, policy: &Policy, asked: &str) -> bool {
+    policy.decide(alloc, asked, None).is_allowed()
 }
 // docs: end
 

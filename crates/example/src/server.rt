@@ -1,20 +1,9 @@
-//! A server's routes: what a request gets, with the page, or the methods that are allowed, and the
-//! link to a page.
-
-ghost use Rattle.example.specs.Server.{IsAllow, IsPatternOfPath, IsResponse, IsRouteOf, IsShown, captured_id, user_groups};
-ghost use Rattle.std.specs.List.{AllZip};
-ghost use Rattle.std.specs.Prelude.{IfOk, codes};
-ghost use Rattle.std.specs.Str.{chars};
-ghost use Rattle.urlpattern.specs.Errors.{OnlyOutOfMemory};
-ghost use Rattle.urlpattern.specs.PatternRegexps.{pattern_result};
-ghost use Rattle.urlpattern.specs.Routes.{IsRouteLink};
+//! A server's routes: the status that a request gets, with the page, or the methods that are
+//! allowed, and the link to a page.
 
 use crate::text;
-use std::alloc::AllocError;
-use url::Url;
 // docs: server
 use std::alloc::Global;
-use std::borrow::CowStr;
 use urlpattern::regexp::PatternRegexp;
 use urlpattern::{
     AllowedMethods, ComponentName, DecodeError, Error, NoLink, PathError, Routed, UrlPattern,
@@ -24,29 +13,18 @@ use urlpattern::{
 /// A router whose values are the names of pages.
 type Pages = UrlPatternRouter<&'static str, PatternRegexp>;
 
-/// The routes, in order: a method, a path, and a page, which is also the route's name.
-const ROUTES: [(&str, &str, &str); 10] = [
-    ("GET", "/", "home"),
-    ("GET", "/users", "users"),
-    ("POST", "/users", "added"),
-    ("GET", "/users/:id", "profile"),
-    ("PUT", "/users/:id", "changed"),
-    ("DELETE", "/users/:id", "removed"),
-    ("GET", "/users/:id/files/*", "file"),
-    ("GET", "/search", "search"),
-    ("POST", "/search", "found"),
-    ("GET", "/static/*", "asset"),
-];
-
-/// Returns a router with a route for each row, in order.
-fn pages(alloc: Global, rows: &[(&'static str, &'static str, &'static str)]) -> Result<Pages, Error>
-    ensures { IfOk result (λ pages. AllZip IsRouteOf rows.now pages.routes) }
-{
+/// Returns routes, each with its page, which is also its name.
+fn pages(alloc: Global) -> Result<Pages, Error> {
     let mut pages = UrlPatternRouter::new(alloc);
-    for row in rows {
-        let (method, path, page) = *row;
-        let pattern = pattern_of_path(alloc, path)?;
-        // An error is that memory ran out, if the methods are tokens and the names differ.
+    for (method, pathname, page) in [
+        ("GET", "/users/:id", "profile"),
+        ("PUT", "/users/:id", "changed"),
+        ("POST", "/users", "added"),
+    ] {
+        let mut init = UrlPatternInit::default();
+        init.pathname = Some(String::from_str(alloc, pathname)?);
+        let pattern = UrlPattern::parse(alloc, init, UrlPatternOptions::default())?;
+        // An error is that memory ran out, since the methods are tokens, and the names differ.
         let Ok(()) = pages.insert_named(alloc, page, method, pattern, page) else {
             return Err(Error::OutOfMemory);
         };
@@ -55,128 +33,79 @@ fn pages(alloc: Global, rows: &[(&'static str, &'static str, &'static str)]) -> 
 }
 // docs: end
 
-/// Compiles the pattern of a path, which leaves all other components open.
-fn pattern_of_path(alloc: Global, path: &str) -> Result<UrlPattern<PatternRegexp>, Error>
-    ensures { IfOk result (IsPatternOfPath (chars path.now)) }
-{
-    let text = String::from_str(alloc, path)?;
-    let mut init = UrlPatternInit::default();
-    init.pathname = Some(text);
-    let options = UrlPatternOptions::default();
-    UrlPattern::parse(alloc, init, options)
+/// The response to a request, in words.
+pub fn response_line(alloc: Global, method: &str, path: &str) -> Result<String, Error> {
+    let pages = pages(alloc)?;
+    let response = response(alloc, &pages, method, path);
+    drop(pages);
+    response
 }
 
-/// What a request gets.
+/// The response by the routes, in words.
 // docs: routed
-#[derive(Drop)]
-enum Response<'u> {
-    /// The status 200: a page, and the id in the path, if there is one.
-    Page(&'static str, Option<CowStr<'u>>),
-    /// The status 405: the methods for the header `Allow`.
-    NotAllowed(String),
-    /// The status 404.
-    NotFound,
-    /// The status 400: what was requested is no path, or its id is not UTF-8.
-    BadRequest,
-}
-
-/// Returns what a request gets.
-fn respond<'u>(
-    alloc: Global,
-    pages: &Pages,
-    method: &str,
-    path: &'u str,
-) -> Result<Response<'u>, Error>
-    ensures response { IfOk result (IsResponse pages.now (chars method.now) (chars path.now)) }
-    ensures memory { OnlyOutOfMemory result }
-{
+fn response(alloc: Global, pages: &Pages, method: &str, path: &str) -> Result<String, Error> {
     match pages.at(alloc, method, path) {
-        Ok(Routed::Found(_, page, found)) => shown(alloc, *page, &found),
-        Ok(Routed::MethodNotAllowed(methods)) => Ok(Response::NotAllowed(allow(alloc, methods)?)),
-        Ok(Routed::NotFound) => Ok(Response::NotFound),
-        Err(PathError::NotAPath) => Ok(Response::BadRequest),
+        Ok(Routed::Found(_, page, found)) => shown(alloc, page, &found),
+        Ok(Routed::MethodNotAllowed(methods)) => not_allowed(alloc, methods),
+        Ok(Routed::NotFound) => text(alloc, "404"),
+        Err(PathError::NotAPath) => text(alloc, "400"),
         Err(PathError::OutOfMemory) => Err(Error::OutOfMemory),
     }
 }
 // docs: end
 
-/// Returns what a request gets that a route with this page serves.
-fn shown<'u>(
-    alloc: Global,
-    page: &'static str,
-    found: &UrlPatternCaptures<'_, 'u>,
-) -> Result<Response<'u>, Error>
-    ensures shown { IfOk result (IsShown page.entry (captured_id found.now)) }
-    ensures memory { OnlyOutOfMemory result }
-{
-    // docs: decoded
+/// The response to a request that a route serves, in words.
+// docs: decoded
+fn shown(alloc: Global, page: &str, found: &UrlPatternCaptures<'_, '_>) -> Result<String, Error> {
     match found.decoded(alloc, ComponentName::Pathname, "id") {
-        Ok(id) => Ok(Response::Page(page, id)),
-        Err(DecodeError::Utf8(_)) => Ok(Response::BadRequest),
+        Ok(Some(id)) => Ok(format!(in alloc; "200 {page} {id}")?),
+        Ok(None) => Ok(format!(in alloc; "200 {page}")?),
+        Err(DecodeError::Utf8(_)) => text(alloc, "400"),
         Err(DecodeError::OutOfMemory) => Err(Error::OutOfMemory),
     }
-    // docs: end
 }
+// docs: end
 
-/// Returns the methods that are allowed, as the header `Allow` has them.
-fn allow(
+/// The response to a request with a method that is not allowed, in words.
+// docs: allowed
+fn not_allowed(
     alloc: Global,
     methods: AllowedMethods<'_, '_, &'static str, PatternRegexp>,
-) -> Result<String, Error>
-    ensures allow { IfOk result (IsAllow methods.entry) }
-    ensures memory { OnlyOutOfMemory result }
-{
-    let mut names = Vec::new(alloc);
+) -> Result<String, Error> {
+    let mut response = text(alloc, "405 Allow: ")?;
+    let mut is_first = true;
     for method in methods {
-        names.push(method?)?;
+        if !is_first {
+            response.push_str(", ")?;
+        }
+        response.push_str(method?)?;
+        is_first = false;
     }
-    Ok(names.join(alloc, ", ")?)
+    Ok(response)
+}
+// docs: end
+
+/// The link to the page of a user, in words.
+pub fn link_line(alloc: Global, id: &str) -> Result<String, Error> {
+    let pages = pages(alloc)?;
+    let link = link(alloc, &pages, id);
+    drop(pages);
+    link
 }
 
-/// Returns the URL of a user's page, of which `decoded` returns exactly the id. `None`: no route
-/// has the name.
-fn user_url(alloc: Global, pages: &Pages, id: &str) -> Result<Option<Url>, NoLink>
-    ensures { IfOk result (IsRouteLink pattern_result pages.now.routes (chars (codes "profile"))
-        (user_groups (chars id.now))) }
-{
+/// The link to the page of a user by the routes, in words.
+fn link(alloc: Global, pages: &Pages, id: &str) -> Result<String, Error> {
     // docs: named_link
     let groups = [
         (ComponentName::Protocol, "0", "https"),
         (ComponentName::Hostname, "0", "example.com"),
         (ComponentName::Pathname, "id", id),
     ];
-    pages.link(alloc, "profile", &groups)
-    // docs: end
-}
-
-/// What a request gets, in words.
-pub fn response_line(alloc: Global, method: &str, path: &str) -> Result<String, Error> {
-    let pages = pages(alloc, &ROUTES)?;
-    let response = respond(alloc, &pages, method, path);
-    drop(pages);
-    Ok(in_words(alloc, response?)?)
-}
-
-/// A response, in words.
-fn in_words(alloc: Global, response: Response<'_>) -> Result<String, AllocError> {
-    match response {
-        Response::Page(page, Some(id)) => format!(in alloc; "200 {page} {id}"),
-        Response::Page(page, None) => format!(in alloc; "200 {page}"),
-        Response::NotAllowed(allow) => format!(in alloc; "405 Allow: {allow}"),
-        Response::NotFound => String::from_str(alloc, "404"),
-        Response::BadRequest => String::from_str(alloc, "400"),
-    }
-}
-
-/// The link to the page of a user, in words.
-pub fn link_line(alloc: Global, id: &str) -> Result<String, Error> {
-    let pages = pages(alloc, &ROUTES)?;
-    let url = user_url(alloc, &pages, id);
-    drop(pages);
-    match url {
+    match pages.link(alloc, "profile", &groups) {
         Ok(Some(url)) => Ok(format!(in alloc; "{url}")?),
         Ok(None) => text(alloc, "no route has this name"),
         Err(NoLink::OutOfMemory) => Err(Error::OutOfMemory),
         Err(error) => Ok(format!(in alloc; "{error}")?),
     }
+    // docs: end
 }

@@ -1,6 +1,9 @@
 pub mod AnswerExamples
 pub mod CommandAnswerLemmas
 pub mod FirstCommandLemmas
-pub mod ShortLemmas
 pub mod FilterCommandLemmas
 pub mod CommandNoteLemmas
+pub mod PrintedListLemmas
+pub mod RouteLemmas
+mod RuleExamples
+pub mod DoubtLemmas

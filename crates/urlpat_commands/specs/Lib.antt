@@ -1,6 +1,8 @@
 pub mod CommandAnswers
+pub mod ComponentAnswers
 pub mod FilterLines
 pub mod FirstJson
-pub mod Kinds
-pub mod CommandNotes
-pub mod Report
+pub mod PrintedCoverings
+pub mod Doubts
+pub mod TableRoutes
+pub mod UnreachedLines

@@ -5,15 +5,14 @@ use Rattle.std.specs.Prelude.{Option, None, Some}
 use Rattle.serde_json.specs.Data.{Data, Members, no_members, put}
 use Rattle.serde_json.specs.Written.{has_float, members_have_float}
 use Rattle.urlpat_explain.specs.Explained.{ExplainedView}
-use Rattle.urlpat_explain.specs.ExplainedJson.{AreInputMembers, IsExplainedTree, IsExplanationTree, Named, captured_members, groups_named, noted_members, pattern_members, place_members, text_members, verdict_members}
+use Rattle.urlpat_explain.specs.ExplainedJson.{AreInputMembers, IsExplainedTree, IsExplanationTree, Named, captured_members, groups_named, noted_members, pattern_members, place_members, verdict_members}
 use Rattle.urlpat_explain.specs.declared.noted.Noted.{Noted}
-use Rattle.urlpat_explain.proofs.ExplanationTreeLemmas.{all_with-append}
 use Rattle.urlpat_matching.proofs.MatchJsonLemmas.{each-none, put-none}
 use Rattle.urlpattern_components.specs.Eight.{Texts, at, components}
 use Rattle.urlpattern_components.specs.declared.eight.ComponentName.{ComponentName}
 use Rattle.urlpattern_engine.specs.declared.pattern_regexp.PatternRegexp.{PatternRegexp}
 use Rattle.urlpattern_diagnosis.specs.declared.span.Span.{Span}
-use Rattle.urlpattern_inputs.specs.Trees.{all_with, each_member}
+use Rattle.urlpattern_inputs.specs.Trees.{all_with}
 use Rattle.urlpattern_meaning.specs.PartMeaning.{Captures}
 use Rattle.urlpattern_pattern.specs.Patterns.{PatternView}
 
@@ -71,14 +70,6 @@ component-none explained texts name tree (members, are, is) =
 
 -- ---- all components
 
-text-none : (text : Option (List ℕ)) → AreWithoutFloat (text_members text)
-text-none None = (tt, tt)
-text-none (Some text) = (refl, tt)
-
 pub explanation-none : (explained : ExplainedView) (texts : Option Texts) (tree : Data) → IsExplanationTree explained texts tree → has_float tree ≡ false
 explanation-none explained texts tree (trees, are, is) =
-    let each = each_member (λ name. Some (at trees name)) in
-    let text = text_members explained.text in
-    ap has_float is ∙ ap members_have_float (all_with-append no_members each text)
-    ∙ all_with-none (all_with no_members each) text (text-none explained.text)
-    (each-none (λ name. at trees name) (λ name. component-none explained texts name (at trees name) (are name)) components no_members refl)
+    ap has_float is ∙ each-none (λ name. at trees name) (λ name. component-none explained texts name (at trees name) (are name)) components no_members refl

@@ -7,4 +7,3 @@ pub mod ExplanationTreeLemmas
 mod NotedExamples
 mod RowExamples
 pub mod GivenWordLemmas
-pub mod LinkCommandLemmas

@@ -14,15 +14,14 @@ use Rattle.urlpattern_pattern.specs.Patterns.{PatternView, pattern_view}
 use Rattle.urlpattern_syntax.specs.Text.{option_text}
 
 -- The compiled pattern of a constructor string; the texts that the string itself has for components
--- (`given`), and their places in it; the values of the components, inherited ones included; what is
--- noted of each component; and the pattern as a constructor string (`text`), if there is one.
+-- (`given`), and their places in it; the values of the components, inherited ones included; and
+-- what is noted of each component.
 pub record ExplainedView : Type 0 where
   pub pattern : PatternView PatternRegexp
   pub given : Values
   pub places : Places
   pub values : Values
   pub noted : Eight Noted
-  pub text : Option (List ℕ)
 
 -- The view of an `Explained`.
 abbrev pub explained_view : Explained → ExplainedView
@@ -32,7 +31,6 @@ explained_view explained = record {
   places = explained.places.now;
   values = values_view explained.values.now;
   noted = explained.noted.now;
-  text = option_map string_bytes explained.text.now;
 }
 
 -- The eight texts of an input, which are borrowed. `None`: there are no texts.

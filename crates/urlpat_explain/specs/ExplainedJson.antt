@@ -1,6 +1,6 @@
 -- The output of `explain` as JSON. `texts` are the texts of the input, if there is one that is a
 -- URL.
-use Rattle.std.specs.Prelude.{◌≡◌, ℕ, Bool, true, false, List, [], ◌∷◌, ◌++◌, codes, encode_utf8_all, map, option_map, zip, Option, None, Some, String}
+use Rattle.std.specs.Prelude.{◌≡◌, ℕ, Bool, true, false, List, [], ◌∷◌, ◌++◌, codes, encode_utf8_all, map, zip, Option, None, Some, String}
 use Rattle.std.specs.declared.alloc.Global.{Global}
 use Rattle.serde_json.specs.Data.{Data, boolean, null, number, string, unsigned}
 use Rattle.serde_json.specs.declared.value.Value.{Value}
@@ -109,18 +109,12 @@ IsExplainedTree explained texts name tree =
     (members : Named) × AreInputMembers explained.pattern texts name members
     × (tree ≡ object_of (pattern_members explained name ++ members))
 
--- The member for the pattern as a constructor string, if there is one.
-abbrev pub text_members : Option (List ℕ) → Named
-text_members text = (codes "constructor_string", option_map string text) ∷ []
-
--- The JSON of a pattern: an object with a key for each component, and with the pattern as a
--- constructor string, if there is one.
+-- The JSON of a pattern: an object with a key for each component.
 abbrev pub IsExplanationTree : ExplainedView → (texts : Option Texts) → Data → Type 0
 IsExplanationTree explained texts tree =
     (trees : Eight Data)
     × ((name : ComponentName) → IsExplainedTree explained texts name (at trees name))
-    × (tree
-    ≡ object_of (each_member (λ name. Some (at trees name)) ++ text_members explained.text))
+    × (tree ≡ object_of (each_member (λ name. Some (at trees name))))
 
 -- `text` is the JSON of a pattern as a line.
 abbrev pub IsExplanationJson : ExplainedView → (texts : Option Texts) → (text : List ℕ) → Type 0

@@ -1,21 +1,21 @@
 -- The output of `explain` for its arguments. Arguments and texts are bytes. `found` has the output
 -- and the exit status.
-use Rattle.std.specs.Prelude.{◌≡◌, ◌⊎◌, ℕ, Bool, true, false, List, [], ◌∷◌, ◌++◌, Ok, Option, None, Some, option_copied, string_bytes}
+use Rattle.std.specs.Prelude.{◌≡◌, ◌⊎◌, ℕ, Bool, true, false, List, ◌++◌, Ok, Option, None, Some, option_copied, string_bytes}
 use Rattle.std.specs.Io.KnownBytes.{Appends}
 use Rattle.std.specs.Str.{chars}
 use Rattle.url.specs.Parts.{Parts}
-use Rattle.urlpat_matching.specs.PatternWords.{IsPatternOf, KeepsPartsOfWord, base_of}
+use Rattle.urlpat_matching.specs.PatternWords.{IsPatternOf, KeepsPartsOfWord}
 use Rattle.urlpattern_canonical.specs.BaseUrls.{IsRejectedText, IsUrlOf}
 use Rattle.urlpat_matching.specs.Status.{status_of}
 use Rattle.urlpat_explain.specs.ComponentPlaces.{Places, text_places}
 use Rattle.urlpat_explain.specs.Explained.{ExplainedView}
-use Rattle.urlpat_explain.specs.declared.explaining.{Asked.Asked, Explanation.Explanation}
+use Rattle.urlpat_explain.specs.declared.explaining.Explanation.{Explanation}
 use Rattle.urlpat_explain.specs.declared.noted.Noted.{Noted}
 use Rattle.urlpat_explain.specs.ExplainedJson.{IsExplanationJson}
 use Rattle.urlpat_explain.specs.Noted.{AreNoted}
 use Rattle.urlpat_explain.specs.OriginNotes.{all_notes}
 use Rattle.urlpat_explain.specs.Rows.{IsMatchTable, pattern_table}
-use Rattle.urlpat_lines.specs.declared.flags.Flags.{Flags}
+use Rattle.urlpat_matching.specs.declared.command.{ExplainArguments.ExplainArguments, Flags.Flags}
 use Rattle.urlpattern_compile.specs.Compiled.{pattern_values}
 use Rattle.urlpattern_compile.specs.FromString.{IsInitOfText}
 use Rattle.urlpattern_components.specs.Eight.{Texts, Values}
@@ -29,35 +29,7 @@ use Rattle.urlpattern_init.specs.declared.init.UrlPatternInit.{UrlPatternInit}
 use Rattle.urlpattern_init.specs.declared.init.UrlPatternMatchInput.TheVariants as match_inputs
 use Rattle.urlpattern_pattern.specs.Match.{TestsInput}
 use Rattle.urlpattern_pattern.specs.Patterns.{PatternView, pattern_view}
-use Rattle.urlpattern_pattern.specs.ReadBack.{IsConstructorString}
 use Rattle.urlpattern_pattern.specs.UrlPatterns.{UrlPattern}
-
--- ---- arguments
-
--- The arguments of `explain`: a constructor string, and a base URL and an input if there are any.
-pub record AskedView : Type 0 where
-  pub string : List ℕ
-  pub base : Option (List ℕ)
-  pub input : Option (List ℕ)
-
--- The view of the arguments of `explain`.
-abbrev pub asked_view : Asked → AskedView
-asked_view asked = record {
-  string = asked.string.now;
-  base = option_copied asked.base;
-  input = option_copied asked.input;
-}
-
--- The words are the arguments of `explain`: a constructor string, a base URL or `-`, and an input,
--- which may be missing.
-abbrev pub AskToExplain : (words : List (List ℕ)) → AskedView → Type 0
-AskToExplain (string ∷ word ∷ []) asked =
-    asked ≡ record { string = string; base = base_of word; input = None }
-AskToExplain (string ∷ word ∷ last ∷ []) asked =
-    asked ≡ record { string = string; base = base_of word; input = Some last }
-AskToExplain words asked = ⊥
-
--- ---- explanations
 
 -- `table` is a line for each component: its name and its pattern, and, if there are texts, its
 -- text, whether the text matches, and the captures.
@@ -100,44 +72,40 @@ IsExplained json explained base (Some input) found =
 -- `found` is the output for the arguments, given the compiled pattern, the init of the constructor
 -- string, and the places of its texts in the string.
 abbrev pub IsExplanationOf : (json : Bool) → UrlPattern PatternRegexp → UrlPatternInit → Places
-    → AskedView → Explanation → Type 0
+    → ExplainArguments → Explanation → Type 0
 IsExplanationOf json compiled init places asked found =
-    (values : Values) × (noted : Eight Noted) × (text : Option (List ℕ))
+    (values : Values) × (noted : Eight Noted)
     × (pattern_values init ≡ Ok values) × AreNoted compiled noted
-    × IsConstructorString pattern_engine compiled text
     × IsExplained json (record {
       pattern = pattern_view compiled;
       given = values_view init;
       places = places;
       values = values;
       noted = noted;
-      text = text;
-    }) asked.base asked.input found
+    }) (option_copied asked.base) (option_copied asked.input) found
 
 -- `found` is the output for the arguments, given the compiled pattern. The texts of the init have
 -- their places where the split found them in the constructor string.
-abbrev pub IsExplanationBy : (json : Bool) → UrlPattern PatternRegexp → AskedView → Explanation
-    → Type 0
+abbrev pub IsExplanationBy : (json : Bool) → UrlPattern PatternRegexp → ExplainArguments
+    → Explanation → Type 0
 IsExplanationBy json compiled asked found =
     (init : UrlPatternInit) × (starts : Starts)
-    × IsInitOfText pattern_engine (chars asked.string) asked.base init
-    × SplitsAt (IsSpecialTo pattern_engine) (chars asked.string) (values_view init) starts
+    × IsInitOfText pattern_engine (chars asked.pattern.now) (option_copied asked.base) init
+    × SplitsAt (IsSpecialTo pattern_engine) (chars asked.pattern.now) (values_view init) starts
     × IsExplanationOf json compiled init (text_places (values_view init) starts) asked found
 
 -- `found` is the output for the arguments. The compiled pattern keeps its parts, by which a
 -- component has a meaning or has none.
-abbrev pub IsExplanation : Flags → AskedView → Explanation → Type 0
+abbrev pub IsExplanation : Flags → ExplainArguments → Explanation → Type 0
 IsExplanation flags asked found =
     (compiled : UrlPattern PatternRegexp)
-    × IsPatternOf flags.ignore_case asked.string asked.base (pattern_view compiled)
-    × KeepsPartsOfWord flags.ignore_case asked.string asked.base compiled
+    × IsPatternOf flags.ignore_case asked.pattern.now (option_copied asked.base)
+    (pattern_view compiled)
+    × KeepsPartsOfWord flags.ignore_case asked.pattern.now (option_copied asked.base) compiled
     × IsExplanationBy flags.json compiled asked found
 
 -- The output for the arguments of `explain` is appended to `old`. `status` is the exit status.
-abbrev pub Explains : Flags → (words : List (List ℕ)) → (status : ℕ)
-    → (old new : Option (List ℕ)) → Type 0
-Explains flags words status old new =
-    (asked : AskedView) × (found : Explanation)
-    × AskToExplain words asked
-    × IsExplanation flags asked found
+abbrev pub Explains : Flags → ExplainArguments → (status : ℕ) → (old new : Option (List ℕ)) → Type 0
+Explains flags asked status old new =
+    (found : Explanation) × IsExplanation flags asked found
     × (status ≡ found.status) × Appends old new (string_bytes found.text)

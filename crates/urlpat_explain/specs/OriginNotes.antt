@@ -4,7 +4,7 @@ use Rattle.std.specs.Prelude.{◌==◌, ℕ, Bool, true, false, not, List, [], �
 use Rattle.std.specs.List.{flat_map}
 use Rattle.urlpat_explain.specs.Explained.{ExplainedView}
 use Rattle.urlpat_explain.specs.ComponentPlaces.{place_cells}
-use Rattle.urlpat_explain.specs.declared.origin_notes.TheConstants.{DEFAULT_PORT, EMPTY_PORT, INHERITED, LEFT_OUT, NO_MEANING, OWN_GROUPS, PLACES, WRITTEN}
+use Rattle.urlpat_explain.specs.declared.origin_notes.TheConstants.{DEFAULT_PORT, EMPTY_PORT, INHERITED, LEFT_OUT, NO_MEANING, OWN_GROUPS, PLACES}
 use Rattle.urlpat_explain.specs.declared.noted.Noted.{Noted}
 use Rattle.urlpattern_components.specs.declared.eight.Eight.{Eight}
 use Rattle.urlpattern_components.specs.Eight.{Values, at, components, name_text}
@@ -73,16 +73,10 @@ component_notes noted =
     names_line NO_MEANING.now (meaningless_names noted components)
     ++ names_line OWN_GROUPS.now (grouped_names noted components)
 
--- A line with the pattern as a constructor string. Empty if there is none.
-abbrev pub text_note : Option (List ℕ) → List ℕ
-text_note None = []
-text_note (Some text) = WRITTEN.now ++ text ++ codes "\n"
-
 -- All notes: the places of component texts, what is inherited, what is left out, what the port is,
--- which components have no meaning or groups of their own in custom expressions, and the pattern as
--- a constructor string. A note that would name nothing is left out.
+-- and which components have no meaning or groups of their own in custom expressions. A note that
+-- would name nothing is left out.
 abbrev pub all_notes : ExplainedView → List ℕ
 all_notes explained =
     names_line PLACES.now (place_cells explained.places components)
-    ++ (value_notes explained.given explained.values
-    ++ (component_notes explained.noted ++ text_note explained.text))
+    ++ (value_notes explained.given explained.values ++ component_notes explained.noted)

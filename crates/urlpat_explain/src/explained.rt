@@ -31,8 +31,6 @@ pub struct Explained<'a> {
     pub values: &'a UrlPatternInit,
     /// What is noted of each component.
     pub noted: &'a Eight<Noted>,
-    /// The pattern as a constructor string that needs no base URL, if there is one.
-    pub text: &'a Option<String>,
 }
 
 impl Explained<'_> {

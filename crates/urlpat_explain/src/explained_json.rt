@@ -17,13 +17,12 @@ use urlpat_matching::json_line;
 use urlpattern_components::{ComponentName, Eight};
 use urlpattern_diagnosis::Span;
 use urlpattern_engine::PatternRegexp;
-use urlpattern_inputs::json_writing::{put_optional, put_text};
+use urlpattern_inputs::json_writing::put_text;
 use urlpattern_matcher::component::Component;
 use urlpattern_syntax::Error;
 
-/// The explanation of a pattern as a line of JSON: an object with a key for each component, and
-/// with the pattern as a constructor string, if there is one. `texts` are the texts of the input,
-/// if there is one that is a URL.
+/// The explanation of a pattern as a line of JSON: an object with a key for each component. `texts`
+/// are the texts of the input, if there is one that is a URL.
 pub fn explanation_json(
     alloc: Global,
     explained: &Explained<'_>,
@@ -37,9 +36,8 @@ pub fn explanation_json(
     Ok(json_line(alloc, &tree)?)
 }
 
-/// The explanation of a pattern as JSON: an object with a key for each component, and with the
-/// pattern as a constructor string, if there is one. `texts` are the texts of the input, if there
-/// is one that is a URL.
+/// The explanation of a pattern as JSON: an object with a key for each component. `texts` are the
+/// texts of the input, if there is one that is a URL.
 fn explanation_tree(
     alloc: Global,
     explained: &Explained<'_>,
@@ -52,8 +50,6 @@ fn explanation_tree(
     for name in ComponentName::all() {
         put_component(&mut members, alloc, explained, texts, name)?;
     }
-    let text = explained.text.as_deref();
-    put_optional(&mut members, alloc, "constructor_string", text)?;
     Ok(Value::Object(members))
 }
 

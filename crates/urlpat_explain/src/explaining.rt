@@ -1,11 +1,10 @@
 //! The command `explain`: prints a line for each component of a pattern and notes on where the
 //! components come from; or, as JSON, an object with a key for each component.
 
-ghost use Rattle.std.specs.Prelude.{◌≡◌, ◌≢◌, ◌⊎◌, length, option_copied, string_bytes, IfNone, IfOk, IfSome};
+ghost use Rattle.std.specs.Prelude.{◌≡◌, ◌≢◌, ◌⊎◌, option_copied, string_bytes, IfOk};
 ghost use Rattle.urlpat_matching.specs.Status.{status_of};
 ghost use Rattle.urlpat_explain.specs.Explained.{explained_view, lent_texts};
-ghost use Rattle.urlpat_explain.specs.Explanations.{AskToExplain, Explains, IsExplained, IsExplanation, IsExplanationOf, IsShown, IsTable, asked_view};
-ghost use Rattle.urlpat_lines.specs.Words.{words_view};
+ghost use Rattle.urlpat_explain.specs.Explanations.{Explains, IsExplained, IsExplanation, IsExplanationOf, IsShown, IsTable};
 ghost use Rattle.urlpattern_pattern.specs.Patterns.{pattern_view};
 
 use crate::columns::{match_table, pattern_table};
@@ -15,9 +14,8 @@ use crate::noted::noted_of;
 use crate::origin_notes::push_notes;
 use std::alloc::Global;
 use std::io::Write;
-use urlpat_lines::Flags;
 use urlpat_matching::{
-    DONE, FAILED, Failure, NO_MATCH, base_of, compiled, fail, note_of, print, write_refusal,
+    DONE, ExplainArguments, FAILED, Flags, NO_MATCH, compiled, fail, note_of, print, write_refusal,
 };
 use urlpattern_canonical::{find_url, parse_base};
 use urlpattern_compile::pattern_values;
@@ -29,20 +27,6 @@ use urlpattern_matches::url_texts;
 use urlpattern_pattern::UrlPattern;
 use urlpattern_syntax::Error;
 
-/// The usage of `explain`.
-const EXPLAIN_USAGE: &str = "\
-usage: urlpat explain PATTERN BASE [INPUT]
-       add --ignore-case for patterns that ignore case, --json for JSON
-";
-
-/// The arguments of `explain`: a constructor string, and a base URL and an input if there are any.
-#[derive(Clone, Copy)]
-struct Asked<'a> {
-    string: &'a str,
-    base: Option<&'a str>,
-    input: Option<&'a str>,
-}
-
 /// The output of `explain`, and the exit status, which says whether the pattern matches the input,
 /// if there is one.
 #[derive(Drop)]
@@ -51,32 +35,26 @@ struct Explanation {
     status: u8,
 }
 
-/// Runs `explain` with the arguments after it. Returns the exit status: `NO_MATCH` if there is an
-/// input that the pattern does not match. An input that is not a URL is not matched, and is
-/// reported to `err`.
+/// Runs `explain`. Returns the exit status: `NO_MATCH` if there is an input that the pattern does
+/// not match. An input that is not a URL is not matched, and is reported to `err`.
 pub fn explain<Out: Write, Err: Write>(
     alloc: Global,
-    words: &[String],
+    asked: ExplainArguments<'_>,
     flags: Flags,
     out: &mut Out,
     err: &mut Err,
 ) -> u8
     ensures status { (result ≡ DONE) ⊎ (result ≡ NO_MATCH) ⊎ (result ≡ FAILED) }
     ensures answers { result ≢ FAILED
-        → Explains flags (words_view words.now) result (Out.contents out.old)
-        (Out.contents out.new) }
+        → Explains flags asked result (Out.contents out.old) (Out.contents out.new) }
 {
-    let Some(asked) = asked_by(words) else {
-        let _ = err.write_all(EXPLAIN_USAGE.as_bytes());
-        return FAILED;
-    };
     let found = match explanation_for(alloc, asked, flags) {
         Ok(found) => found,
-        Err(error) => return write_refusal(alloc, asked.string, asked.base, error, err),
+        Err(error) => return write_refusal(alloc, asked.pattern, asked.base, error, err),
     };
     let note = match input_note(alloc, asked.base, asked.input) {
         Ok(note) => note,
-        Err(error) => return fail(&Failure::from(error), err),
+        Err(error) => return fail(&error, err),
     };
     match print(found.text.as_bytes(), out) {
         Ok(()) => {
@@ -86,27 +64,6 @@ pub fn explain<Out: Write, Err: Write>(
             found.status
         }
         Err(_) => FAILED,
-    }
-}
-
-/// Parses the arguments of `explain`. `None`: the arguments are invalid.
-fn asked_by(words: &[String]) -> Option<Asked<'_>>
-    ensures asked { IfSome result (λ asked.
-        AskToExplain (words_view words.now) (asked_view asked)) }
-    ensures other { IfNone result ((length words.now ≢ 2) × (length words.now ≢ 3)) }
-{
-    match words {
-        [string, base] => Some(Asked {
-            string,
-            base: base_of(base),
-            input: None,
-        }),
-        [string, base, input] => Some(Asked {
-            string,
-            base: base_of(base),
-            input: Some(input.as_str()),
-        }),
-        _ => None,
     }
 }
 
@@ -126,18 +83,22 @@ fn input_note(
 /// The output of `explain` for its arguments.
 ///
 /// The error is the one with which the pattern or its base is rejected, or that memory ran out.
-fn explanation_for(alloc: Global, asked: Asked<'_>, flags: Flags) -> Result<Explanation, Error>
-    ensures text { IfOk result (IsExplanation flags (asked_view asked.entry)) }
+fn explanation_for(
+    alloc: Global,
+    asked: ExplainArguments<'_>,
+    flags: Flags,
+) -> Result<Explanation, Error>
+    ensures text { IfOk result (IsExplanation flags asked) }
     ensures status { IfOk result (λ found. (found.status ≡ DONE) ⊎ (found.status ≡ NO_MATCH)) }
 {
-    let pattern = compiled(alloc, asked.string, asked.base, flags.ignore_case)?;
+    let pattern = compiled(alloc, asked.pattern, asked.base, flags.ignore_case)?;
     let base = parse_base(alloc, asked.base)?;
     let (init, starts) = UrlPatternInit::parse_constructor_string_with_starts::<PatternRegexp>(
         alloc,
-        asked.string,
+        asked.pattern,
         base,
     )?;
-    let places = text_places(asked.string, &init, &starts);
+    let places = text_places(asked.pattern, &init, &starts);
     let found = explanation_of(alloc, asked, flags.json, &pattern, &init, &places);
     drop(init);
     found
@@ -147,18 +108,17 @@ fn explanation_for(alloc: Global, asked: Asked<'_>, flags: Flags) -> Result<Expl
 /// constructor string, and the places of its texts in the string.
 fn explanation_of(
     alloc: Global,
-    asked: Asked<'_>,
+    asked: ExplainArguments<'_>,
     json: bool,
     pattern: &UrlPattern<PatternRegexp>,
     init: &UrlPatternInit,
     places: &Eight<Option<Span>>,
 ) -> Result<Explanation, Error>
     ensures text { IfOk result (IsExplanationOf json pattern.now init.now places.now
-        (asked_view asked.entry)) }
+        asked) }
     ensures status { IfOk result (λ found. (found.status ≡ DONE) ⊎ (found.status ≡ NO_MATCH)) }
 {
     let noted = noted_of(alloc, pattern)?;
-    let text = pattern.to_constructor_string(alloc)?;
     let values = pattern_values(alloc, init)?;
     let explained = Explained {
         pattern,
@@ -166,7 +126,6 @@ fn explanation_of(
         places,
         values: &values,
         noted: &noted,
-        text: &text,
     };
     let found = answer(alloc, &explained, json, asked.base, asked.input);
     drop(values);

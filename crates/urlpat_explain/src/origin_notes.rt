@@ -1,10 +1,10 @@
 //! Notes on a pattern: where its components are in the constructor string, what it inherits from
-//! the base URL, what it leaves out, what its port is, which components have no meaning or have
-//! groups of their own in custom expressions, and how it is written as a constructor string.
+//! the base URL, what it leaves out, what its port is, and which components have no meaning or have
+//! groups of their own in custom expressions.
 
-ghost use Rattle.std.specs.Prelude.{◌≡◌, option_copied, string_bytes, IfOk, OnOk};
+ghost use Rattle.std.specs.Prelude.{◌≡◌, string_bytes, IfOk, OnOk};
 ghost use Rattle.urlpat_explain.specs.Explained.{explained_view, AppendsBytes};
-ghost use Rattle.urlpat_explain.specs.OriginNotes.{all_notes, component_notes, inherited_name, left_out_name, name_if, names_line, port_note, text_note, value_notes};
+ghost use Rattle.urlpat_explain.specs.OriginNotes.{all_notes, component_notes, inherited_name, left_out_name, name_if, names_line, port_note, value_notes};
 ghost use Rattle.urlpat_explain.specs.ComponentPlaces.{place_cell, place_cells};
 ghost use Rattle.urlpattern_components.specs.Eight.{components};
 ghost use Rattle.urlpattern_init.specs.Inheritance.{values_view};
@@ -35,9 +35,6 @@ no meaning, since an expression is not as simple as \\d+ or en|fr:";
 const OWN_GROUPS: &str = "\
 groups inside an expression shift the names after them, write (?:..) instead:";
 
-/// The beginning of the note with the pattern as a constructor string.
-const WRITTEN: &str = "as a constructor string: ";
-
 /// The note on a port that is empty.
 const EMPTY_PORT: &str = "the port is empty: only the default port of the protocol matches\n";
 
@@ -45,9 +42,8 @@ const EMPTY_PORT: &str = "the port is empty: only the default port of the protoc
 const DEFAULT_PORT: &str = "the port is the default port of the protocol, which a URL leaves out\n";
 
 /// Appends the notes on a constructor string: where its components are, what is inherited, what is
-/// left out, what the port is, which components have no meaning or have groups of their own in
-/// custom expressions, and the pattern as a constructor string. A note that would name nothing is
-/// left out.
+/// left out, what the port is, and which components have no meaning or have groups of their own in
+/// custom expressions. A note that would name nothing is left out.
 pub fn push_notes(
     alloc: Global,
     text: &mut String,
@@ -62,21 +58,7 @@ pub fn push_notes(
     push_names(text, PLACES, &places)?;
     text.push_str(&notes)?;
     text.push_str(&component_notes)?;
-    push_text_note(text, explained.text.as_deref())?;
     Ok(())
-}
-
-/// Appends the note with the pattern as a constructor string, if there is one.
-fn push_text_note(notes: &mut String, text: Option<&str>) -> Result<(), AllocError>
-    ensures { OnOk result
-        (AppendsBytes notes.old notes.new (text_note (option_copied text.entry))) }
-{
-    let Some(text) = text else {
-        return Ok(());
-    };
-    notes.push_str(WRITTEN)?;
-    notes.push_str(text)?;
-    notes.push('\n')
 }
 
 /// The name and the place of each component whose text has a place in the constructor string, with

@@ -3,7 +3,6 @@ pub use Rattle.urlpattern_laws.proofs.UsersExample
 pub use Rattle.urlpattern_laws.proofs.SiteRoutes
 pub use Rattle.urlpattern_laws.proofs.OrdersExample
 pub use Rattle.urlpattern_laws.proofs.DocsExample
-pub mod CoveredRoutes
 pub mod FixedLemmas
 pub mod ListLemmas
 pub mod NextLemmas

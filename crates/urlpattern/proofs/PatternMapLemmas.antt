@@ -1,6 +1,6 @@
 -- Lemmas on keys with values, such as the patterns of a map.
 use Rattle.std.proofs.Common.{◌≡◌, ◌∙◌, ℕ, zero, suc, List, [], ◌∷◌, ◌++◌, length, arith, refl, ap, map}
-use Rattle.std.specs.List.{AllZip, remove}
+use Rattle.std.specs.List.{remove}
 use Rattle.std.specs.Prelude.{OnErr, None, Some, Result, Ok, Err, option_map, slice_get, zip}
 
 module _ {K T : Type 0} where
@@ -40,17 +40,6 @@ module _ {K T : Type 0} where
   pairs-remove (first ∷ keys) [] index same = absurd (omega arith)
   pairs-remove (first ∷ keys) (other ∷ values) zero same = refl
   pairs-remove (first ∷ keys) (other ∷ values) (suc index) same = ap (λ pairs. (first, other) ∷ pairs) (pairs-remove keys values index (omega arith))
-
--- Pairs of the elements of two lists are related if the elements are.
-pub pairs-both : {K T : Type 0} (R : K → K → Type 0) (S : T → T → Type 0) (keys others : List K) (values rest : List T) → AllZip R keys others → AllZip S values rest
-    → AllZip (λ pair other. R pair.0 other.0 × S pair.1 other.1) (zip keys values) (zip others rest)
-pairs-both R S [] [] values rest are own = tt
-pairs-both R S [] (other ∷ others) values rest are own = absurd are
-pairs-both R S (key ∷ keys) [] values rest are own = absurd are
-pairs-both R S (key ∷ keys) (other ∷ others) [] [] are own = tt
-pairs-both R S (key ∷ keys) (other ∷ others) [] (next ∷ rest) are own = absurd own
-pairs-both R S (key ∷ keys) (other ∷ others) (value ∷ values) [] are own = absurd own
-pairs-both R S (key ∷ keys) (other ∷ others) (value ∷ values) (next ∷ rest) are own = ((are.0, own.0), pairs-both R S keys others values rest are.1 own.1)
 
 -- An index without an element removes nothing.
 pub remove-none : {X : Type 0} (xs : List X) (index : ℕ) → slice_get xs index ≡ None → remove xs index ≡ xs

@@ -1,14 +1,14 @@
 -- The patterns of a list that are the first match of some texts, and those that never are.
-use Rattle.std.proofs.Common.{◌≡◌, ◌≢◌, ◌∙◌, ◌↔◌, ◌⊎◌, ◌<◌, ◌++◌, ℕ, Bool, true, false, true≢false, zero, suc, List, [], ◌∷◌, ap, arith, inl, inr, length, map, refl, subst, sym, take}
+use Rattle.std.proofs.Common.{◌≡◌, ◌≢◌, ◌∙◌, ◌↔◌, ◌<◌, ◌++◌, ℕ, Bool, true, false, true≢false, zero, suc, List, [], ◌∷◌, ap, arith, inl, inr, length, map, refl, subst, sym, take}
 use Rattle.std.proofs.lemmas.List.{take-map}
 use Rattle.std.proofs.lemmas.List.Elements.{All-append, All-cons, All-head, All-nil, All-tail, All-weaker}
 use Rattle.std.proofs.lemmas.Option.{slice_get-map}
 use Rattle.std.specs.Prelude.{All, Ok, Option, None, Some, IsTrue, String, Vec, is_some, option_map, slice_get}
 use Rattle.std.specs.declared.alloc.Global.{Global}
 use Rattle.url.specs.Parts.{IsValid, Parts}
-use Rattle.urlpattern.specs.Contending.{AreApart, ContendingMatch, HasNoTexts, HasTexts, IsAnswer, IsContended, IsContention, MatchesAllOf, MatchesAlone, OthersDoNotContend}
+use Rattle.urlpattern.specs.Contending.{ContendingMatch, HasTexts, IsAnswer, IsContended, IsContention, MatchesAlone}
 use Rattle.urlpattern.specs.FirstMatch.{FirstView, IsFirstMatch, patterns_view}
-use Rattle.urlpattern.specs.Reached.{AreReachedBy, HasAutomata, HaveAllAutomata, MatchesStrings, ReachedAreFirst, UnreachedAreNeverFirst}
+use Rattle.urlpattern.specs.Reached.{HasAutomata, HaveAllAutomata, MatchesStrings, ReachedAreFirst, UnreachedAreNeverFirst}
 use Rattle.urlpattern_compare.proofs.SameParts.{known_or_not, same_flips, same_within}
 use Rattle.urlpattern_compare.proofs.TogetherLemmas.{all_each}
 use Rattle.urlpattern_compare.specs.Candidates.{AreLines, TextAt}
@@ -199,10 +199,15 @@ module _ {E : Type 0} (engine : Engine E) where
 
     -- ---- laws
 
-    never : (patterns : List (UrlPattern E)) (limits : Limits) (found : List Reach) (all : List PatternAutomata) → HaveAllAutomata engine patterns all → AreReached limits all found → (index : ℕ) (by : Vec ℕ Global) → slice_get found index ≡ Some (Never by)
-        → (pattern : UrlPattern E) → slice_get patterns index ≡ Some pattern → (texts : TextAt) → AreLines texts → Matches texts (pattern_view pattern)
-        → ¬ All (λ view. ¬ Matches texts view) (take index (patterns_view patterns))
-    never patterns limits found all have reached index by unreached pattern pattern_there texts lines matched refused =
+    never : (patterns : List (UrlPattern E)) (limits : Limits) (found : List Reach) (all : List PatternAutomata) → HaveAllAutomata engine patterns all → AreReached limits all found
+        → (index : ℕ) (by : Vec ℕ Global) → slice_get found index ≡ Some (Never by) → (url : Parts) → IsValid url → (first : FirstView)
+        → IsFirstMatch engine.answer (patterns_view patterns) (UrlInput url) (Some first) → first.0 ≢ index
+    never patterns limits found all have reached index by unreached url valid first is same =
+        let texts : TextAt = λ name. at (texts_of_url url) name in
+        let lines : AreLines texts = λ name. record { scalars = (texts_of_urls url valid name).characters; plain = (texts_of_urls url valid name).no_line_feed } in
+        let (view, view_there, view_matches) = is.0 in
+        let (own, are_own, match) = view_matches in
+        let (pattern, pattern_there, is_view) = by_view patterns index view (subst (λ (i : ℕ). slice_get (patterns_view patterns) i ≡ Some view) same view_there) in
         let (asked, asked_there) = there_also patterns all have index pattern pattern_there in
         let (again, again_there, has) = there patterns all have index asked asked_there in
         let (reach, reach_there, is_reach) = reached.each index asked asked_there in
@@ -210,30 +215,18 @@ module _ {E : Type 0} (engine : Engine E) where
         let least = subst (IsReach limits (take index all) asked) is_never is_reach in
         let same_pattern : again ≡ pattern = (let both : Some again ≡ Some pattern = sym again_there ∙ pattern_there in cc) in
         let made = subst (λ (p : UrlPattern E). AreMadeOfParts engine asked.parts (pattern_view p)) same_pattern has.made in
-        some_match (at_each (take index all) by.items) asked texts least.cover lines (pattern_view pattern, made, matched)
-        (all_each (HasView (λ view. ¬ Matches texts view)) (take index all) by.items (all_views (λ view. ¬ Matches texts view) patterns all have index refused))
-
-    -- A pattern that others cover does not match texts that none before it does.
-    pub never_alone : (patterns : List (UrlPattern E)) (limits : Limits) (found : List Reach) → AreReachedBy engine limits patterns found → (index : ℕ) (by : Vec ℕ Global) → slice_get found index ≡ Some (Never by)
-        → (pattern : UrlPattern E) → slice_get patterns index ≡ Some pattern → (texts : TextAt) → AreLines texts → Matches texts (pattern_view pattern)
-        → ¬ All (λ view. ¬ Matches texts view) (take index (patterns_view patterns))
-    never_alone patterns limits found reached index by unreached pattern pattern_there texts lines matched refused =
-        never patterns limits found reached.0 reached.1 reached.2 index by unreached pattern pattern_there texts lines matched refused
-
-    pub never_first : UnreachedAreNeverFirst engine
-    never_first patterns limits found reached index by unreached url valid first is same =
-        let texts : TextAt = λ name. at (texts_of_url url) name in
-        let lines : AreLines texts = λ name. record { scalars = (texts_of_urls url valid name).characters; plain = (texts_of_urls url valid name).no_line_feed } in
-        let (view, view_there, view_matches) = is.0 in
-        let (own, are_own, match) = view_matches in
-        let (pattern, pattern_there, is_view) = by_view patterns index view (subst (λ (i : ℕ). slice_get (patterns_view patterns) i ≡ Some view) same view_there) in
         let are_texts : own ≡ texts_of_url url = (let both : Ok (texts_of_url url) ≡ Ok own = are_own in cc) in
         let matched : Matches texts (pattern_view pattern) =
         λ name. subst (λ (v : PatternView E). IsMatched engine.answer (v name).matcher (texts name)) (sym is_view)
         (subst (λ (t : Texts). IsMatched engine.answer (view name).matcher (at t name)) are_texts (match.captures name, match.are_answers name)) in
-        never_alone patterns limits found reached index by unreached pattern pattern_there texts lines matched
-        (All-weaker (λ (it : PatternView E). ¬ HasMatch engine.answer it (UrlInput url)) (λ it. ¬ Matches texts it)
-        (λ it none each. none (texts_of_url url, refl, each)) (take index (patterns_view patterns)) (subst (λ (i : ℕ). All (λ (it : PatternView E). ¬ HasMatch engine.answer it (UrlInput url)) (take i (patterns_view patterns))) same is.1))
+        let refused : All (λ view. ¬ Matches texts view) (take index (patterns_view patterns)) =
+        All-weaker (λ (it : PatternView E). ¬ HasMatch engine.answer it (UrlInput url)) (λ it. ¬ Matches texts it)
+        (λ it none each. none (texts_of_url url, refl, each)) (take index (patterns_view patterns)) (subst (λ (i : ℕ). All (λ (it : PatternView E). ¬ HasMatch engine.answer it (UrlInput url)) (take i (patterns_view patterns))) same is.1) in
+        some_match (at_each (take index all) by.items) asked texts least.cover lines (pattern_view pattern, made, matched)
+        (all_each (HasView (λ view. ¬ Matches texts view)) (take index all) by.items (all_views (λ view. ¬ Matches texts view) patterns all have index refused))
+
+    pub never_first : UnreachedAreNeverFirst engine
+    never_first patterns limits found reached index by unreached url valid first is = never patterns limits found reached.0 reached.1 reached.2 index by unreached url valid first is
 
     -- ---- patterns that are reached
 
@@ -356,58 +349,3 @@ module _ {E : Type 0} (engine : Engine E) where
           alone_match limits one other (pattern_view first) (pattern_view second) made made_too contended.1,
           alone_match limits other one (pattern_view second) (pattern_view first) made_too made contended.2,
         )
-
-    -- ---- patterns that do not contend
-
-    true_or_false : (b : Bool) → IsTrue b ⊎ (b ≡ false)
-    true_or_false true = inl refl
-    true_or_false false = inr refl
-
-    to_meaning : (it : PatternAutomata) (view : PatternView E) (texts : TextAt) → Matches texts view → MeansEach (meaning_of it view) texts
-    to_meaning it view texts each name = (matches_are view name (texts name)).1 (each name)
-
-    apart : (limits : Limits) (one other : PatternAutomata) (view another : PatternView E) → AreMadeOfParts engine one.parts view → AreMadeOfParts engine other.parts another
-        → HasNoTexts limits (one ∷ other ∷ []) [] → AreApart engine.answer view another
-    apart limits one other view another made made_too none texts lines first second =
-        let own = meaning_of one view in
-        let others = meaning_of other another in
-        let Means : PatternMeaning → Type 0 = λ it. MeansEach it texts in
-        none.0 (own ∷ others ∷ []) [] (are_meanings Any Any (own ∷ others ∷ []) [] (one ∷ other ∷ []) [] refl refl
-        (All-cons (IsMeaningOf Any) own (others ∷ []) (has_meaning one view made) (All-cons (IsMeaningOf Any) others [] (has_meaning other another made_too) (All-nil (IsMeaningOf Any)))) (All-nil (IsMeaningOf Any))) texts
-        (record {
-          lines = lines;
-          meant = All-cons Means own (others ∷ []) (to_meaning one view texts first) (All-cons Means others [] (to_meaning other another texts second) (All-nil Means));
-          unmeant = All-nil (λ it. ¬ MeansEach it texts);
-        })
-
-    within : (limits : Limits) (one other : PatternAutomata) (view another : PatternView E) → AreMadeOfParts engine one.parts view → AreMadeOfParts engine other.parts another
-        → HasNoTexts limits (one ∷ []) (other ∷ []) → MatchesAllOf engine.answer view another
-    within limits one other view another made made_too none texts lines first name =
-        let own = meaning_of one view in
-        let others = meaning_of other another in
-        let Means : PatternMeaning → Type 0 = λ it. MeansEach it texts in
-        let Fails : PatternMeaning → Type 0 = λ it. ¬ MeansEach it texts in
-        elim (true_or_false (matches another name (texts name))) [
-          | inl is ↦ (matches_are another name (texts name)).0 is
-          | inr is_not ↦
-              absurd (none.0 (own ∷ []) (others ∷ []) (are_meanings Any Any (own ∷ []) (others ∷ []) (one ∷ []) (other ∷ []) refl refl
-              (All-cons (IsMeaningOf Any) own [] (has_meaning one view made) (All-nil (IsMeaningOf Any))) (All-cons (IsMeaningOf Any) others [] (has_meaning other another made_too) (All-nil (IsMeaningOf Any)))) texts
-              (record {
-                lines = lines;
-                meant = All-cons Means own [] (to_meaning one view texts first) (All-nil Means);
-                unmeant = All-cons Fails others [] (λ each. true≢false (sym (each name) ∙ is_not)) (All-nil Fails);
-              }))
-        ]
-
-    pub others_do_not_contend : OthersDoNotContend engine
-    others_do_not_contend patterns limits found (all, have, are) i j first second lt first_there second_there no_pair =
-        let (one, at_one) = there_also patterns all have i first first_there in
-        let (other, at_other) = there_also patterns all have j second second_there in
-        let made = made_at patterns all have i one first at_one first_there in
-        let made_too = made_at patterns all have j other second at_other second_there in
-        elim (are.others i j one other lt at_one at_other) [
-          | inl pair ↦ absurd (no_pair pair)
-          | inr (inl none) ↦ inl (apart limits one other (pattern_view first) (pattern_view second) made made_too none)
-          | inr (inr (inl none)) ↦ inr (inl (within limits one other (pattern_view first) (pattern_view second) made made_too none))
-          | inr (inr (inr none)) ↦ inr (inr (within limits other one (pattern_view second) (pattern_view first) made_too made none))
-        ]

@@ -38,6 +38,17 @@ module _ {E T : Type 0} (routes : Routes E T) where
     | inr (beyond, none) ↦ absurd (omega (arith, within, beyond))
   ]
 
+  -- The pattern of a route has no parts.
+  pub lacks-at : (index : ℕ) (entry : UrlPattern E × Route T) → slice_get routes index ≡ Some entry → entry.0.parts ≡ None → Contains (map (λ (entry : UrlPattern E × Route T). entry.0.parts) routes) None
+  lacks-at index entry is none =
+      let all = map (λ (entry : UrlPattern E × Route T). entry.0.parts) routes in
+      let absent : Option PatternParts = None in
+      let there : slice_get all index ≡ Some absent =
+      slice_get-map (λ (entry : UrlPattern E × Route T). entry.0.parts) routes index ∙ ap (option_map (λ (entry : UrlPattern E × Route T). entry.0.parts)) is ∙ ap Some none in
+      let within = slice_get_within all index absent there in
+      let value : get_or all index absent ≡ absent = same_Some (get_or all index absent) absent (sym (slice_get-get_or all index absent within) ∙ there) in
+      subst (Contains all) value (Contains-get_or all index absent within)
+
   -- Two entries at one index.
   same_entry : (index other : ℕ) (entry another : UrlPattern E × Route T) → index ≡ other → slice_get routes index ≡ Some entry → slice_get routes other ≡ Some another → another ≡ entry
   same_entry index other entry another same is also = same_Some another entry (sym also ∙ ap (slice_get routes) (sym same) ∙ is)

@@ -10,17 +10,14 @@ use Rattle.urlpattern.specs.declared.contention.Contended.TheVariants.{Texts, Un
 use Rattle.urlpattern.specs.declared.contention.Contention.{Contention}
 use Rattle.urlpattern.specs.declared.contention.ContentionDoubt.{ContentionDoubt}
 use Rattle.urlpattern.specs.declared.contention.ContentionDoubt.TheVariants.{Both, First, Second}
-use Rattle.urlpattern_compare.specs.Candidates.{AreLines, TextAt}
 use Rattle.urlpattern_compare.specs.CommonTexts.{DependsIfUnknown, IsCommonAnswer}
 use Rattle.urlpattern_compare.specs.declared.candidates.Limits.{Limits}
 use Rattle.urlpattern_compare.specs.declared.common_texts.Common.{Common}
 use Rattle.urlpattern_compare.specs.declared.common_texts.Common.TheVariants as answers
 use Rattle.urlpattern_compare.specs.declared.common_texts.Doubt.{Doubt}
 use Rattle.urlpattern_compare.specs.declared.common_texts.PatternAutomata.{PatternAutomata}
-use Rattle.urlpattern_components.specs.declared.eight.ComponentName.{ComponentName}
 use Rattle.urlpattern_components.specs.declared.eight.Eight.{Eight}
 use Rattle.urlpattern_matcher.specs.declared.regexp.RegExp.{Ghosts as Engine}
-use Rattle.urlpattern_meaning.specs.Matching.{IsMatched}
 use Rattle.urlpattern_meaning.specs.PartMeaning.{Captures}
 use Rattle.urlpattern_pattern.specs.Patterns.{PatternView, pattern_view}
 use Rattle.urlpattern_pattern.specs.UrlPatterns.{UrlPattern}
@@ -146,38 +143,6 @@ ContendingMatch {E} engine =
     × MatchesStrings engine.answer texts (pattern_view second)
     × MatchesAlone engine.answer (pattern_view first) (pattern_view second)
     × MatchesAlone engine.answer (pattern_view second) (pattern_view first)
-
--- Each component's matcher matches its text.
-abbrev pub MatchesTexts : {E : Type 0} → (answer : E → List ℕ → Option Captures) → TextAt
-    → PatternView E → Type 0
-MatchesTexts answer texts pattern =
-    (name : ComponentName) → IsMatched answer (pattern name).matcher (texts name)
-
--- No eight texts without line feeds are matched by both patterns.
-abbrev pub AreApart : {E : Type 0} → (answer : E → List ℕ → Option Captures)
-    → (first second : PatternView E) → Type 0
-AreApart answer first second =
-    (texts : TextAt) → AreLines texts → MatchesTexts answer texts first
-    → ¬ MatchesTexts answer texts second
-
--- The second pattern matches all eight texts without line feeds that the first does.
-abbrev pub MatchesAllOf : {E : Type 0} → (answer : E → List ℕ → Option Captures)
-    → (first second : PatternView E) → Type 0
-MatchesAllOf answer first second =
-    (texts : TextAt) → AreLines texts → MatchesTexts answer texts first
-    → MatchesTexts answer texts second
-
--- Of two patterns that are no pair of `found`, the result of `contending`, no texts are matched by
--- both, or one of the two matches all that the other does.
-abbrev pub OthersDoNotContend : {E : Type 0} → Engine E → Type 0
-OthersDoNotContend {E} engine =
-    (patterns : List (UrlPattern E)) (limits : Limits) (found : List Contention)
-    → AreContentionsBy engine limits patterns found
-    → (i j : ℕ) (first second : UrlPattern E) → i < j → slice_get patterns i ≡ Some first
-    → slice_get patterns j ≡ Some second → ¬ HasPair found i j
-    → AreApart engine.answer (pattern_view first) (pattern_view second)
-    ⊎ (MatchesAllOf engine.answer (pattern_view first) (pattern_view second)
-    ⊎ MatchesAllOf engine.answer (pattern_view second) (pattern_view first))
 
 -- ---- steps
 

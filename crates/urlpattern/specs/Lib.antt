@@ -57,7 +57,6 @@ pub use Rattle.urlpattern_pattern.specs.KeptMeanings
 pub use Rattle.urlpattern_pattern.specs.KeptParts
 pub use Rattle.urlpattern_pattern.specs.EncodedLinks
 pub use Rattle.urlpattern_pattern.specs.LinkedUrls
-pub use Rattle.urlpattern_pattern.specs.PatternCopies
 pub use Rattle.urlpattern_pattern.specs.Patterns
 pub use Rattle.urlpattern_pattern.specs.UrlPatterns
 pub use Rattle.urlpattern_matches.specs.GroupTexts
@@ -70,7 +69,6 @@ pub use Rattle.urlpattern_compare.specs.Comparing
 pub use Rattle.urlpattern_compare.specs.Order
 pub use Rattle.urlpattern_compare.specs.declared.pattern_parts.PatternParts
 pub use Rattle.urlpattern_components.specs.Eight
-pub use Rattle.urlpattern_values.specs.EncodedValues
 pub use Rattle.urlpattern_syntax.specs.ComponentParts
 pub use Rattle.urlpattern_syntax.specs.ErrorText
 pub use Rattle.urlpattern_syntax.specs.Errors
@@ -106,7 +104,6 @@ pub use Rattle.urlpattern_syntax.specs.declared.parser.Options as ParserOptions
 pub use Rattle.urlpattern_syntax.specs.declared.parser.Part
 pub use Rattle.urlpattern_syntax.specs.declared.parser.RegexSyntax
 pub mod Contending
-pub mod Copies
 pub mod FirstMatch
 pub mod MapMatches
 pub mod NextMatch

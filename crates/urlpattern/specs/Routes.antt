@@ -1,7 +1,7 @@
 -- The routes of a router. `answer` is what an engine returns for a text.
 use Rattle.http_header.specs.Token.{IsToken}
 use Rattle.std.specs.Borrow.{Bor}
-use Rattle.std.specs.Prelude.{◌≡◌, ◌⊎◌, ◌+◌, ◌++◌, ◌∷◌, [], ◌<◌, ◌≤◌, ℕ, IfSome, IsSomeAnd, IsTrue, List, MatchOption, None, Option, Result, Ok, Err, Some, codes, length, option_map, slice_get}
+use Rattle.std.specs.Prelude.{◌≡◌, ◌⊎◌, ◌+◌, ◌++◌, ◌∷◌, [], ◌<◌, ◌≤◌, Bool, true, false, ℕ, IfSome, IsSomeAnd, IsTrue, List, MatchOption, None, Option, Result, Ok, Err, Some, codes, length, option_map, slice_get}
 use Rattle.std.specs.Str.{chars}
 use Rattle.url.specs.Parts.{Parts}
 use Rattle.urlpattern.specs.FirstMatch.{CallsEngineBeforeMatch}
@@ -50,11 +50,10 @@ Takes method route = MatchOption route.method (Unit {0}) (λ own. text_of own �
 abbrev pub HasMethod : {T : Type 0} → (method : List ℕ) → Route T → Type 0
 HasMethod method route = IsSomeAnd route.method (λ own. text_of own ≡ method)
 
--- The route at the index has this method.
-abbrev pub HasMethodAt : {E T : Type 0} → Routes E T → (method : List ℕ) → (index : ℕ) → Type 0
-HasMethodAt {E} {T} routes method index =
-    (entry : UrlPattern E × Route T) × (slice_get routes index ≡ Some entry)
-    × HasMethod method entry.1
+-- The route has this method or, if `or_any` is true, serves every method.
+abbrev pub TakesBy : {T : Type 0} → (or_any : Bool) → (method : List ℕ) → Route T → Type 0
+TakesBy true method route = Takes method route
+TakesBy false method route = HasMethod method route
 
 -- The route is not one for which `Is` holds, or its pattern does not match the texts.
 abbrev pub DoesNotServe : {E T : Type 0} → (answer : E → List ℕ → Option Captures)
@@ -149,28 +148,14 @@ SomeMatches {E} {T} answer routes texts =
     (index : ℕ) × (entry : UrlPattern E × Route T) × (slice_get routes index ≡ Some entry)
     × AreMatched answer (pattern_view entry.0) texts
 
--- `found` is the first route that takes `HEAD` and matches the texts, and has this method itself.
-abbrev pub IsOwnHead : {E T : Type 0} → (answer : E → List ℕ → Option Captures) → Routes E T
-    → Texts → Option (ℕ × Bor T × UrlPatternCaptures) → Type 0
-IsOwnHead answer routes texts found =
-    IsRouteFound answer routes (Takes (codes "HEAD")) texts found
-    × IsSomeAnd found (λ own. HasMethodAt routes (codes "HEAD") own.0)
-
--- The first route that takes `HEAD` and matches the texts serves every method, or there is none.
-abbrev pub HasNoOwnHead : {E T : Type 0} → (answer : E → List ℕ → Option Captures) → Routes E T
-    → Texts → Type 0
-HasNoOwnHead {E} {T} answer routes texts =
-    (first : Option (ℕ × Bor T × UrlPatternCaptures))
-    × IsRouteFound answer routes (Takes (codes "HEAD")) texts first
-    × IfSome first (λ any. ¬ HasMethodAt routes (codes "HEAD") any.0)
-
--- `found` is the first route that takes `HEAD`, if it has this method itself, else the first that
--- takes `GET`.
+-- `found` is the first route whose own method is `HEAD` that matches the texts or, if there is
+-- none, the first that serves `GET`.
 abbrev pub IsServedAsHead : {E T : Type 0} → (answer : E → List ℕ → Option Captures)
     → Routes E T → Texts → Option (ℕ × Bor T × UrlPatternCaptures) → Type 0
 IsServedAsHead answer routes texts found =
-    IsOwnHead answer routes texts found
-    ⊎ (HasNoOwnHead answer routes texts
+    IsSomeAnd found (λ own.
+    IsRouteFound answer routes (HasMethod (codes "HEAD")) texts (Some own))
+    ⊎ (IsRouteFound answer routes (HasMethod (codes "HEAD")) texts None
     × IsRouteFound answer routes (Takes (codes "GET")) texts found)
 
 -- `found` is the route that serves a request with this method and eight texts. `None`: no route
@@ -203,20 +188,15 @@ abbrev pub IsRoutedPath : {E T : Type 0} → (answer : E → List ℕ → Option
 IsRoutedPath answer router method path routed =
     IsPath path × IsRouted answer router method (pathname_alone path) routed
 
--- An engine is called to find the route that serves `HEAD` as it does `GET`: by a route that takes
--- `HEAD`, or, if the first of them does not have this method itself, by one that takes `GET`; and
--- no such route before it matches.
-abbrev pub CallsEngineOfHead : {E T : Type 0} → (answer : E → List ℕ → Option Captures)
-    → Routes E T → Texts → Type 0
-CallsEngineOfHead answer routes texts =
-    CallsEngineBeforeRoute answer routes (Takes (codes "HEAD")) texts
-    ⊎ (HasNoOwnHead answer routes texts
-    × CallsEngineBeforeRoute answer routes (Takes (codes "GET")) texts)
-
--- An engine is called to find the route that serves a request with this method and eight texts.
+-- An engine is called to find the route that serves a request with this method and eight texts: by
+-- a route for the method, or, for `HEAD` if no route of its own matches, by one for `GET`; and no
+-- such route before it matches.
 pub record CallsEngineOfServing {E T : Type 0} (answer : E → List ℕ → Option Captures)
     (router : UrlPatternRouter T E) (method : List ℕ) (texts : Texts) : Type 0 where
-  pub head : IsHead router method → CallsEngineOfHead answer router.routes texts
+  pub head : IsHead router method
+      → CallsEngineBeforeRoute answer router.routes (HasMethod (codes "HEAD")) texts
+      ⊎ (IsRouteFound answer router.routes (HasMethod (codes "HEAD")) texts None
+      × CallsEngineBeforeRoute answer router.routes (Takes (codes "GET")) texts)
   pub other : ¬ IsHead router method
       → CallsEngineBeforeRoute answer router.routes (Takes method) texts
 

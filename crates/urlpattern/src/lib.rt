@@ -22,9 +22,7 @@ pub use list::{UrlPatternList, UrlPatternMatches};
 pub use map::{UrlPatternMap, UrlPatternMapIter, UrlPatternMapMatches};
 pub use path::is_path;
 pub use path_error::PathError;
-pub use router::{
-    AllowedMethods, Route, RouteContentions, RouteError, RouteReaches, Routed, UrlPatternRouter,
-};
+pub use router::{AllowedMethods, Route, RouteError, RouteReaches, Routed, UrlPatternRouter};
 pub use urlpattern_canonical::canonicalize_and_process;
 pub use urlpattern_components::{ComponentName, Eight};
 pub use urlpattern_diagnosis::{Diagnosis, Fault, Span, Subject};

@@ -20,14 +20,12 @@ ghost use Rattle.urlpattern_pattern.specs.UrlPatterns.{UrlPattern};
 ghost use Rattle.urlpattern_syntax.specs.Errors.{OnlyOutOfMemory};
 
 mod contending;
-mod copy;
 mod finding;
 mod matches;
 mod other_inputs;
 mod pattern_fixed;
 mod unreached;
 
-pub(crate) use contending::contending_of_all;
 pub use contending::contending_patterns_match;
 pub use matches::UrlPatternMatches;
 use pattern_fixed::fixed_of;

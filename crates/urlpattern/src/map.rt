@@ -16,7 +16,6 @@ ghost use Rattle.urlpattern.specs.Reached.{AreReachedBy, LacksParts};
 ghost use Rattle.urlpattern_pattern.specs.UrlPatterns.{UrlPattern};
 ghost use Rattle.urlpattern_syntax.specs.Errors.{OnlyOutOfMemory};
 
-mod copy;
 mod finding;
 mod iter;
 mod matches;

@@ -2,10 +2,10 @@
 //!
 //! The routes are a map, whose index finds those that can match.
 ghost use Rattle.http_header.specs.Token.{IsToken};
-ghost use Rattle.std.specs.Prelude.{◌≡◌, [], true, IfErr, IfOk, None, OnErr, OnOk, Some};
+ghost use Rattle.std.specs.Prelude.{◌≡◌, ◌↔◌, [], true, IfErr, IfOk, IsTrue, MatchOption, None, OnErr, OnOk, Some};
 ghost use Rattle.std.specs.Str.{chars};
 ghost use Rattle.urlpattern.specs.PatternKeys.{address_of};
-ghost use Rattle.urlpattern.specs.Routes.{AppendsRoute, CallsEngineOfRequest, IsCandidate, IsNewName, IsRouteError, IsRoutePathError, IsRouted, IsRoutedPath};
+ghost use Rattle.urlpattern.specs.Routes.{AppendsRoute, CallsEngineAt, CallsEngineBeforeRoute, CallsEngineOfRequest, CallsEngineOfServing, IsCandidate, IsHead, IsNewName, IsRouteError, IsRoutePathError, IsRouteFound, IsRouted, IsRoutedPath, IsServed, NoneServesAt, Serves, TakesBy};
 ghost use Rattle.urlpattern_index.specs.Keys.{hashes_of, hashes_view};
 ghost use Rattle.urlpattern_init.specs.Inheritance.{texts_of_url};
 ghost use Rattle.urlpattern_matches.specs.GroupTexts.{borrowed_texts};
@@ -13,25 +13,19 @@ ghost use Rattle.urlpattern_syntax.specs.Errors.{OnlyOutOfMemory};
 ghost use Rattle.urlpattern_syntax.specs.Text.{option_text};
 
 mod allowed_methods;
-mod contending;
-mod copy;
 mod named;
 mod reach;
 mod route;
-mod route_contentions;
 mod route_error;
 mod route_reaches;
 mod routed;
-mod serving;
 
 use crate::map::UrlPatternMap;
 use crate::path::is_path;
 use crate::path_error::PathError;
 pub use allowed_methods::AllowedMethods;
 use http_header::is_token;
-pub use reach::covered_routes_serve_nothing;
 pub use route::Route;
-pub use route_contentions::RouteContentions;
 pub use route_error::RouteError;
 pub use route_reaches::RouteReaches;
 pub use routed::Routed;
@@ -40,8 +34,8 @@ use url::Url;
 use urlpattern_components::Eight;
 use urlpattern_index::{Address, AddressHashes};
 use urlpattern_matcher::regexp::RegExp;
-use urlpattern_matches::{pathname_texts, url_texts};
-use urlpattern_pattern::UrlPattern;
+use urlpattern_matches::{UrlPatternCaptures, pathname_texts, url_texts};
+use urlpattern_pattern::{UrlPattern, match_of_texts};
 use urlpattern_syntax::Error;
 use urlpattern_syntax::error::OutOfMemory;
 
@@ -51,8 +45,8 @@ use urlpattern_syntax::error::OutOfMemory;
 pub struct UrlPatternRouter<T, R: RegExp = regex::Regex> {
     /// The routes, in order.
     pub routes: UrlPatternMap<Route<T>, R>,
-    /// Whether a request with the method `HEAD` is served as one with `GET`, unless the first route
-    /// that takes `HEAD` has this method itself. True unless it is changed.
+    /// Whether a request with the method `HEAD` is served as one with `GET` if no route that has
+    /// the method `HEAD` matches. True unless it is changed.
     pub head_as_get: bool,
 }
 
@@ -166,6 +160,113 @@ impl<T, R: RegExp> UrlPatternRouter<T, R> {
                 Ok(Routed::MethodNotAllowed(AllowedMethods::new(&self.routes, alloc, texts)))
             }
             None => Ok(Routed::NotFound),
+        }
+    }
+
+    /// Returns the route that serves a request with this method and eight texts: its index, its
+    /// value, and the match. `hashes` are those of the texts, and no route before the index `first`
+    /// matches them.
+    fn first_route<'m, 'u>(
+        &'m self,
+        alloc: Global,
+        method: &str,
+        texts: &Eight<&'u str>,
+        hashes: &AddressHashes,
+        first: usize,
+    ) -> Result<Option<(usize, &'m T, UrlPatternCaptures<'m, 'u>)>, OutOfMemory>
+        requires hashes { hashes_view hashes.now
+            ≡ hashes_of (address_of (borrowed_texts texts.now)) }
+        requires first { IsCandidate R.answer self.now.routes (borrowed_texts texts.now) first }
+        ensures served { IfOk result
+            (IsServed R.answer self.now (chars method.now) (borrowed_texts texts.now)) }
+        ensures asked { IfErr result (λ _.
+            CallsEngineOfServing R.answer self.now (chars method.now)
+            (borrowed_texts texts.now)) }
+    {
+        if !self.is_head(method) {
+            return self.first_that_takes(alloc, true, method, texts, hashes, first);
+        }
+        let own = self.first_that_takes(alloc, false, "HEAD", texts, hashes, first)?;
+        if let Some((index, value, captures)) = own {
+            return Ok(Some((index, value, captures)));
+        }
+        self.first_that_takes(alloc, true, "GET", texts, hashes, first)
+    }
+
+    /// Whether the method is `HEAD`, and is served by routes for `GET`.
+    fn is_head(&self, method: &str) -> bool
+        ensures { IsTrue result ↔ IsHead self.now (chars method.now) }
+    {
+        if !self.head_as_get {
+            return false;
+        }
+        method == "HEAD"
+    }
+
+    /// Returns the first route with this method or, if `or_any` is true, for every method whose
+    /// pattern matches eight texts: its index, its value, and the match. `hashes` are those of the
+    /// texts, and no route before the index `first` matches them.
+    fn first_that_takes<'m, 'u>(
+        &'m self,
+        alloc: Global,
+        or_any: bool,
+        method: &str,
+        texts: &Eight<&'u str>,
+        hashes: &AddressHashes,
+        first: usize,
+    ) -> Result<Option<(usize, &'m T, UrlPatternCaptures<'m, 'u>)>, OutOfMemory>
+        requires hashes { hashes_view hashes.now
+            ≡ hashes_of (address_of (borrowed_texts texts.now)) }
+        requires first { IsCandidate R.answer self.now.routes (borrowed_texts texts.now) first }
+        ensures found { IfOk result (IsRouteFound R.answer self.now.routes
+            (TakesBy or_any (chars method.now)) (borrowed_texts texts.now)) }
+        ensures asked { IfErr result (λ _.
+            CallsEngineBeforeRoute R.answer self.now.routes (TakesBy or_any (chars method.now))
+            (borrowed_texts texts.now)) }
+    {
+        let len = self.routes.len();
+        let mut found = Some(first);
+        while let Some(index) = found {
+            if let Some((value, captures)) = self.served_at(alloc, or_any, method, texts, index)? {
+                return Ok(Some((index, value, captures)));
+            }
+            let next = index + 1;
+            if next >= len {
+                return Ok(None);
+            }
+            found = self.routes.next_candidate(hashes, next);
+        }
+        Ok(None)
+    }
+
+    /// Returns the value of the route at an index, and the match, if the route has this method or,
+    /// if `or_any` is true, serves every method, and its pattern matches eight texts.
+    fn served_at<'m, 'u>(
+        &'m self,
+        alloc: Global,
+        or_any: bool,
+        method: &str,
+        texts: &Eight<&'u str>,
+        index: usize,
+    ) -> Result<Option<(&'m T, UrlPatternCaptures<'m, 'u>)>, OutOfMemory>
+        ensures served { IfOk result (λ found. MatchOption found
+            (NoneServesAt R.answer self.now.routes (TakesBy or_any (chars method.now))
+            (borrowed_texts texts.now) index)
+            (λ first. Serves R.answer self.now.routes (TakesBy or_any (chars method.now))
+            (borrowed_texts texts.now) (index, first.0, first.1))) }
+        ensures asked { IfErr result (λ _.
+            CallsEngineAt R.answer self.now.routes (TakesBy or_any (chars method.now))
+            (borrowed_texts texts.now) index) }
+    {
+        let Some((pattern, route)) = self.routes.get(index) else {
+            return Ok(None);
+        };
+        if !route.takes_by(or_any, method) {
+            return Ok(None);
+        }
+        match match_of_texts(alloc, pattern, texts)? {
+            Some(captures) => Ok(Some((&route.value, captures))),
+            None => Ok(None),
         }
     }
 }

@@ -29,6 +29,9 @@ program_send = search (hir_send, plans_send, dfa.the_field_send, byte_set.the_se
 regex_send : IsSend (Regex.the_field).row
 regex_send = search (program_send, crosses, sendable) depth 60 fits 20000
 
+engine_send : IsSend (PatternRegexp.the_field).row
+engine_send = search (regex_send, nfa.the_field_send, step.the_field_send, search_of_steps.the_field_send, crosses, sendable) depth 60 fits 20000
+
 hir_sync : IsSync (Hir.the_field).row
 hir_sync = search (crosses, knot.crosses_both, sendable) depth 60 fits 20000
 
@@ -41,14 +44,8 @@ program_sync = search (hir_sync, plans_sync, dfa.the_field_sync, byte_set.the_sy
 regex_sync : IsSync (Regex.the_field).row
 regex_sync = search (program_sync, crosses, sendable) depth 60 fits 20000
 
--- What the copies of a value share goes to another thread only if several may read it.
-ruleset shared = (regex_send, regex_sync, nfa.the_field_send, nfa.the_field_sync, step.the_field_send, step.the_field_sync, search_of_steps.the_field_send, search_of_steps.the_field_sync)
-
-engine_send : IsSend (PatternRegexp.the_field).row
-engine_send = search (shared, crosses, sendable) depth 60 fits 20000
-
 engine_sync : IsSync (PatternRegexp.the_field).row
-engine_sync = search (shared, crosses, sendable) depth 60 fits 20000
+engine_sync = search (regex_sync, nfa.the_field_sync, step.the_field_sync, search_of_steps.the_field_sync, crosses, sendable) depth 60 fits 20000
 
 pub patterns_send : IsSend PatternBox.the_row
 patterns_send = search (engine_send, engine_sync, list.the_send, list.the_sync, crosses, sendable) depth 60 fits 20000

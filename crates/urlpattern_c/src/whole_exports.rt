@@ -30,8 +30,7 @@ pub extern "C" fn urlpattern_text(
     status.number()
 }
 
-/// Whether the patterns at two indices are the same: 1 if they are, 0 if not, 8 if an index is out
-/// of range.
+/// Whether the patterns at two indices are the same: 1 if they are, 0 if not.
 #[unsafe(no_mangle)]
 pub extern "C" fn urlpattern_is_same_within(
     alloc: Global,
@@ -50,7 +49,7 @@ pub extern "C" fn urlpattern_is_same_within(
 }
 
 /// Whether the pattern at `index` and the pattern of `others` at `other` are the same: 1 if they
-/// are, 0 if not, 8 if an index is out of range.
+/// are, 0 if not.
 #[unsafe(no_mangle)]
 pub extern "C" fn urlpattern_is_same_between(
     alloc: Global,

@@ -309,14 +309,9 @@ among_wide wide refused i it one next has =
 
 -- ---- the first texts
 
-none_first : (conditions : List Condition) (most : ℕ) (name : ComponentName) (lack : NoTexts) → IsFirstText conditions most name (Err lack) → AreFirstTexts conditions most (Err lack)
+pub none_first : (conditions : List Condition) (most : ℕ) (name : ComponentName) (lack : NoTexts) → IsFirstText conditions most name (Err lack) → AreFirstTexts conditions most (Err lack)
 none_first conditions most name lacking.Nothing is = λ texts lines met. is (texts name) (lines name) (meets_at conditions texts name met)
 none_first conditions most name lacking.OutOfMemory is = tt
-
-pub error_first : (conditions : List Condition) (most : ℕ) (name : ComponentName) (result : Result (Result (Vec ℕ Global) ComponentName) NoTexts) → IsFirstText conditions most name result →
-    IfErr result (λ lack. AreFirstTexts conditions most (Err lack))
-error_first conditions most name (Ok text) is = tt
-error_first conditions most name (Err lack) is = none_first conditions most name lack is
 
 pub all_first : (conditions : List Condition) (most : ℕ) (texts : Eight (Result (Vec ℕ Global) ComponentName)) (result : Result (Eight (Vec ℕ Global)) ComponentName) →
     ((name : ComponentName) → IsFirstText conditions most name (Ok (at texts name))) → IfOk result (λ known. (name : ComponentName) → at texts name ≡ Ok (at known name)) →

@@ -106,20 +106,12 @@ fn first_texts(
     ensures { AreFirstTexts conditions.now most result }
 {
     let text = |name: ComponentName| -> Result<TextOrDoubt, NoTexts>
-        ensures text { IsFirstText conditions.entry.now most name result }
-        ensures none { IfErr result (λ lack. AreFirstTexts conditions.entry.now most (Err lack)) }
+        ensures { IsFirstText conditions.entry.now most name result }
     { first_text(alloc, conditions, name, most) };
-    // Paths and hosts differ most often, so they are the first.
-    Ok(known_texts(Eight {
-        pathname: text(ComponentName::Pathname)?,
-        hostname: text(ComponentName::Hostname)?,
-        protocol: text(ComponentName::Protocol)?,
-        port: text(ComponentName::Port)?,
-        search: text(ComponentName::Search)?,
-        hash: text(ComponentName::Hash)?,
-        username: text(ComponentName::Username)?,
-        password: text(ComponentName::Password)?,
-    }))
+    match Eight::try_from_fn(text) {
+        Ok(texts) => Ok(known_texts(texts)),
+        Err(lack) => Err(lack),
+    }
 }
 
 /// Returns the texts, or a component in which the search was given up, if there is one.

@@ -13,7 +13,7 @@ use urlpattern_syntax::ComponentParts;
 use urlpattern_syntax::parser::{Options, Part, PartType};
 
 /// Returns a copy of the parts of a pattern.
-pub fn copy_of(alloc: Global, parts: &PatternParts) -> Result<PatternParts, AllocError>
+pub(crate) fn copy_of(alloc: Global, parts: &PatternParts) -> Result<PatternParts, AllocError>
     ensures { IfOk result (AreEqualParts parts.now) }
 {
     let copy = |name: ComponentName| -> Result<ComponentParts, AllocError>

@@ -42,7 +42,6 @@ mod together;
 
 pub use candidates::{Limits, USUAL_LIMITS};
 pub use common_texts::{Common, Doubt, Lack, PatternAutomata, find_common};
-pub use copies::copy_of;
 pub use coverage::{Covering, Overlap, Reason, covers, overlaps};
 pub use first_cover::first_covering;
 pub use order::compare_parts;

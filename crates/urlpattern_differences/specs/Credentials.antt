@@ -54,8 +54,8 @@ DeniesCredentials old new =
 
 -- ---- law
 
--- The pattern for the component `written` matches eight texts without line feeds exactly if the
--- text of that component is not empty.
+-- A pattern of which the component `written` is written matches the eight texts, without line
+-- feeds, of which that of the component is not empty.
 abbrev pub WrittenMatch : Type 0
 WrittenMatch =
     (written : ComponentName) (it : PatternMeaning) → IsWritten written it.parts → MeansByParts it

@@ -1,5 +1,5 @@
 -- What rules decide about eight texts: the first one that matches, or the default.
-use Rattle.std.specs.Prelude.{◌≡◌, ◌<◌, ◌≤◌, ◌+◌, ◌++◌, ◌∷◌, ℕ, All, List, [], MatchOption, None, Option, Some, length, nat_lt, slice_get, take, unwrap_or, vec_capacity, vec_len, if◌then◌else◌}
+use Rattle.std.specs.Prelude.{◌≡◌, ◌<◌, ◌++◌, ◌∷◌, ℕ, All, List, [], MatchOption, None, Option, Some, length, nat_lt, slice_get, take, unwrap_or, if◌then◌else◌}
 use Rattle.std.specs.Option.{option_to_list}
 use Rattle.urlpattern_compare.specs.Candidates.{AreLines, TextAt}
 use Rattle.urlpattern_compare.specs.CommonTexts.{AreMeanings, MeansEach, PatternMeaning, parts_of}
@@ -19,12 +19,6 @@ pub record AppendsRule (old : PolicyAutomata) (pattern : PatternAutomata) (effec
   pub effects : new.effects.items ≡ old.effects.items ++ effect ∷ []
   pub default : new.default ≡ old.default
 
--- The rules are the same in both, and so is what is decided where none matches.
-pub record HasSameRules (old new : PolicyAutomata) : Type 0 where
-  pub patterns : new.patterns.items ≡ old.patterns.items
-  pub effects : new.effects.items ≡ old.effects.items
-  pub default : new.default ≡ old.default
-
 -- The rule at the index is the first that matches the eight texts. None: no rule matches them.
 abbrev pub IsFirst : List PatternMeaning → TextAt → Option ℕ → Type 0
 IsFirst patterns texts (Some index) =
@@ -40,18 +34,11 @@ pub record AreDecided (ones others : List PatternMeaning) (texts : TextAt)
   pub one : IsFirst ones texts first
   pub other : IsFirst others texts second
 
--- `ones` and `others` say which texts the patterns of the two lists match: a component that has an
--- automaton those that it accepts, and any other component some set of texts, which is the same for
--- equal components.
+-- `ones` and `others` may say which texts the components of the rules' patterns match.
 abbrev pub AreMeant : (one other : PolicyAutomata) → (ones others : List PatternMeaning) → Type 0
 AreMeant one other = AreMeanings (parts_of one.patterns.items) (parts_of other.patterns.items)
 
 -- ---- steps
-
--- The lists have room for as many more rules.
-pub record HasRoom (count : ℕ) (policy : PolicyAutomata) : Type 0 where
-  pub patterns : vec_len policy.patterns + count ≤ vec_capacity policy.patterns
-  pub effects : vec_len policy.effects + count ≤ vec_capacity policy.effects
 
 -- The rule is in the list. None: what is decided where no rule matches.
 abbrev pub IsRule : {X : Type 0} → List X → Option ℕ → Type 0

@@ -6,7 +6,7 @@ use Rattle.urlpattern_compare.specs.declared.candidates.Limits.{Limits}
 use Rattle.urlpattern_compare.specs.declared.common_texts.Common.{Common}
 use Rattle.urlpattern_compare.specs.declared.common_texts.Common.TheVariants as answers
 use Rattle.urlpattern_compare.specs.declared.common_texts.Doubt.{Doubt}
-use Rattle.urlpattern_differences.specs.Deciding.{AreDecided, AreMeant, IsRule, before, effect_of, pattern_of}
+use Rattle.urlpattern_differences.specs.Deciding.{AreDecided, AreMeant, before, effect_of, pattern_of}
 use Rattle.urlpattern_differences.specs.declared.excess.Excess.{Excess}
 use Rattle.urlpattern_differences.specs.declared.excess.Excess.TheVariants as founds
 use Rattle.urlpattern_differences.specs.declared.excess.ExcessTexts.{ExcessTexts}
@@ -61,18 +61,15 @@ AllowsAllOf other one =
     → (texts : TextAt) (first second : Option ℕ) → AreDecided ones others texts first second
     → effect_of one first ≡ effects.Allow → effect_of other second ≡ effects.Allow
 
--- The doubt is of a rule of `one` that allows, and one of `other` that denies. None: that of no
--- rule.
+-- The doubt is of a rule of `one` that allows, and one of `other` that denies.
 pub record IsDoubtOfTwo (limits : Limits) (one other : PolicyAutomata) (found : PairDoubt) :
     Type 0 where
   pub allows : effect_of one found.allowing ≡ effects.Allow
   pub denies : effect_of other found.denying ≡ effects.Deny
-  pub rule_of_one : IsRule one.patterns.items found.allowing
-  pub rule_of_other : IsRule other.patterns.items found.denying
   pub doubt : IsPairDoubt limits one other found.allowing found.denying found.doubt
 
--- Of each rule of `one` that allows and each of `other` that denies: no texts are known of which
--- the two are the first that match.
+-- No rule of `one` that allows and rule of `other` that denies are known to be the first that match
+-- some texts.
 abbrev pub NoExcessKnown : Limits → (one other : PolicyAutomata) → Type 0
 NoExcessKnown limits one other =
     (first second : Option ℕ) → effect_of one first ≡ effects.Allow

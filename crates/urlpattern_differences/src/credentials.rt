@@ -1,7 +1,6 @@
 //! Rules that deny a user name and a password.
-ghost use Rattle.std.specs.Prelude.{IfOk, OnErr, OnOk};
+ghost use Rattle.std.specs.Prelude.{IfOk, OnOk};
 ghost use Rattle.urlpattern_compare.specs.CommonTexts.{AreAutomata};
-ghost use Rattle.urlpattern_differences.specs.Deciding.{HasSameRules};
 ghost use Rattle.urlpattern_differences.specs.Credentials.{DeniesCredentials, IsWildcard, IsWildcardOf, IsWritten, WrittenMatch};
 
 use crate::rules::{Effect, PolicyAutomata};
@@ -13,24 +12,20 @@ use urlpattern_syntax::parser::{Options, Part, PartModifier, PartType};
 
 impl PolicyAutomata {
     /// Appends two rules, which deny URLs with a user name and URLs with a password. If memory runs
-    /// out, the rules are unchanged.
-    ///
-    /// A policy that denies credentials before any rule calls this before it appends others.
+    /// out, one of them or both are missing.
     pub fn deny_credentials(&mut self, alloc: Global) -> Result<(), AllocError>
-        ensures denied { OnOk result (DeniesCredentials self.old self.new) }
-        ensures unchanged { OnErr result (HasSameRules self.old self.new) }
+        ensures { OnOk result (DeniesCredentials self.old self.new) }
     {
         let username = written(alloc, ComponentName::Username)?;
         let password = written(alloc, ComponentName::Password)?;
-        self.reserve(2)?;
-        self.append(username, Effect::Deny);
-        self.append(password, Effect::Deny);
+        self.push(username, Effect::Deny)?;
+        self.push(password, Effect::Deny)?;
         Ok(())
     }
 }
 
-/// The pattern for a component matches eight texts without line feeds exactly if the text of that
-/// component is not empty.
+/// A pattern of which one component is written matches the eight texts, without line feeds, of
+/// which that of the component is not empty.
 pub fn written_match_what_is_written()
     ensures { WrittenMatch }
 {}

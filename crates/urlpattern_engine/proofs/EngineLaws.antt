@@ -61,16 +61,16 @@ form_of ignore_case regexp (LazySteps own) made = inl (record {
   answers = λ text. refl;
 })
 form_of ignore_case regexp (Automaton automaton) made =
-    let source = string_bytes automaton.text in
+    let source = string_bytes automaton.value.text in
     inr (record {
       is_custom = made.2;
       is_read = subst (λ t. IsSome (read (config_for ignore_case) t)) made.0 (reads_some (config_for ignore_case) source _ _ made.1.is_read);
-      answers = λ text fine. automaton_as_read ignore_case source automaton.nfa made.1 text fine ∙ ap (λ t. read_result ignore_case t text) made.0;
+      answers = λ text fine. automaton_as_read ignore_case source automaton.value.nfa made.1 text fine ∙ ap (λ t. read_result ignore_case t text) made.0;
     })
 form_of ignore_case regexp (Regex regex) made = inr (record {
   is_custom = made.1;
-  is_read = regex_some ignore_case regexp regex made.0;
-  answers = regex_as_read ignore_case regexp regex made.0;
+  is_read = regex_some ignore_case regexp regex.value made.0;
+  answers = regex_as_read ignore_case regexp regex.value made.0;
 })
 form_of ignore_case regexp (LazyRegex own) made = inr (record {
   is_custom = made.2;
@@ -83,11 +83,11 @@ text_good source regexp of_text = ap scalars (sym of_text) ∙ scalars-chars (st
 
 -- The expression consists of characters.
 pub expression_good : (ignore_case : Bool) (regexp : List ℕ) (strategy : Strategy) → IsExpressionOf ignore_case regexp strategy → scalars regexp ≡ true
-expression_good ignore_case regexp (Steps own) made = text_good own.text regexp made.0
-expression_good ignore_case regexp (LazySteps own) made = ap scalars (sym made) ∙ own.text.are_scalars
-expression_good ignore_case regexp (Automaton automaton) made = text_good automaton.text regexp made.0
-expression_good ignore_case regexp (Regex regex) made = text_good regex.pattern.source regexp made.0.of_text
-expression_good ignore_case regexp (LazyRegex own) made = ap scalars (sym made.0) ∙ own.are_scalars
+expression_good ignore_case regexp (Steps own) made = text_good own.value.text regexp made.0
+expression_good ignore_case regexp (LazySteps own) made = text_good own.text regexp made
+expression_good ignore_case regexp (Automaton automaton) made = text_good automaton.value.text regexp made.0
+expression_good ignore_case regexp (Regex regex) made = text_good regex.value.pattern.source regexp made.0.of_text
+expression_good ignore_case regexp (LazyRegex own) made = text_good own regexp made.0
 
 module _ (ignore_case : Bool) (regexp : List ℕ) (strategy : Strategy) (made : IsExpressionOf ignore_case regexp strategy) (text : List ℕ) where
   -- A value of the regular expression of parts without custom ones returns the first match of its

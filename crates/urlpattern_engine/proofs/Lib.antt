@@ -1,4 +1,3 @@
-pub mod GeneratedTextLemmas
 pub mod GrammarResults
 pub mod TextParts
 pub mod AutomatonLemmas

@@ -20,37 +20,37 @@ use Rattle.urlpattern_syntax.specs.Text.{text_of}
 
 -- The text of the expression that a strategy matches.
 abbrev pub expression_text : Strategy → List ℕ
-expression_text (Steps own) = text_of own.text
-expression_text (LazySteps generated) = generated.text.characters
-expression_text (Automaton automaton) = text_of automaton.text
-expression_text (Regex regex) = regex_text regex
-expression_text (LazyRegex own) = own.characters
+expression_text (Steps own) = text_of own.value.text
+expression_text (LazySteps generated) = text_of generated.text
+expression_text (Automaton automaton) = text_of automaton.value.text
+expression_text (Regex regex) = regex_text regex.value
+expression_text (LazyRegex text) = text_of text
 
 -- The captures of an expression in a text, by its strategy. None: no match.
 abbrev pub expression_result : (ignore_case : Bool) → Strategy → List ℕ → Option Captures
-expression_result ignore_case (Steps own) text = walk ignore_case own.steps.items text
+expression_result ignore_case (Steps own) text = walk ignore_case own.value.steps.items text
 expression_result ignore_case (LazySteps generated) text =
     first_way_by ignore_case generated.tree.0 text
-expression_result ignore_case (Automaton automaton) text = automaton_result automaton.nfa text
-expression_result ignore_case (Regex regex) text = regex_result regex text
-expression_result ignore_case (LazyRegex own) text =
-    read_result ignore_case own.characters text
+expression_result ignore_case (Automaton automaton) text = automaton_result automaton.value.nfa text
+expression_result ignore_case (Regex regex) text = regex_result regex.value text
+expression_result ignore_case (LazyRegex regexp) text =
+    read_result ignore_case (text_of regexp) text
 
 -- The strategy holds the expression `regexp`: its steps; or its text alone, if it is generated from
 -- parts without custom ones; or otherwise an automaton, a `Regex`, or the text alone, in which the
 -- grammar reads a pattern.
 abbrev pub IsExpressionOf : (ignore_case : Bool) → (regexp : List ℕ) → Strategy → Type 0
 IsExpressionOf ignore_case regexp (Steps own) =
-    (text_of own.text ≡ regexp) × AreStepsOf regexp own.steps.items
-IsExpressionOf ignore_case regexp (LazySteps generated) = generated.text.characters ≡ regexp
+    (text_of own.value.text ≡ regexp) × AreStepsOf regexp own.value.steps.items
+IsExpressionOf ignore_case regexp (LazySteps generated) = text_of generated.text ≡ regexp
 IsExpressionOf ignore_case regexp (Automaton automaton) =
-    (text_of automaton.text ≡ regexp)
-    × IsNfaOf ignore_case (string_bytes automaton.text) automaton.nfa
+    (text_of automaton.value.text ≡ regexp)
+    × IsNfaOf ignore_case (string_bytes automaton.value.text) automaton.value.nfa
     × ¬ IsGenerated regexp
 IsExpressionOf ignore_case regexp (Regex regex) =
-    IsRegexReadAs ignore_case regexp regex × ¬ IsGenerated regexp
-IsExpressionOf ignore_case regexp (LazyRegex own) =
-    (own.characters ≡ regexp) × IsSome (read (config_for ignore_case) regexp) × ¬ IsGenerated regexp
+    IsRegexReadAs ignore_case regexp regex.value × ¬ IsGenerated regexp
+IsExpressionOf ignore_case regexp (LazyRegex text) =
+    (text_of text ≡ regexp) × IsSome (read (config_for ignore_case) regexp) × ¬ IsGenerated regexp
 
 -- The text of the expression that a value was made of.
 abbrev pub pattern_regexp_text : PatternRegexp → List ℕ

@@ -9,10 +9,9 @@ ghost use Rattle.urlpattern_meaning.specs.GeneratedTexts.{IsGenerated};
 ghost use Rattle.urlpattern_meaning.specs.Ways.{first_way_by};
 ghost use Rattle.urlpattern_syntax.specs.Text.{text_of};
 
-use crate::kept_text::KeptText;
 use crate::steps::match_steps;
 use crate::strategy::StepSearch;
-use std::alloc::{AllocError, Global};
+use std::alloc::Global;
 use urlpattern_steps::reading::read_steps;
 use urlpattern_syntax::error::OutOfMemory;
 
@@ -20,20 +19,18 @@ use urlpattern_syntax::error::OutOfMemory;
 /// for each match.
 #[derive(Drop)]
 pub(crate) struct GeneratedText {
-    pub(crate) text: KeptText,
-    ghost is_generated: { ∥ IsGenerated text.characters ∥₁ },
-    pub ghost tree: { HasTree text.characters } by { HasTree-prop text.characters },
+    pub(crate) text: String,
+    ghost is_generated: { ∥ IsGenerated (text_of text) ∥₁ },
+    pub ghost tree: { HasTree (text_of text) } by { HasTree-prop (text_of text) },
 }
 
 impl GeneratedText {
     /// Creates the value from `text`, which has to be generated from parts without custom ones.
     pub(crate) fn new(text: String) -> GeneratedText
         requires { IsGenerated (text_of text) }
-        ensures { result.text.characters ≡ text_of text }
+        ensures { result.text ≡ text }
     {
-        GeneratedText {
-            text: KeptText { text },
-        }
+        GeneratedText { text }
     }
 
     /// Returns the captures of the groups, by steps that are parsed for the one match. `None`: no
@@ -47,18 +44,7 @@ impl GeneratedText {
         ensures { IfOk result (λ found.
             captures_view found ≡ first_way_by ignore_case self.now.tree.0 (chars text.now)) }
     {
-        let steps = read_steps(alloc, self.text.as_str())?.unwrap();
+        let steps = read_steps(alloc, &self.text)?.unwrap();
         match_steps(alloc, &steps, ignore_case, StepSearch::of(&steps), text)
-    }
-}
-
-/// A copy has the same text.
-impl Clone for GeneratedText {
-    ghost is_clone = { λ generated copy. copy ≡ generated };
-
-    fn clone(&self) -> Result<GeneratedText, AllocError> {
-        Ok(GeneratedText {
-            text: self.text.clone()?,
-        })
     }
 }

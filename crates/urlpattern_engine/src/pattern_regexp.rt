@@ -6,8 +6,7 @@ ghost use Rattle.urlpattern_matcher.specs.Components.{ignores_case};
 ghost use Rattle.urlpattern_engine.specs.PatternRegexps.{HasNumbers, pattern_engine};
 
 use crate::strategy::Strategy;
-use std::alloc::{AllocError, Global};
-use urlpattern_copies::CloneRegExp;
+use std::alloc::Global;
 use urlpattern_matcher::regexp::RegExp;
 use urlpattern_syntax::RegexSyntax;
 use urlpattern_syntax::error::{OutOfMemory, RegExpError};
@@ -19,8 +18,6 @@ use urlpattern_syntax::error::{OutOfMemory, RegExpError};
 /// `regex::Regex` matches the rest. One is also made for each match of a text of 1,024 bytes or
 /// more, in place of the automaton, and for each match by an expression of another form that is
 /// only kept.
-///
-/// A copy of a value shares what was compiled, so that nothing is compiled again.
 ///
 /// A type alias names the engine once:
 ///
@@ -122,22 +119,6 @@ impl RegExp for PatternRegexp {
     fn agrees_with_parts() -> bool {
         true
     }
-}
-
-/// A copy is equal to the value, and shares what was compiled.
-impl Clone for PatternRegexp {
-    ghost is_clone = { λ value copy. copy ≡ value };
-
-    fn clone(&self) -> Result<PatternRegexp, AllocError> {
-        Ok(PatternRegexp {
-            strategy: self.strategy.clone()?,
-            ignore_case: self.ignore_case,
-        })
-    }
-}
-
-impl CloneRegExp for PatternRegexp {
-    ghost clones_are_equal = { λ value copy equal. equal };
 }
 
 /// The greatest length in bytes of an expression: the number of groups that the grammar of `regex`

@@ -18,9 +18,7 @@ ghost use Rattle.urlpattern_syntax.specs.Text.{text_of};
 use crate::automaton::{Automaton, match_once, read_expression, regex_of};
 use crate::bounded_search::CELL_COUNT;
 use crate::generated_text::GeneratedText;
-use crate::kept_text::KeptText;
 use crate::large::is_large;
-use crate::shared::Shared;
 use crate::steps::Steps;
 use regex::Regex;
 use std::alloc::{AllocError, Global};
@@ -41,7 +39,7 @@ pub(crate) enum Strategy {
     /// one can that is generated from parts without custom ones: literals, captured runs, repeated
     /// literals, segments and optional groups. Keeps the text and the steps, O(m). A match costs
     /// what its [`StepSearch`] costs.
-    Steps(Shared<Steps>),
+    Steps(Box<Steps>),
     /// Matches by steps that are parsed for each match.
     ///
     /// Chosen for a generated expression that is kept and hardly ever matched. Keeps its m bytes. A
@@ -52,18 +50,18 @@ pub(crate) enum Strategy {
     /// Chosen for an expression without steps that is to match texts, and matches only at the start
     /// of a text. Keeps the text and an automaton of up to 10 MiB. A match costs what its
     /// [`AutomatonSearch`] costs.
-    Automaton(Shared<Automaton>),
+    Automaton(Box<Automaton>),
     /// Matches by a `regex::Regex` that is compiled once.
     ///
     /// Chosen for an expression without steps that is to match texts, and may match elsewhere than
     /// at the start of a text. Keeps what `regex` compiles. A match takes the time and memory of
     /// `regex`.
-    Regex(Shared<Regex>),
+    Regex(Box<Regex>),
     /// Matches by a `regex::Regex` that is compiled for each match.
     ///
     /// Chosen for an expression without steps that is kept and hardly ever matched. Keeps its m
     /// bytes. A match compiles the expression, and takes the time and memory of `regex`.
-    LazyRegex(KeptText),
+    LazyRegex(String),
 }
 
 /// How steps match a text.
@@ -139,7 +137,7 @@ impl Strategy {
     {
         if let Some(steps) = read_steps(alloc, pattern)? {
             let steps = Steps::new(String::from_str(alloc, pattern)?, steps);
-            return Ok(Strategy::Steps(Shared::new(alloc, steps)?));
+            return Ok(Strategy::Steps(boxed(alloc, steps)?));
         }
         Ok(compiled(alloc, pattern, ignore_case)?)
     }
@@ -164,10 +162,10 @@ impl Strategy {
         }
         if let Some(steps) = read_steps(alloc, &pattern)? {
             let steps = Steps::new(pattern, steps);
-            return Ok(Strategy::Steps(Shared::new(alloc, steps)?));
+            return Ok(Strategy::Steps(boxed(alloc, steps)?));
         }
         check(alloc, &pattern, ignore_case)?;
-        Ok(Strategy::LazyRegex(KeptText { text: pattern }))
+        Ok(Strategy::LazyRegex(pattern))
     }
 
     /// Returns the captures of the groups, if the expression matches the text. `None`: no match. An
@@ -182,11 +180,11 @@ impl Strategy {
             captures_view found ≡ expression_result ignore_case self.now (chars text.now)) }
     {
         match self {
-            Strategy::Steps(steps) => steps.get().matches(alloc, ignore_case, text),
+            Strategy::Steps(steps) => steps.matches(alloc, ignore_case, text),
             Strategy::LazySteps(generated) => generated.matches(alloc, ignore_case, text),
-            Strategy::Automaton(automaton) => automaton.get().matches(alloc, text),
-            Strategy::Regex(regex) => RegExp::matches(regex.get(), alloc, text),
-            Strategy::LazyRegex(pattern) => match_once(alloc, pattern.as_str(), ignore_case, text),
+            Strategy::Automaton(automaton) => automaton.matches(alloc, text),
+            Strategy::Regex(regex) => RegExp::matches(&**regex, alloc, text),
+            Strategy::LazyRegex(pattern) => match_once(alloc, pattern, ignore_case, text),
         }
     }
 
@@ -195,26 +193,11 @@ impl Strategy {
         ensures { chars result.now ≡ expression_text self.now }
     {
         match self {
-            Strategy::Steps(steps) => steps.get().text.as_str(),
+            Strategy::Steps(steps) => steps.text.as_str(),
             Strategy::LazySteps(generated) => generated.text.as_str(),
-            Strategy::Automaton(automaton) => automaton.get().text.as_str(),
-            Strategy::Regex(regex) => RegExp::pattern_string(regex.get()),
+            Strategy::Automaton(automaton) => automaton.text.as_str(),
+            Strategy::Regex(regex) => RegExp::pattern_string(&**regex),
             Strategy::LazyRegex(pattern) => pattern.as_str(),
-        }
-    }
-}
-
-/// A copy shares what was compiled, and has the same text.
-impl Clone for Strategy {
-    ghost is_clone = { λ strategy copy. copy ≡ strategy };
-
-    fn clone(&self) -> Result<Strategy, AllocError> {
-        match self {
-            Strategy::Steps(steps) => Ok(Strategy::Steps(steps.clone()?)),
-            Strategy::LazySteps(generated) => Ok(Strategy::LazySteps(generated.clone()?)),
-            Strategy::Automaton(automaton) => Ok(Strategy::Automaton(automaton.clone()?)),
-            Strategy::Regex(regex) => Ok(Strategy::Regex(regex.clone()?)),
-            Strategy::LazyRegex(pattern) => Ok(Strategy::LazyRegex(pattern.clone()?)),
         }
     }
 }
@@ -229,10 +212,10 @@ fn compiled(alloc: Global, pattern: &str, ignore_case: bool) -> Result<Strategy,
         ¬ IsGenerated (chars pattern.now) → IsExpressionOf ignore_case (chars pattern.now) made) }
 {
     match Automaton::new(alloc, pattern, ignore_case)? {
-        Some(automaton) => Ok(Strategy::Automaton(Shared::new(alloc, automaton)?)),
+        Some(automaton) => Ok(Strategy::Automaton(boxed(alloc, automaton)?)),
         None => {
             let regex = regex_of(alloc, pattern, ignore_case)?;
-            Ok(Strategy::Regex(Shared::new(alloc, regex)?))
+            Ok(Strategy::Regex(boxed(alloc, regex)?))
         }
     }
 }
@@ -251,6 +234,16 @@ fn check(alloc: Global, pattern: &str, ignore_case: bool) -> Result<(), RegExpEr
         compiled(alloc, pattern, ignore_case)?;
     }
     Ok(())
+}
+
+/// Moves a value to the heap.
+fn boxed<T: Drop>(alloc: Global, value: T) -> Result<Box<T>, AllocError>
+    ensures { IfOk result (λ boxed. boxed.value ≡ value) }
+{
+    match Box::new(alloc, value) {
+        Ok(boxed) => Ok(boxed),
+        Err(error) => Err(AllocError::from(error)),
+    }
 }
 
 /// The greatest length in bytes of a text for which `MemoizedIfLong` memoizes nothing.

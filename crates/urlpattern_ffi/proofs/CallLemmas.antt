@@ -5,7 +5,7 @@ use Rattle.urlpattern.specs.Errors.{ErrorView, MemoryOr, error_view}
 use Rattle.urlpattern.specs.Errors.{ErrorView as views}
 use Rattle.urlpattern.specs.FromString.{IsPatternOfText, RejectsPatternOfText}
 use Rattle.urlpattern.specs.Patterns.{pattern_view}
-use Rattle.std.specs.Prelude.{encode_utf8_all, option_map, slice_get, Option, Some}
+use Rattle.std.specs.Prelude.{slice_get, Option, Some}
 use Rattle.urlpattern.specs.Eight.{components}
 use Rattle.urlpattern_ffi.specs.Calls.{given_base, c_options, error_status, IsAdded, IsPushed, IsTested, IsUrlTested}
 use Rattle.urlpattern_ffi.specs.ReportedDiagnoses.{IsDiagnosed, IsDiagnosisOfInit, IsDiagnosisOfText, IsInitDiagnosed}
@@ -28,7 +28,7 @@ pub added : (old : List (UrlPattern PatternRegexp)) (text base : List ℕ) (igno
     → IsAdded old text base ignores new status
 added old text base ignores pattern new statuses.Done is keeps pushed = (pattern, is, keeps, pushed)
 added old text base ignores pattern new statuses.OutOfMemory is keeps pushed = pushed
-added old text base ignores pattern new statuses.Shared is keeps pushed = (pattern, is, pushed.0, pushed.1)
+added old text base ignores pattern new statuses.Shared is keeps pushed = pushed
 added old text base ignores pattern new status is keeps pushed = absurd pushed
 
 -- A fact of the texts as they were read is one of the texts as they were passed.
@@ -78,7 +78,7 @@ executed patterns index pattern url base old new needed status is answer = (patt
 -- ---- texts that are written
 
 pub component_written : (patterns : List (UrlPattern PatternRegexp)) (index component : ℕ) (pattern : UrlPattern PatternRegexp) (name : ComponentName) (text old new : List ℕ) (needed : ℕ) (status : Status)
-    → slice_get patterns index ≡ Some pattern → slice_get components component ≡ Some name → text ≡ encode_utf8_all (pattern_view pattern name).pattern_string
+    → slice_get patterns index ≡ Some pattern → slice_get components component ≡ Some name → chars text ≡ (pattern_view pattern name).pattern_string
     → needed ≡ length text → IsWrittenTo text old new status → IsComponentWritten patterns index component old new needed status
 component_written patterns index component pattern name text old new needed statuses.Done is named same counted written = (text, (pattern, name, is, named, same), counted, written)
 component_written patterns index component pattern name text old new needed statuses.TooSmall is named same counted written = (text, (pattern, name, is, named, same), counted, written)
@@ -99,7 +99,7 @@ init_diagnosed json ignores place reason old new needed statuses.TooSmall is cou
 init_diagnosed json ignores place reason old new needed status is counted written = absurd written
 
 pub group_named : (patterns : List (UrlPattern PatternRegexp)) (index component group : ℕ) (text old new : List ℕ) (needed : ℕ) (status : Status)
-    → Some text ≡ option_map encode_utf8_all (group_name_at patterns index component group) → needed ≡ length text → IsWrittenTo text old new status
+    → Some (chars text) ≡ group_name_at patterns index component group → needed ≡ length text → IsWrittenTo text old new status
     → IsGroupNameWritten patterns index component group old new needed status
 group_named patterns index component group text old new needed statuses.Done is counted written = (text, is, counted, written)
 group_named patterns index component group text old new needed statuses.TooSmall is counted written = (text, is, counted, written)

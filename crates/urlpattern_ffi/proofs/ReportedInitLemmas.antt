@@ -21,7 +21,7 @@ pub init_added : (old : PatternList) (json : List ℕ) (ignores : Bool) (init : 
     → IsPushed old pattern new status → IsInitAdded old json ignores new status
 init_added old json ignores init pattern new statuses.Done is compiled keeps pushed = (init, pattern, is, compiled, keeps, pushed)
 init_added old json ignores init pattern new statuses.OutOfMemory is compiled keeps pushed = pushed
-init_added old json ignores init pattern new statuses.Shared is compiled keeps pushed = (init, pattern, is, compiled, pushed.0, pushed.1)
+init_added old json ignores init pattern new statuses.Shared is compiled keeps pushed = pushed
 init_added old json ignores init pattern new status is compiled keeps pushed = absurd pushed
 
 pub init_refused : (old : PatternList) (json : List ℕ) (ignores : Bool) (init : UrlPatternInit) (error : Error)

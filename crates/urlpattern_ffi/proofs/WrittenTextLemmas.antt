@@ -1,7 +1,7 @@
 -- Lemmas on texts of components with given groups.
 use Rattle.std.proofs.Common.{◌≡◌, ℕ, List, length, inl, inr}
 use Rattle.std.specs.Prelude.{slice_get, Some}
-use Rattle.std.specs.Str.{chars, IsUtf8}
+use Rattle.std.specs.Str.{chars}
 use Rattle.urlpattern.specs.Eight.{components}
 use Rattle.urlpattern_components.specs.declared.eight.ComponentName.{ComponentName}
 use Rattle.urlpattern_engine.specs.declared.pattern_regexp.PatternRegexp.{PatternRegexp}
@@ -16,11 +16,11 @@ use Rattle.urlpattern_generate.specs.declared.generate_error.GenerateError.{Gene
 use Rattle.urlpattern_pattern.specs.UrlPatterns.{UrlPattern}
 
 module _ (pattern : UrlPattern PatternRegexp) (component : ComponentName) (text : List ℕ) (given : List GivenBytes) (old new : List ℕ) (needed : ℕ) where
-  pub text_generated : (made : List ℕ) (status : Status) → IsUtf8 made → IsTextOfBytes pattern component text given (chars made) → needed ≡ length made → IsWrittenTo made old new status
+  pub text_generated : (made : List ℕ) (status : Status) → IsTextOfBytes pattern component text given (chars made) → needed ≡ length made → IsWrittenTo made old new status
       → IsComponentGenerated pattern component text given old new needed status
-  text_generated made statuses.Done utf8 is counted written = (made, (utf8, is), counted, written)
-  text_generated made statuses.TooSmall utf8 is counted written = (made, inl (utf8, is), counted, written)
-  text_generated made status utf8 is counted written = absurd written
+  text_generated made statuses.Done is counted written = (made, is, counted, written)
+  text_generated made statuses.TooSmall is counted written = (made, inl is, counted, written)
+  text_generated made status is counted written = absurd written
 
   pub refusal_generated : (reason : GenerateError) (status : Status) → RejectsTextOfBytes pattern component text given reason → IsRefusalWritten reason old new needed status
       → IsComponentGenerated pattern component text given old new needed status

@@ -65,20 +65,18 @@ abbrev pub error_status : ErrorView → Status
 error_status views.OutOfMemory = statuses.OutOfMemory
 error_status error = statuses.Refused
 
--- The outcome of appending a pattern. `Done`: it is appended. `OutOfMemory`: the patterns are
--- unchanged. `Shared`: they are unchanged, and there is one at least. It is reported if another
--- handle has the patterns, of which nothing is said here.
+-- The outcome of appending a pattern. `Done`: it is appended. `OutOfMemory`, and `Shared`, which
+-- says that another handle has the patterns: they are unchanged.
 abbrev pub IsPushed : (old : List (UrlPattern PatternRegexp)) → UrlPattern PatternRegexp
     → (new : List (UrlPattern PatternRegexp)) → Status → Type 0
 IsPushed old pattern new statuses.Done = new ≡ old ++ pattern ∷ []
 IsPushed old pattern new statuses.OutOfMemory = new ≡ old
-IsPushed old pattern new statuses.Shared = (old ≢ []) × (new ≡ old)
+IsPushed old pattern new statuses.Shared = new ≡ old
 IsPushed old pattern new status = ⊥
 
 -- The outcome of compiling the constructor string `text` with the base URL `base` and appending the
 -- pattern. `Done`: the pattern is appended, with its parts. `Refused`: the string is rejected.
--- `Shared`: the string is compiled, and another handle has the patterns (`IsPushed`). Unless
--- `Done`, the patterns are unchanged.
+-- `Shared`: another handle has the patterns. Unless `Done`, the patterns are unchanged.
 abbrev pub IsAdded : (old : List (UrlPattern PatternRegexp)) → (text base : List ℕ)
     → (ignore_case : Bool) → (new : List (UrlPattern PatternRegexp)) → Status → Type 0
 IsAdded old text base ignores new statuses.Done =
@@ -89,9 +87,7 @@ IsAdded old text base ignores new statuses.Refused =
 IsAdded old text base ignores new statuses.NotUtf8 =
     ((¬ IsUtf8 text) ⊎ (¬ IsUtf8 base)) × (new ≡ old)
 IsAdded old text base ignores new statuses.OutOfMemory = new ≡ old
-IsAdded old text base ignores new statuses.Shared =
-    (pattern : UrlPattern PatternRegexp) × IsCompiledFromText text (given_base base) ignores pattern
-    × (old ≢ []) × (new ≡ old)
+IsAdded old text base ignores new statuses.Shared = new ≡ old
 IsAdded old text base ignores new status = ⊥
 
 -- ---- URLs

@@ -1,5 +1,5 @@
 -- Inits in JSON, and the outcome of compiling them.
-use Rattle.std.specs.Prelude.{◌≡◌, ◌≢◌, ◌⊎◌, ◌++◌, ℕ, Bool, List, [], ◌∷◌, Option, None, Some, option_and_then}
+use Rattle.std.specs.Prelude.{◌≡◌, ◌⊎◌, ◌++◌, ℕ, Bool, List, [], ◌∷◌, Option, None, Some, option_and_then}
 use Rattle.std.specs.Str.{IsUtf8}
 use Rattle.serde_json.specs.Read.{read}
 use Rattle.urlpattern.specs.Errors.{ErrorView}
@@ -60,8 +60,7 @@ IsInitRejected json ignores error =
 
 -- The outcome of compiling an init in JSON and appending the pattern. `Done`: the pattern is
 -- appended, with its parts. `Refused`: the JSON is not an init, or the init is rejected. `Shared`:
--- the init is compiled, and another handle has the patterns, of which there is one at least. Unless
--- `Done`, the patterns are unchanged.
+-- another handle has the patterns. Unless `Done`, the patterns are unchanged.
 abbrev pub IsInitAdded : (old : PatternList) → (json : List ℕ)
     → (ignore_case : Bool) → (new : PatternList) → Status → Type 0
 IsInitAdded old json ignores new statuses.Done =
@@ -72,8 +71,5 @@ IsInitAdded old json ignores new statuses.Refused =
     (IsNoInit json statuses.Refused ⊎ ((error : ErrorView) × IsInitRejected json ignores error))
     × (new ≡ old)
 IsInitAdded old json ignores new statuses.OutOfMemory = new ≡ old
-IsInitAdded old json ignores new statuses.Shared =
-    (init : UrlPatternInit) × (pattern : UrlPattern PatternRegexp) × IsInitOfJson json init
-    × IsPatternOfInit pattern_engine init (c_options ignores) (pattern_view pattern)
-    × (old ≢ []) × (new ≡ old)
+IsInitAdded old json ignores new statuses.Shared = new ≡ old
 IsInitAdded old json ignores new status = IsNoInit json status × (new ≡ old)

@@ -1,6 +1,6 @@
 -- Eight texts that two patterns match, or that only one of them matches, as reported to C. They are
 -- written as an init in JSON.
-use Rattle.std.specs.Prelude.{◌≡◌, ◌⊎◌, ◌≤◌, ◌^◌, ℕ, List, length, Option, String, slice_get, None, Some}
+use Rattle.std.specs.Prelude.{◌≡◌, ◌⊎◌, ℕ, List, Option, String, slice_get, None, Some}
 use Rattle.std.specs.declared.alloc.Global.{Global}
 use Rattle.serde_json.specs.Written.{compact_text}
 use Rattle.urlpattern_compare.specs.Comparing.{IsCovered, IsOverlapReason, IsParting, IsPatternOverlap, IsReasonIn}
@@ -25,16 +25,11 @@ use Rattle.urlpattern_pattern.specs.declared.pattern.compare.CompareError.TheVar
 abbrev pub KnownTexts : Type 0
 KnownTexts = Eight (Option (String Global))
 
--- How many bytes the JSON of eight texts has at most.
-abbrev pub most_json_bytes : ℕ
-most_json_bytes = 2 ^ 20
-
--- `text` is the JSON of an init with these texts, and without a base URL. It has at most
--- `most_json_bytes` bytes.
+-- `text` is the JSON of an init with these texts, and without a base URL.
 abbrev pub IsJsonOfTexts : KnownTexts → (text : List ℕ) → Type 0
 IsJsonOfTexts texts text =
     (init : UrlPatternInit) × (plain_init_texts init ≡ texts) × (init.base_url ≡ None)
-    × (text ≡ compact_text (init_tree (init_view init))) × (length text ≤ most_json_bytes)
+    × (text ≡ compact_text (init_tree (init_view init)))
 
 -- The outcome of writing an init with these texts. `Done`: it is written. `TooSmall`: the buffer
 -- has no room for it.
@@ -81,8 +76,7 @@ abbrev pub IsCoveringUnknown : (parts asked : PatternParts) → Type 0
 IsCoveringUnknown parts asked =
     (name : ComponentName) × (reason : Reason) × IsReasonIn parts asked name reason
 
--- By their parts, both patterns match the texts. A component of which no text is known is equal in
--- both: what it matches is not known.
+-- By their parts, both patterns match the texts.
 abbrev pub AreCommon : (parts others : PatternParts) → KnownTexts → Type 0
 AreCommon parts others texts = IsPatternOverlap parts others (commons.Common texts)
 

@@ -1,5 +1,5 @@
 -- Diagnoses of patterns that are rejected, as reported to C.
-use Rattle.std.specs.Prelude.{◌≡◌, ◌+◌, ◌*◌, ◌≤◌, ℕ, Bool, List, length, string_bytes}
+use Rattle.std.specs.Prelude.{◌≡◌, ◌+◌, ℕ, Bool, List, string_bytes}
 use Rattle.std.specs.Str.{chars}
 use Rattle.urlpattern.specs.Errors.{ErrorView, error_view}
 use Rattle.urlpattern.specs.FromString.{IsPatternOfText}
@@ -40,21 +40,16 @@ place_of_diagnosis subject diagnosis = record {
   end = diagnosis.fault.span.end;
 }
 
--- How many bytes a reason has at most, if the texts that are passed have `passed` bytes together.
-abbrev pub most_reason_bytes : (passed : ℕ) → ℕ
-most_reason_bytes passed = 16 * passed + 1024
-
 -- `reason` and `place` are those of a diagnosis for which `Shows` is true, whose spans are within
 -- its text, and for whose error `Refuses` is true. `Shows` says which text that is. `number` gives
--- the number of its subject. The reason has at most `most` bytes.
+-- the number of its subject.
 pub record IsDiagnosis (Refuses : ErrorView → Type 0) (Shows : Diagnosis → Type 0)
-    (number : Subject → ℕ) (most : ℕ) (place : Place) (reason : List ℕ) : Type 0 where
+    (number : Subject → ℕ) (place : Place) (reason : List ℕ) : Type 0 where
   pub diagnosis : Diagnosis
   pub is_refused : Refuses (error_view diagnosis.error)
   pub shows : Shows diagnosis
   pub is_within : IsWithinText diagnosis
   pub is_reason : reason ≡ string_bytes diagnosis.reason
-  pub is_short : length reason ≤ most
   pub is_place : place ≡ place_of_diagnosis (number diagnosis.subject) diagnosis
 
 -- The constructor string `text` with the base URL `base`, which may be empty, is rejected with this
@@ -70,7 +65,6 @@ abbrev pub IsDiagnosisOfText : (text base : List ℕ) → (ignore_case : Bool) �
 IsDiagnosisOfText text base ignores =
     IsDiagnosis (RejectsTextByOptions text base ignores)
     (ShowsGiven pattern_engine text (given_base base) (c_options ignores)) subject_number
-    (most_reason_bytes (length text + length base))
 
 -- The diagnosis shows what is wrong with the init in JSON.
 abbrev pub ShowsInitOfJson : (json : List ℕ) → (ignore_case : Bool) → Diagnosis → Type 0
@@ -83,7 +77,6 @@ abbrev pub IsDiagnosisOfInit : (json : List ℕ) → (ignore_case : Bool) → Pl
     → (reason : List ℕ) → Type 0
 IsDiagnosisOfInit json ignores =
     IsDiagnosis (IsInitRejected json ignores) (ShowsInitOfJson json ignores) init_subject_number
-    (most_reason_bytes (length json))
 
 -- The outcome of diagnosing the constructor string `text` with the base URL `base`. `Done`: the
 -- reason why the string or the base is rejected is written. `TooSmall`: the buffer has no room for

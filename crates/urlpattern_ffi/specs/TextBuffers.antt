@@ -1,5 +1,6 @@
 -- Texts that calls write to memory that C owns.
-use Rattle.std.specs.Prelude.{◌≡◌, ◌⊎◌, ◌++◌, ◌<◌, ◌≤◌, ℕ, List, length, drop, encode_utf8_all, slice_get, Option, None, Some, option_and_then, option_map}
+use Rattle.std.specs.Prelude.{◌≡◌, ◌⊎◌, ◌++◌, ◌<◌, ◌≤◌, ℕ, List, length, drop, slice_get, Option, None, Some, option_and_then}
+use Rattle.std.specs.Str.{chars}
 use Rattle.serde_json.specs.Data.{Data}
 use Rattle.serde_json.specs.Read.{read}
 use Rattle.serde_json.specs.Written.{compact_text}
@@ -37,15 +38,15 @@ WritesToBuffer IsText old new needed status =
 
 -- ---- components
 
--- `text` is the pattern text of a component of the pattern at `index`, in UTF-8. `component` is the
--- number of the component.
+-- `text` is the pattern text of a component of the pattern at `index`. `component` is the number of
+-- the component.
 abbrev pub IsTextOfComponent : List (UrlPattern PatternRegexp)
     → (index component : ℕ) → (text : List ℕ) → Type 0
 IsTextOfComponent patterns index component text =
     (pattern : UrlPattern PatternRegexp) × (name : ComponentName)
     × (slice_get patterns index ≡ Some pattern)
     × (slice_get components component ≡ Some name)
-    × (text ≡ encode_utf8_all (pattern_view pattern name).pattern_string)
+    × (chars text ≡ (pattern_view pattern name).pattern_string)
 
 -- The outcome of writing the pattern text of a component of the pattern at `index`. `NoPattern`: no
 -- pattern has this index, or no component this number.
@@ -67,16 +68,15 @@ group_name_at patterns index component group =
     (slice_get components component))
     (slice_get patterns index)
 
--- The outcome of writing the name of a group (`group_name_at`), in UTF-8. `NoPattern`: there is no
--- such group.
+-- The outcome of writing the name of a group (`group_name_at`). `NoPattern`: there is no such
+-- group.
 abbrev pub IsGroupNameWritten : PatternList → (index component group : ℕ) → (old new : List ℕ)
     → (needed : ℕ) → Status → Type 0
 IsGroupNameWritten patterns index component group old new needed statuses.NoPattern =
     (group_name_at patterns index component group ≡ None) × (new ≡ old)
 IsGroupNameWritten patterns index component group old new needed status =
-    WritesToBuffer (λ text.
-    Some text ≡ option_map encode_utf8_all (group_name_at patterns index component group)) old new
-    needed status
+    WritesToBuffer (λ text. Some (chars text) ≡ group_name_at patterns index component group) old
+    new needed status
 
 -- ---- matches
 

@@ -1,9 +1,7 @@
 -- The URL of a pattern with given groups, written to a buffer. Each `GivenBytes` names a group and
 -- cuts the text for it out of one text.
-use Rattle.std.specs.Prelude.{◌≡◌, ◌⊎◌, ◌++◌, ℕ, Any, List, [], None, Some, codes, slice_get, unwrap_or}
+use Rattle.std.specs.Prelude.{◌≡◌, ◌⊎◌, ℕ, Any, List, IfSome, None, Some, slice_get}
 use Rattle.url.specs.Parts.{Parts, serialize}
-use Rattle.url.specs.declared.error.ParseError.{ParseError}
-use Rattle.url.specs.declared.error.ParseError.TheVariants as url_errors
 use Rattle.urlpattern_ffi.specs.KeptPatterns.{PatternList}
 use Rattle.urlpattern_ffi.specs.TextBuffers.{WritesToBuffer}
 use Rattle.urlpattern_ffi.specs.declared.status.Status.{Status}
@@ -15,28 +13,11 @@ pub use Rattle.urlpattern_ffi_links.specs.declared.given.GivenBytes.{GivenBytes}
 use Rattle.urlpattern_pattern.specs.UrlPatterns.{UrlPattern}
 use Rattle.urlpattern_generate.specs.NoLinkText.{no_link_text}
 use Rattle.urlpattern_generate.specs.declared.no_link.NoLink.{NoLink}
-use Rattle.urlpattern_generate.specs.declared.no_link.NoLink.TheVariants as no_link
 
--- Why `url` rejects a text, in words.
-abbrev pub url_error_text : ParseError → List ℕ
-url_error_text url_errors.EmptyHost = codes "empty host"
-url_error_text url_errors.IdnaError = codes "invalid international domain name"
-url_error_text url_errors.InvalidPort = codes "invalid port number"
-url_error_text url_errors.InvalidIpv4Address = codes "invalid IPv4 address"
-url_error_text url_errors.InvalidIpv6Address = codes "invalid IPv6 address"
-url_error_text url_errors.InvalidDomainCharacter = codes "invalid domain character"
-url_error_text url_errors.RelativeUrlWithoutBase = codes "relative URL without a base"
-url_error_text url_errors.Overflow = codes "URLs more than 4 GB are not supported"
-url_error_text error = codes "they are those of no URL"
-
--- The message of the reason why there is no URL.
-abbrev pub reason_text : NoLink → List ℕ
-reason_text (no_link.Url error) = codes "no URL has these texts: " ++ url_error_text error
-reason_text reason = unwrap_or (no_link_text reason) []
-
--- `text` is the message of the reason why there is no URL.
+-- `text` is the message of the reason why there is no URL. Nothing is said of a reason that has the
+-- message of `url`.
 abbrev pub SaysWhy : NoLink → (text : List ℕ) → Type 0
-SaysWhy reason text = text ≡ reason_text reason
+SaysWhy reason text = IfSome (no_link_text reason) (λ words. text ≡ words)
 
 -- The outcome of writing the reason why there is no URL. `Refused`: it is written. `TooSmall`: the
 -- buffer has no room for it. `OutOfMemory`: the buffer is unchanged.

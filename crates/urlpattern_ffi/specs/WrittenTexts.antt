@@ -1,7 +1,7 @@
 -- The text of one component of a pattern with given groups, written to a buffer. Each `GivenBytes`
 -- names a group and cuts the text for it out of one text.
 use Rattle.std.specs.Prelude.{◌≡◌, ◌⊎◌, ℕ, Any, List, None, Some, slice_get}
-use Rattle.std.specs.Str.{chars, IsUtf8}
+use Rattle.std.specs.Str.{chars}
 use Rattle.urlpattern.specs.Eight.{components}
 use Rattle.urlpattern_components.specs.declared.eight.ComponentName.{ComponentName}
 use Rattle.urlpattern_engine.specs.declared.pattern_regexp.PatternRegexp.{PatternRegexp}
@@ -26,11 +26,11 @@ IsRefusalWritten reason old new needed statuses.TooSmall =
 IsRefusalWritten reason old new needed statuses.OutOfMemory = new ≡ old
 IsRefusalWritten reason old new needed status = ⊥
 
--- `written` is the text of the component with the groups that `given` cuts out of `text`, in UTF-8.
+-- `written` is the text of the component with the groups that `given` cuts out of `text`.
 abbrev pub IsTextOfGiven : UrlPattern PatternRegexp → ComponentName → (text : List ℕ)
     → List GivenBytes → (written : List ℕ) → Type 0
 IsTextOfGiven pattern component text given written =
-    IsUtf8 written × IsTextOfBytes pattern component text given (chars written)
+    IsTextOfBytes pattern component text given (chars written)
 
 -- `written` says why the component has no text with the groups that `given` cuts out of `text`.
 abbrev pub IsTextOfRefusal : UrlPattern PatternRegexp → ComponentName → (text : List ℕ)

@@ -1,11 +1,10 @@
 //! Compiles constructor strings, and appends patterns to those of a handle.
-ghost use Rattle.std.specs.Arc.{arc_value};
-ghost use Rattle.std.specs.Prelude.{◌≡◌, ◌≢◌, [], option_copied, IfErr, IfOk};
+ghost use Rattle.std.specs.Prelude.{◌≡◌, option_copied, IfErr, IfOk};
 ghost use Rattle.urlpattern_ffi.specs.Calls.{given_base, c_options, error_status, IsAdded, IsCompiledFromText, IsPushed, KeepsItsParts, RejectsCompilation};
 ghost use Rattle.urlpattern_ffi.specs.KeptPatterns.{boxed_patterns};
 ghost use Rattle.urlpattern.specs.Errors.{error_view, MemoryOr};
 
-use crate::pattern_box::{PatternBox, boxed_pattern};
+use crate::pattern_box::{PatternBox, take_or_make_empty};
 use crate::status::Status;
 use std::alloc::Global;
 use std::str;
@@ -86,8 +85,6 @@ pub(crate) fn options(ignore_case: bool) -> UrlPatternOptions
 
 /// Appends a pattern to `kept`, the patterns of a handle. `OutOfMemory`: memory ran out. `Shared`:
 /// another handle has the patterns. In both cases they are unchanged.
-///
-/// Handles that have no pattern share nothing: the first pattern gets a list of its own.
 pub(crate) fn push(
     alloc: Global,
     kept: &mut Option<Box<PatternBox>>,
@@ -95,34 +92,16 @@ pub(crate) fn push(
 ) -> Status
     ensures { IsPushed (boxed_patterns kept.old) pattern (boxed_patterns kept.new) result }
 {
-    match kept.take() {
-        Some(mut taken) if !taken.list.is_empty() => {
-            let status = append(&mut taken, pattern);
-            *kept = Some(taken);
-            status
-        }
-        _ => match boxed_pattern(alloc, pattern) {
-            Ok(made) => {
-                *kept = Some(made);
-                Status::Done
-            }
-            Err(_) => Status::OutOfMemory,
-        },
-    }
-}
-
-/// Appends a pattern to those in a box, of which there is one at least. `OutOfMemory`: memory ran
-/// out. `Shared`: another handle has the patterns. In both cases they are unchanged.
-fn append(kept: &mut Box<PatternBox>, pattern: UrlPattern<PatternRegexp>) -> Status
-    requires { arc_value kept.old.value.list ≢ [] }
-    ensures { IsPushed (arc_value kept.old.value.list) pattern (arc_value kept.new.value.list)
-        result }
-{
-    match Arc::get_mut(&mut kept.list) {
+    let Ok(mut taken) = take_or_make_empty(alloc, kept) else {
+        return Status::OutOfMemory;
+    };
+    let status = match Arc::get_mut(&mut taken.list) {
         Some(list) => match list.try_push(pattern) {
             Ok(()) => Status::Done,
             Err(_) => Status::OutOfMemory,
         },
         None => Status::Shared,
-    }
+    };
+    *kept = Some(taken);
+    status
 }

@@ -1,6 +1,6 @@
 //! Diagnoses patterns that are rejected.
-ghost use Rattle.std.specs.Prelude.{◌≡◌, ◌≤◌, length, string_bytes};
-ghost use Rattle.urlpattern_ffi.specs.ReportedDiagnoses.{init_subject_number, most_reason_bytes, place_of_diagnosis, subject_number, IsDiagnosed, IsInitDiagnosed};
+ghost use Rattle.std.specs.Prelude.{◌≡◌, length, string_bytes};
+ghost use Rattle.urlpattern_ffi.specs.ReportedDiagnoses.{init_subject_number, place_of_diagnosis, subject_number, IsDiagnosed, IsInitDiagnosed};
 ghost use Rattle.urlpattern_ffi.specs.TextBuffers.{IsWrittenTo};
 
 use crate::adding::{given_base, options};
@@ -46,13 +46,9 @@ pub fn diagnose(
     let Ok(base) = str::from_utf8(base) else {
         return Status::NotUtf8;
     };
-    let most = most_reason_bytes(text.len().saturating_add(base.len()));
     let options = options(ignore_case);
     match UrlPattern::<PatternRegexp>::diagnose(alloc, text, given_base(base), options) {
         Ok(Some(diagnosis)) => {
-            if diagnosis.reason.len() > most {
-                return Status::OutOfMemory;
-            }
             let subject = subject_number(diagnosis.subject);
             write_diagnosis(&diagnosis, subject, buffer, needed, place)
         }
@@ -79,28 +75,14 @@ pub fn diagnose_init(
         Ok(init) => init,
         Err(status) => return status,
     };
-    let most = most_reason_bytes(json.len());
     match UrlPattern::<PatternRegexp>::diagnose_init(alloc, &init, options(ignore_case)) {
         Ok(Some(diagnosis)) => {
-            if diagnosis.reason.len() > most {
-                return Status::OutOfMemory;
-            }
             let subject = init_subject_number(diagnosis.subject);
             write_diagnosis(&diagnosis, subject, buffer, needed, place)
         }
         Ok(None) => Status::NoMatch,
         Err(_) => Status::OutOfMemory,
     }
-}
-
-/// Returns how many bytes of a reason are written at most, if the texts that are passed have
-/// `passed` bytes together. No reason is longer: it has a few words and texts of the pattern, and
-/// percent-encoding makes at most three bytes of one. Of a longer one no room would be promised, so
-/// it counts as one for which memory ran out.
-fn most_reason_bytes(passed: usize) -> usize
-    ensures { result ≤ most_reason_bytes passed }
-{
-    passed.saturating_mul(16).saturating_add(1024)
 }
 
 /// Writes to `buffer` the reason of a diagnosis, its length in bytes to `needed`, and to `place`

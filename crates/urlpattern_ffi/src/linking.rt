@@ -1,13 +1,11 @@
 //! Writes the URL of a pattern with given groups.
 ghost use Rattle.urlpattern_ffi.specs.KeptPatterns.{boxed_patterns};
-ghost use Rattle.std.specs.Prelude.{◌≡◌, IfOk, string_bytes};
-ghost use Rattle.urlpattern_ffi.specs.WrittenLinks.{reason_text, url_error_text, IsLinkReported, IsReasonWritten, IsUrlLinked};
+ghost use Rattle.urlpattern_ffi.specs.WrittenLinks.{IsLinkReported, IsReasonWritten, IsUrlLinked};
 
 use crate::pattern_box::{PatternBox, pattern_at};
 use crate::status::Status;
 use crate::text_buffers::write;
-use std::alloc::{AllocError, Global};
-use url::ParseError;
+use std::alloc::Global;
 use urlpattern::regexp::PatternRegexp;
 use urlpattern::{NoLink, UrlPattern};
 use urlpattern_ffi_links::{GivenBytes, Unlinked};
@@ -60,42 +58,11 @@ fn link_pattern(
 fn write_reason(alloc: Global, reason: &NoLink, buffer: &mut [u8], needed: &mut usize) -> Status
     ensures { IsReasonWritten reason.now buffer.old buffer.new needed.new result }
 {
-    let Ok(text) = reason_text(alloc, reason) else {
+    let Ok(text) = reason.to_string(alloc) else {
         return Status::OutOfMemory;
     };
     match write(&text, buffer, needed) {
         Status::Done => Status::Refused,
         status => status,
-    }
-}
-
-/// The message of the reason why there is no URL.
-fn reason_text(alloc: Global, reason: &NoLink) -> Result<String, AllocError>
-    ensures { IfOk result (λ text. string_bytes text ≡ reason_text reason.now) }
-{
-    match reason {
-        NoLink::Url(error) => {
-            format!(in alloc; "no URL has these texts: {}", url_error_text(*error))
-        }
-        NoLink::Component(_) | NoLink::OtherText(_) | NoLink::OutOfMemory => {
-            reason.to_string(alloc)
-        }
-    }
-}
-
-/// Why `url` rejects a text, in words.
-fn url_error_text(error: ParseError) -> &'static str
-    ensures { result.now ≡ url_error_text error }
-{
-    match error {
-        ParseError::EmptyHost => "empty host",
-        ParseError::IdnaError => "invalid international domain name",
-        ParseError::InvalidPort => "invalid port number",
-        ParseError::InvalidIpv4Address => "invalid IPv4 address",
-        ParseError::InvalidIpv6Address => "invalid IPv6 address",
-        ParseError::InvalidDomainCharacter => "invalid domain character",
-        ParseError::RelativeUrlWithoutBase => "relative URL without a base",
-        ParseError::Overflow => "URLs more than 4 GB are not supported",
-        _ => "they are those of no URL",
     }
 }

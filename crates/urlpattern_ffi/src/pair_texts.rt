@@ -15,11 +15,6 @@ use urlpattern::regexp::PatternRegexp;
 use urlpattern::rules::{Parting, PatternCovering, PatternOverlap};
 use urlpattern::{CompareError, Eight, Error, UrlPattern};
 
-/// How many bytes the JSON of eight texts has at most. A text that is found has at most a character
-/// for each set of states that is reached, of which there are 10,000 at most unless the patterns
-/// have few states. Longer JSON counts as JSON for which memory ran out.
-const MOST_JSON_BYTES: usize = 1 << 20;
-
 /// Writes texts that the asked pattern matches, the one of `others` at `asked`, and the pattern of
 /// `kept` at `index` does not. `NoMatch`: it covers the asked one, so that there are none.
 /// `Unknown`: that is not known. `NoPattern`: an index is out of range.
@@ -130,12 +125,7 @@ fn write_texts(
 {
     let init = UrlPatternInit::from_eight(texts, None);
     match json_of(alloc, &init) {
-        Ok(text) => {
-            if text.len() > MOST_JSON_BYTES {
-                return Status::OutOfMemory;
-            }
-            write(&text, buffer, needed)
-        }
+        Ok(text) => write(&text, buffer, needed),
         Err(_) => Status::OutOfMemory,
     }
 }

@@ -1,5 +1,5 @@
 //! The patterns that a handle keeps. `None` is an empty handle.
-ghost use Rattle.std.specs.Prelude.{◌≡◌, ◌≢◌, ◌∷◌, [], option_copied, slice_get, IfNone, IfOk, IfSome};
+ghost use Rattle.std.specs.Prelude.{◌≡◌, ◌≢◌, [], option_copied, slice_get, IfErr, IfNone, IfOk, IfSome};
 ghost use Rattle.std.specs.Arc.{arc_value};
 ghost use Rattle.urlpattern_ffi.specs.KeptPatterns.{boxed_patterns};
 
@@ -43,22 +43,29 @@ pub(crate) fn pattern_at(
     }
 }
 
-/// Puts a pattern into a box, by itself.
-pub(crate) fn boxed_pattern(
+/// Takes the patterns out of a handle, which is then empty. Returns a new, empty list if the handle
+/// was empty.
+///
+/// The error, that memory ran out, occurs only for an empty handle.
+pub(crate) fn take_or_make_empty(
     alloc: Global,
-    pattern: UrlPattern<PatternRegexp>,
+    kept: &mut Option<Box<PatternBox>>,
 ) -> Result<Box<PatternBox>, AllocError>
-    ensures { IfOk result (λ kept. arc_value kept.value.list ≡ pattern ∷ []) }
+    ensures taken { IfOk result (λ taken. arc_value taken.value.list ≡ boxed_patterns kept.old) }
+    ensures none { IfErr result (λ _. boxed_patterns kept.old ≡ []) }
+    ensures none_left { boxed_patterns kept.new ≡ [] }
 {
-    let mut list = UrlPatternList::new(alloc);
-    if let Err(_) = list.try_push(pattern) {
-        return Err(AllocError);
-    }
-    match Arc::new(alloc, list) {
-        Ok(list) => boxed(alloc, list),
-        Err(failed) => {
-            drop(failed);
-            Err(AllocError)
+    match kept.take() {
+        Some(kept) => Ok(kept),
+        None => {
+            let list = match Arc::new(alloc, UrlPatternList::new(alloc)) {
+                Ok(list) => list,
+                Err(failed) => {
+                    drop(failed);
+                    return Err(AllocError);
+                }
+            };
+            boxed(alloc, list)
         }
     }
 }

@@ -16,7 +16,7 @@ pub enum Status {
     NoUrl,
     /// A text is not a path.
     NoPath,
-    /// A URL, the text of its base URL or an init that is matched has 2^24 bytes or more.
+    /// A URL or the text of its base URL has 2^24 bytes or more.
     TooLong,
     /// A text is not UTF-8.
     NotUtf8,
@@ -30,7 +30,7 @@ pub enum Status {
     NoPattern,
     /// A buffer is too small, for bytes or for spans.
     TooSmall,
-    /// A comparison of two patterns is not decided.
+    /// Whether a pattern covers another one is not known.
     Unknown,
     /// The patterns are those of another handle too, and none is appended.
     Shared,

@@ -1,5 +1,5 @@
 //! Writes texts to memory that C owns.
-ghost use Rattle.std.specs.Prelude.{◌≡◌, encode_utf8_all, length};
+ghost use Rattle.std.specs.Prelude.{◌≡◌, length};
 ghost use Rattle.std.specs.Str.{chars};
 ghost use Rattle.urlpattern.specs.Patterns.{pattern_view};
 ghost use Rattle.urlpattern_ffi.specs.KeptPatterns.{boxed_patterns};
@@ -69,16 +69,9 @@ pub fn write_group_name(
         buffer.new needed.new result }
 {
     match group_name(kept, index, component, group) {
-        Some(name) => write(in_utf8(name), buffer, needed),
+        Some(name) => write(name, buffer, needed),
         None => Status::NoPattern,
     }
-}
-
-/// Returns a text, whose bytes are those of its characters in UTF-8.
-fn in_utf8(text: &str) -> &str
-    ensures { result.now ≡ encode_utf8_all (chars text.now) }
-{
-    text
 }
 
 /// The name of a group of the pattern at an index, given the number of its component and its number

@@ -11,5 +11,4 @@ pub mod MeaningLemmas
 pub mod MatchersDecide
 pub mod ByTextLemmas
 pub mod ReadBackLemmas
-pub mod CopyLemmas
 mod ConstructorTextExamples

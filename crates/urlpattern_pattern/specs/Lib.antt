@@ -14,4 +14,3 @@ pub mod Patterns
 pub mod UrlPatterns
 pub mod ConstructorTexts
 pub mod ReadBack
-pub mod PatternCopies

@@ -9,7 +9,6 @@ ghost use Rattle.urlpattern_components.specs.Eight.{at};
 
 mod compare;
 mod constructor_text;
-mod copy;
 mod create;
 mod diagnose;
 mod generate;

@@ -4,28 +4,25 @@ use Rattle.std.specs.Map.{values_of}
 use Rattle.std.specs.Bool.{OnFalse, OnTrue}
 use mathlib.Core.Logic.{inl, inr}
 use Rattle.url.specs.Parser.{Parsed}
-use Rattle.url.specs.declared.error.ParseError.{ParseError}
+use Rattle.url.specs.Parts.{Parts}
 use Rattle.urlpattern.specs.FirstMatch.{IsFirstCaptured, IsFirstMatchOf}
 use Rattle.std.specs.Borrow.{Bor}
 use Rattle.urlpattern.specs.PatternMaps.{entry_patterns, HasValueAt, without_value}
 use Rattle.urlpattern_matches.specs.BorrowedMatches.{pattern_captures_view}
 use Rattle.urlpattern_matches.specs.declared.captures.UrlPatternCaptures.{UrlPatternCaptures}
-use Rattle.urlpattern_canonical.specs.Canonical.{Reports}
 use Rattle.urlpattern_components.specs.Eight.{Texts}
 use Rattle.urlpattern_meaning.specs.PartMeaning.{Captures}
 use Rattle.urlpattern_matches.specs.ResultViews.{ResultView}
 use Rattle.urlpattern_components.specs.declared.eight.ComponentName.{ComponentName}
 use Rattle.urlpattern_policy.proofs.SpellingLaws.{plain_texts-kept}
-use Rattle.urlpattern_policy.specs.Decisions.{DecidesParsed, IsFirstRule, IsHostRefusal, IsRefusal, Rules, matched_texts}
+use Rattle.urlpattern_policy.specs.Decisions.{DecidesParsed, IsFirstRule, IsRefusal, Rules, matched_texts}
 use Rattle.urlpattern_policy.specs.Spellings.{ArePlain, plain_texts}
-use Rattle.urlpattern_policy.specs.declared.decision.Decision.{Decision}
 use Rattle.urlpattern_policy.specs.declared.decision.Decision.TheVariants.{Deny}
 use Rattle.urlpattern_policy.specs.declared.decision.DenyReason.{DenyReason}
 use Rattle.urlpattern_policy.specs.declared.decision.DenyReason.TheVariants as reasons
 use Rattle.urlpattern_policy.specs.declared.decision.Effect.{Effect}
 use Rattle.urlpattern_policy.specs.declared.policy.PolicyOptions.{PolicyOptions}
-use Rattle.urlpattern_syntax.specs.Errors.{MemoryOr}
-use Rattle.urlpattern_syntax.specs.declared.error.Error.{Error}
+use Rattle.urlpattern_policy.specs.declared.policy.UrlPolicy.{UrlPolicy}
 
 pub at_true : (b : Bool) (P Q : Type 0) → b ≡ true → P → MatchBool b P Q
 at_true true P Q is p = p
@@ -47,21 +44,14 @@ pub found_rule : {E : Type 0} → (answer : E → List ℕ → Option Captures) 
 found_rule answer rules texts found index effect captures wanted is first value same =
     first_rule answer rules texts index (pattern_captures_view captures) effect.now wanted (rw is at first) (rw is at value) same
 
--- What is rejected before any rule is asked is denied.
-pub rejected_is_denied : {T : Type 0} → (Decides : T → Decision → Type 0) (parsed : Parsed T) (reason : DenyReason) → IsRefusal parsed reason → DecidesParsed Decides parsed (Deny reason)
-rejected_is_denied Decides (Ok value) reason (inl memory) = inr (ap (λ it. Deny it) memory)
-rejected_is_denied Decides (Ok value) reason (inr other) = absurd (cc other.1)
-rejected_is_denied Decides (Err error) reason (inl memory) = inr (ap (λ it. Deny it) memory)
-rejected_is_denied Decides (Err error) reason (inr other) =
+-- A text that is rejected before any rule is asked is denied.
+pub rejected_is_denied : {E : Type 0} → (answer : E → List ℕ → Option Captures) (policy : UrlPolicy E) (parsed : Parsed Parts) (reason : DenyReason) → IsRefusal parsed reason → DecidesParsed answer policy parsed (Deny reason)
+rejected_is_denied answer policy (Ok url) reason (inl memory) = inr (ap (λ it. Deny it) memory)
+rejected_is_denied answer policy (Ok url) reason (inr other) = absurd (cc other.1)
+rejected_is_denied answer policy (Err error) reason (inl memory) = inr (ap (λ it. Deny it) memory)
+rejected_is_denied answer policy (Err error) reason (inr other) =
     let same : other.0 ≡ error = cc other.1 in
     inl (ap (λ it. Deny it) (other.2 ∙ ap (λ it. reasons.NotAUrl it) same))
-
--- What is denied for an error of `url` for a host is denied for the host.
-pub refused_host : (asked : Parsed (List ℕ)) (bytes : ℕ) (error : ParseError) (reason : DenyReason) → MemoryOr (Reports asked bytes) (Error.Url error) → IsHostRefusal error reason → IsRefusal asked reason
-refused_host asked bytes error reason (inl memory) refusal = absurd (cc memory)
-refused_host asked bytes error reason (inr reports) (inl memory) = inl memory
-refused_host asked bytes error reason (inr reports) (inr other) =
-    elim reports.1 [ inl is ↦ inr (error, is, other.1) | inr long ↦ absurd (other.0 long.0) ]
 
 -- ---- spelling
 

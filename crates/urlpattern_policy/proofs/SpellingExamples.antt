@@ -22,14 +22,6 @@ decoded_within : plain true (codes "/%%361") ≡ codes "/a"
 unfolding plain
 decoded_within = refl
 
-capital_digits : plain true (codes "/%c3%a9/%2f") ≡ codes "/%C3%A9/%2F"
-unfolding plain
-capital_digits = refl
-
-capital_after_decoded : plain true (codes "/%%63f") ≡ codes "/%CF"
-unfolding plain
-capital_after_decoded = refl
-
 dropped_dots : without_last_dots (codes "a.example..") ≡ codes "a.example"
 unfolding without_first_dots
 dropped_dots = refl

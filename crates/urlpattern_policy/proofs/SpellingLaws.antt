@@ -1,9 +1,8 @@
 -- A plain spelling is plain, a plain text is its own plain spelling, and two texts of which one has
--- a plainer spelling of one place have one plain spelling.
+-- a shorter spelling of one place have one plain spelling.
 use Rattle.std.proofs.Common.{◌≡◌, ℕ, Bool, true, false, not, ◌==◌, ◌&&◌, List, [], ◌∷◌, ◌++◌, Some, None, reverse, refl, sym, ap, ◌∙◌}
 use Rattle.std.proofs.lemmas.Bool.{and_from, and_parts, cases_Bool, eqb-true}
 use Rattle.std.proofs.lemmas.List.{reverse-append, reverse-reverse}
-use Rattle.std.specs.Char.{is_digit, to_ascii_uppercase}
 use Rattle.std.specs.Prelude.{unwrap_or}
 use mathlib.Core.Logic.{inl, inr}
 use Rattle.url.specs.Ascii.{dot, percent_sign, slash}
@@ -11,47 +10,35 @@ use Rattle.urlpattern_components.proofs.EightLemmas.{at-each, same_values}
 use Rattle.urlpattern_components.specs.Eight.{Texts, at}
 use Rattle.urlpattern_components.specs.declared.eight.ComponentName.{ComponentName}
 use Rattle.urlpattern_components.specs.declared.eight.ComponentName.TheVariants.{Protocol, Username, Password, Hostname, Port, Pathname, Search, Hash}
-use Rattle.urlpattern_policy.proofs.SpellingLemmas.{begins-plain, capital, encodes_from, is_plain-first, is_plain-more, is_plain-nil, is_plain-rest, octet-capital, octet-decoded, octet-kept, plain-cons, plain-kept, plain-nil, plain-spelled, plainer-apart, plainer-capital, plainer-digit, plainer-joined, plainer-unreserved, small_from, some_same}
-use Rattle.urlpattern_policy.specs.Spellings.{ArePlain, LastDotIsAlike, PlainIsPlain, PlainerIsAlike, are_joined, character_of, encodes_unreserved, ends_in_dot, has_small_digit, is_dot, is_plain, is_plain_of, is_slash, plain, plain_of, plain_texts, plainer, plainer_octet, without_first_dots, without_last_dots}
+use Rattle.urlpattern_policy.proofs.SpellingLemmas.{begins-plain, decoded-no, decoded-yes, encodes_from, is_plain-first, is_plain-more, is_plain-nil, is_plain-rest, plain-cons, plain-kept, plain-nil, plain-shorter, shortened-apart, shortened-digit, shortened-joined, shortened-unreserved, some_same}
+use Rattle.urlpattern_policy.specs.Spellings.{ArePlain, LastDotIsAlike, PlainIsPlain, ShorterIsAlike, are_joined, character_of, decoded, encodes_unreserved, ends_in_dot, is_dot, is_plain, is_plain_of, is_slash, plain, plain_of, plain_texts, shortened, without_first_dots, without_last_dots}
 use Rattle.urlpattern_syntax.specs.Text.{begins_with}
 
 -- ---- a plain spelling is plain
 
-octet_before : (joins : Bool) (c second : ℕ) (rest : List ℕ) → are_joined joins c second ≡ false → is_plain joins (second ∷ rest) ≡ true → is_plain joins (unwrap_or (plainer_octet (c ∷ second ∷ rest)) (c ∷ second ∷ rest)) ≡ true
-octet_before joins c second [] apart is = is_plain-more joins c (second ∷ []) (plainer-apart joins c second [] apart) ∙ is
-octet_before joins c second (third ∷ rest) apart is =
-    let others = is_plain-rest joins third rest (is_plain-rest joins second (third ∷ rest) is) in
+decoded_before : (joins : Bool) (c second : ℕ) (rest : List ℕ) → are_joined joins c second ≡ false → is_plain joins (second ∷ rest) ≡ true → is_plain joins (unwrap_or (decoded (c ∷ second ∷ rest)) (c ∷ second ∷ rest)) ≡ true
+decoded_before joins c second [] apart is = is_plain-more joins c (second ∷ []) (shortened-apart joins c second [] apart) ∙ is
+decoded_before joins c second (third ∷ rest) apart is =
     elim (cases_Bool (c == percent_sign && encodes_unreserved second third)) [
       | inl so ↦
           let it = encodes_from c second third so in
-          ap (λ it. is_plain joins (unwrap_or it (c ∷ second ∷ third ∷ rest))) (octet-decoded c second third rest so)
-          ∙ is_plain-more joins (character_of second third) rest (plainer-unreserved joins (character_of second third) rest it.unreserved)
+          let others = is_plain-rest joins third rest (is_plain-rest joins second (third ∷ rest) is) in
+          ap (λ it. is_plain joins (unwrap_or it (c ∷ second ∷ third ∷ rest))) (decoded-yes c second third rest so)
+          ∙ is_plain-more joins (character_of second third) rest (shortened-unreserved joins (character_of second third) rest it.unreserved)
           ∙ others
       | inr not_so ↦
-          elim (cases_Bool (c == percent_sign && has_small_digit second third)) [
-            | inl small ↦
-                let it = small_from c second third small in
-                let high = to_ascii_uppercase second in
-                let low = to_ascii_uppercase third in
-                ap (λ it. is_plain joins (unwrap_or it (c ∷ second ∷ third ∷ rest))) (octet-capital c second third rest not_so small)
-                ∙ is_plain-more joins c (high ∷ low ∷ rest) (plainer-capital joins c second third rest it not_so)
-                ∙ is_plain-more joins high (low ∷ rest) (plainer-digit joins high (low ∷ rest) (capital second it.high_digit).digit)
-                ∙ is_plain-more joins low rest (plainer-digit joins low rest (capital third it.low_digit).digit)
-                ∙ others
-            | inr not_small ↦
-                let none = octet-kept c second third rest not_so not_small in
-                ap (λ it. is_plain joins (unwrap_or it (c ∷ second ∷ third ∷ rest))) none
-                ∙ is_plain-more joins c (second ∷ third ∷ rest) (plainer-apart joins c second (third ∷ rest) apart ∙ none)
-                ∙ is
-          ]
+          let none = decoded-no c second third rest not_so in
+          ap (λ it. is_plain joins (unwrap_or it (c ∷ second ∷ third ∷ rest))) none
+          ∙ is_plain-more joins c (second ∷ third ∷ rest) (shortened-apart joins c second (third ∷ rest) apart ∙ none)
+          ∙ is
     ]
 
-plain_before : (joins : Bool) (c : ℕ) (rest : List ℕ) → is_plain joins rest ≡ true → is_plain joins (unwrap_or (plainer joins (c ∷ rest)) (c ∷ rest)) ≡ true
+plain_before : (joins : Bool) (c : ℕ) (rest : List ℕ) → is_plain joins rest ≡ true → is_plain joins (unwrap_or (shortened joins (c ∷ rest)) (c ∷ rest)) ≡ true
 plain_before joins c [] is = is_plain-more joins c [] refl ∙ is
 plain_before joins c (second ∷ rest) is =
     elim (cases_Bool (are_joined joins c second)) [
-      | inl are ↦ ap (λ it. is_plain joins (unwrap_or it (c ∷ second ∷ rest))) (plainer-joined joins c second rest are) ∙ is
-      | inr apart ↦ ap (λ it. is_plain joins (unwrap_or it (c ∷ second ∷ rest))) (plainer-apart joins c second rest apart) ∙ octet_before joins c second rest apart is
+      | inl are ↦ ap (λ it. is_plain joins (unwrap_or it (c ∷ second ∷ rest))) (shortened-joined joins c second rest are) ∙ is
+      | inr apart ↦ ap (λ it. is_plain joins (unwrap_or it (c ∷ second ∷ rest))) (shortened-apart joins c second rest apart) ∙ decoded_before joins c second rest apart is
     ]
 
 pub plain-is_plain : (joins : Bool) (text : List ℕ) → is_plain joins (plain joins text) ≡ true
@@ -63,7 +50,7 @@ pub is_plain-plain : (joins : Bool) (text : List ℕ) → is_plain joins text �
 is_plain-plain joins [] is = plain-nil joins
 is_plain-plain joins (c ∷ text) is =
     plain-cons joins c text
-    ∙ ap (λ it. unwrap_or (plainer joins (c ∷ it)) (c ∷ it)) (is_plain-plain joins text (is_plain-rest joins c text is))
+    ∙ ap (λ it. unwrap_or (shortened joins (c ∷ it)) (c ∷ it)) (is_plain-plain joins text (is_plain-rest joins c text is))
     ∙ ap (λ it. unwrap_or it (c ∷ text)) (is_plain-first joins c text is)
 
 -- ---- the dots at the end
@@ -165,72 +152,50 @@ plain_is_plain texts = record {
 
 -- ---- two spellings of one place
 
-joined_again : (joins : Bool) (c : ℕ) (text : List ℕ) → joins ≡ true → (c == slash) ≡ true → begins_with is_slash text ≡ true → plainer joins (c ∷ text) ≡ Some text
+joined_again : (joins : Bool) (c : ℕ) (text : List ℕ) → joins ≡ true → (c == slash) ≡ true → begins_with is_slash text ≡ true → shortened joins (c ∷ text) ≡ Some text
 joined_again joins c [] so is begins = absurd cc
-joined_again joins c (d ∷ text) so is begins = plainer-joined joins c d text (and_from joins (c == slash && d == slash) so (and_from (c == slash) (d == slash) is begins))
+joined_again joins c (d ∷ text) so is begins = shortened-joined joins c d text (and_from joins (c == slash && d == slash) so (and_from (c == slash) (d == slash) is begins))
 
-first_joined : (joins : Bool) (c second : ℕ) (rest spelled : List ℕ) → are_joined joins c second ≡ true → plainer joins (c ∷ second ∷ rest) ≡ Some spelled → plain joins (c ∷ second ∷ rest) ≡ plain joins spelled
-first_joined joins c second rest spelled are e =
+first_joined : (joins : Bool) (c second : ℕ) (rest shorter : List ℕ) → are_joined joins c second ≡ true → shortened joins (c ∷ second ∷ rest) ≡ Some shorter → plain joins (c ∷ second ∷ rest) ≡ plain joins shorter
+first_joined joins c second rest shorter are e =
     let all = and_parts joins (c == slash && second == slash) are in
     let both = and_parts (c == slash) (second == slash) all.1 in
-    let same = some_same (second ∷ rest) spelled (sym (plainer-joined joins c second rest are) ∙ e) in
-    plain-spelled joins c (second ∷ rest) (plain joins (second ∷ rest))
+    let same = some_same (second ∷ rest) shorter (sym (shortened-joined joins c second rest are) ∙ e) in
+    plain-shorter joins c (second ∷ rest) (plain joins (second ∷ rest))
     (joined_again joins c (plain joins (second ∷ rest)) all.0 both.0 (begins-plain joins (second ∷ rest) ∙ both.1))
     ∙ ap (plain joins) same
-
-digits_kept : (joins : Bool) (high low : ℕ) (rest : List ℕ) → is_digit high 16 ≡ true → is_digit low 16 ≡ true → plain joins (high ∷ low ∷ rest) ≡ high ∷ low ∷ plain joins rest
-digits_kept joins high low rest is_high is_low =
-    plain-kept joins high (low ∷ rest) (plainer-digit joins high (plain joins (low ∷ rest)) is_high)
-    ∙ ap (λ it. high ∷ it) (plain-kept joins low rest (plainer-digit joins low (plain joins rest) is_low))
 
 first_decoded : (joins : Bool) (c second third : ℕ) (rest : List ℕ) → are_joined joins c second ≡ false → (c == percent_sign && encodes_unreserved second third) ≡ true → plain joins (c ∷ second ∷ third ∷ rest) ≡ plain joins (character_of second third ∷ rest)
 first_decoded joins c second third rest apart so =
     let it = encodes_from c second third so in
-    let digits = digits_kept joins second third rest it.high_digit it.low_digit in
-    let some = ap (λ it. plainer joins (c ∷ it)) digits ∙ plainer-apart joins c second (third ∷ plain joins rest) apart ∙ octet-decoded c second third (plain joins rest) so in
-    plain-spelled joins c (second ∷ third ∷ rest) (character_of second third ∷ plain joins rest) some
-    ∙ sym (plain-kept joins (character_of second third) rest (plainer-unreserved joins (character_of second third) (plain joins rest) it.unreserved))
+    let low = plain-kept joins third rest (shortened-digit joins third (plain joins rest) it.low_digit) in
+    let high = plain-kept joins second (third ∷ rest) (shortened-digit joins second (plain joins (third ∷ rest)) it.high_digit) ∙ ap (λ it. second ∷ it) low in
+    let some = ap (λ it. shortened joins (c ∷ it)) high ∙ shortened-apart joins c second (third ∷ plain joins rest) apart ∙ decoded-yes c second third (plain joins rest) so in
+    plain-shorter joins c (second ∷ third ∷ rest) (character_of second third ∷ plain joins rest) some
+    ∙ sym (plain-kept joins (character_of second third) rest (shortened-unreserved joins (character_of second third) (plain joins rest) it.unreserved))
 
-first_capital : (joins : Bool) (c second third : ℕ) (rest : List ℕ) → are_joined joins c second ≡ false → (c == percent_sign && encodes_unreserved second third) ≡ false → (c == percent_sign && has_small_digit second third) ≡ true → plain joins (c ∷ second ∷ third ∷ rest) ≡ plain joins (c ∷ to_ascii_uppercase second ∷ to_ascii_uppercase third ∷ rest)
-first_capital joins c second third rest apart not_so small =
-    let it = small_from c second third small in
-    let high = to_ascii_uppercase second in
-    let low = to_ascii_uppercase third in
-    let digits = digits_kept joins second third rest it.high_digit it.low_digit in
-    let capitals = digits_kept joins high low rest (capital second it.high_digit).digit (capital third it.low_digit).digit in
-    let some = ap (λ it. plainer joins (c ∷ it)) digits ∙ plainer-apart joins c second (third ∷ plain joins rest) apart ∙ octet-capital c second third (plain joins rest) not_so small in
-    let none = ap (λ it. plainer joins (c ∷ it)) capitals ∙ plainer-capital joins c second third (plain joins rest) it not_so in
-    plain-spelled joins c (second ∷ third ∷ rest) (c ∷ high ∷ low ∷ plain joins rest) some
-    ∙ sym (plain-kept joins c (high ∷ low ∷ rest) none ∙ ap (λ it. c ∷ it) capitals)
-
-first_apart : (joins : Bool) (c second : ℕ) (rest spelled : List ℕ) → are_joined joins c second ≡ false → plainer_octet (c ∷ second ∷ rest) ≡ Some spelled → plain joins (c ∷ second ∷ rest) ≡ plain joins spelled
-first_apart joins c second [] spelled apart e = absurd cc
-first_apart joins c second (third ∷ rest) spelled apart e =
+first_apart : (joins : Bool) (c second : ℕ) (rest shorter : List ℕ) → are_joined joins c second ≡ false → decoded (c ∷ second ∷ rest) ≡ Some shorter → plain joins (c ∷ second ∷ rest) ≡ plain joins shorter
+first_apart joins c second [] shorter apart e = absurd cc
+first_apart joins c second (third ∷ rest) shorter apart e =
     elim (cases_Bool (c == percent_sign && encodes_unreserved second third)) [
       | inl so ↦
-          let same = some_same (character_of second third ∷ rest) spelled (sym (octet-decoded c second third rest so) ∙ e) in
+          let same = some_same (character_of second third ∷ rest) shorter (sym (decoded-yes c second third rest so) ∙ e) in
           first_decoded joins c second third rest apart so ∙ ap (plain joins) same
-      | inr not_so ↦
-          elim (cases_Bool (c == percent_sign && has_small_digit second third)) [
-            | inl small ↦
-                let same = some_same (c ∷ to_ascii_uppercase second ∷ to_ascii_uppercase third ∷ rest) spelled (sym (octet-capital c second third rest not_so small) ∙ e) in
-                first_capital joins c second third rest apart not_so small ∙ ap (plain joins) same
-            | inr not_small ↦ absurd (let none : None ≡ Some spelled = sym (octet-kept c second third rest not_so not_small) ∙ e in cc)
-          ]
+      | inr not_so ↦ absurd (let none : None ≡ Some shorter = sym (decoded-no c second third rest not_so) ∙ e in cc)
     ]
 
-first_alike : (joins : Bool) (after spelled : List ℕ) → plainer joins after ≡ Some spelled → plain joins after ≡ plain joins spelled
-first_alike joins [] spelled e = absurd cc
-first_alike joins (c ∷ []) spelled e = absurd cc
-first_alike joins (c ∷ second ∷ rest) spelled e =
+first_alike : (joins : Bool) (after shorter : List ℕ) → shortened joins after ≡ Some shorter → plain joins after ≡ plain joins shorter
+first_alike joins [] shorter e = absurd cc
+first_alike joins (c ∷ []) shorter e = absurd cc
+first_alike joins (c ∷ second ∷ rest) shorter e =
     elim (cases_Bool (are_joined joins c second)) [
-      | inl are ↦ first_joined joins c second rest spelled are e
-      | inr apart ↦ first_apart joins c second rest spelled apart (sym (plainer-apart joins c second rest apart) ∙ e)
+      | inl are ↦ first_joined joins c second rest shorter are e
+      | inr apart ↦ first_apart joins c second rest shorter apart (sym (shortened-apart joins c second rest apart) ∙ e)
     ]
 
-pub plainer_is_alike : PlainerIsAlike
-plainer_is_alike joins [] after spelled e = first_alike joins after spelled e
-plainer_is_alike joins (c ∷ before) after spelled e =
+pub shorter_is_alike : ShorterIsAlike
+shorter_is_alike joins [] after shorter e = first_alike joins after shorter e
+shorter_is_alike joins (c ∷ before) after shorter e =
     plain-cons joins c (before ++ after)
-    ∙ ap (λ it. unwrap_or (plainer joins (c ∷ it)) (c ∷ it)) (plainer_is_alike joins before after spelled e)
-    ∙ sym (plain-cons joins c (before ++ spelled))
+    ∙ ap (λ it. unwrap_or (shortened joins (c ∷ it)) (c ∷ it)) (shorter_is_alike joins before after shorter e)
+    ∙ sym (plain-cons joins c (before ++ shorter))

@@ -1,14 +1,13 @@
 -- What a policy decides: the first rule that matches, or the default. `answer` is what an engine
 -- returns for a text.
 use Rattle.std.specs.Map.{values_of}
-use Rattle.std.specs.Prelude.{◌≡◌, ◌≢◌, ◌⊎◌, ◌&&◌, ◌||◌, ◌∷◌, ◌++◌, ℕ, Bool, [], not, nat_le, All, IsTrue, List, MatchBool, None, Option, Ok, Err, Some, length, max, slice_get, take, if◌then◌else◌}
+use Rattle.std.specs.Prelude.{◌≡◌, ◌⊎◌, ◌&&◌, ◌||◌, ◌∷◌, ◌++◌, ℕ, Bool, [], not, nat_le, All, IsTrue, List, MatchBool, None, Option, Ok, Err, Some, length, max, slice_get, take, if◌then◌else◌}
 use Rattle.url.specs.Parser.{Parsed, parse_url}
 use Rattle.url.specs.declared.error.ParseError.{ParseError}
-use Rattle.url.specs.declared.error.ParseError.TheVariants.{Overflow}
 use Rattle.url.specs.Parts.{Parts, serialize}
 use Rattle.urlpattern.specs.FirstMatch.{CallsEngineBeforeMatch}
 use Rattle.urlpattern.specs.PatternMaps.{entry_patterns}
-use Rattle.urlpattern_canonical.specs.Canonical.{canonical_hostname, is_special, long_text}
+use Rattle.urlpattern_canonical.specs.Canonical.{long_text}
 use Rattle.urlpattern_components.specs.Eight.{Texts}
 use Rattle.urlpattern_init.specs.Inheritance.{texts_of_url}
 use Rattle.urlpattern_meaning.specs.PartMeaning.{Captures}
@@ -82,48 +81,14 @@ matched_texts options texts = if options.plain_spelling then plain_texts texts e
 abbrev pub IsRespelled : PolicyOptions → Texts → Type 0
 IsRespelled options texts = IsTrue options.plain_spelling × (¬ ArePlain texts)
 
--- What is decided about a URL with these texts, in plain spelling if the options say so. Memory may
--- run out where they are respelled.
-abbrev pub DecidesSpelled : {E : Type 0} → (answer : E → List ℕ → Option Captures) → UrlPolicy E
-    → Texts → Decision → Type 0
-DecidesSpelled answer policy texts decision =
-    DecidesTexts answer policy (matched_texts policy.options texts) decision
-    ⊎ ((decision ≡ Deny reasons.OutOfMemory) × IsRespelled policy.options texts)
-
--- What is decided where `url` reads a value, of which `Decides` says what is decided, or rejects
--- the text for the reason. Memory may run out.
-abbrev pub DecidesParsed : {T : Type 0} → (Decides : T → Decision → Type 0) → Parsed T → Decision
-    → Type 0
-DecidesParsed Decides (Ok value) decision =
-    Decides value decision ⊎ (decision ≡ Deny reasons.OutOfMemory)
-DecidesParsed Decides (Err reason) decision =
-    (decision ≡ Deny (reasons.NotAUrl reason)) ⊎ (decision ≡ Deny reasons.OutOfMemory)
-
--- Whether a URL with these texts has an opaque host: it has a host, and its scheme is not special.
-abbrev pub has_opaque_host : Texts → Bool
-has_opaque_host texts = not (is_empty texts.hostname) && not (is_special texts.protocol)
-
--- Whether the host of a URL with these texts is read as that of a special scheme is: it is opaque,
--- and the options ask for the plain spelling.
-abbrev pub is_host_read : PolicyOptions → Texts → Bool
-is_host_read options texts = options.plain_spelling && has_opaque_host texts
-
--- What is decided about a URL with these texts, whose host is the host that `url` reads under
--- `http`.
-abbrev pub DecidesHost : {E : Type 0} → (answer : E → List ℕ → Option Captures) → UrlPolicy E
-    → Texts → Decision → Type 0
-DecidesHost answer policy texts =
-    DecidesParsed (λ host. DecidesSpelled answer policy (record texts { hostname = host }))
-    (canonical_hostname texts.hostname)
-
--- What is decided about a URL with these texts.
+-- What is decided about a URL with these texts. Memory may run out where they are respelled.
 abbrev pub DecidesUrl : {E : Type 0} → (answer : E → List ℕ → Option Captures) → UrlPolicy E
     → Texts → Decision → Type 0
 DecidesUrl answer policy texts decision =
     MatchBool (policy.options.denies_credentials && has_credentials texts)
     (decision ≡ Deny reasons.Credentials)
-    (MatchBool (is_host_read policy.options texts) (DecidesHost answer policy texts decision)
-    (DecidesSpelled answer policy texts decision))
+    (DecidesTexts answer policy (matched_texts policy.options texts) decision
+    ⊎ ((decision ≡ Deny reasons.OutOfMemory) × IsRespelled policy.options texts))
 
 -- ---- a text
 
@@ -132,17 +97,21 @@ abbrev pub longest_bytes : Option Parts → (text : List ℕ) → ℕ
 longest_bytes None text = length text
 longest_bytes (Some base) text = max (length text) (length (serialize base))
 
--- Why a URL is denied before any rule is asked: memory ran out, or `url` rejects what it is asked
--- to read.
-abbrev pub IsRefusal : {T : Type 0} → Parsed T → DenyReason → Type 0
+-- What is decided about a text which `url` reads as the URL, or rejects for the reason. Memory may
+-- run out.
+abbrev pub DecidesParsed : {E : Type 0} → (answer : E → List ℕ → Option Captures) → UrlPolicy E
+    → Parsed Parts → Decision → Type 0
+DecidesParsed answer policy (Ok url) decision =
+    DecidesUrl answer policy (texts_of_url url) decision
+    ⊎ (decision ≡ Deny reasons.OutOfMemory)
+DecidesParsed answer policy (Err reason) decision =
+    (decision ≡ Deny (reasons.NotAUrl reason)) ⊎ (decision ≡ Deny reasons.OutOfMemory)
+
+-- Why a text is denied before any rule is asked: memory ran out, or `url` rejects the text.
+abbrev pub IsRefusal : Parsed Parts → DenyReason → Type 0
 IsRefusal parsed reason =
     (reason ≡ reasons.OutOfMemory)
     ⊎ ((error : ParseError) × (parsed ≡ Err error) × (reason ≡ reasons.NotAUrl error))
-
--- Why a URL is denied whose host `url` rejects for the error. An overflow may be one of memory.
-abbrev pub IsHostRefusal : ParseError → DenyReason → Type 0
-IsHostRefusal error reason =
-    (reason ≡ reasons.OutOfMemory) ⊎ ((error ≢ Overflow) × (reason ≡ reasons.NotAUrl error))
 
 -- What is decided about a text, a URL relative to the base URL if there is one: of a text or a base
 -- URL of `long_text` bytes or more that it is too long, and of any other what `url` reads.
@@ -150,8 +119,7 @@ abbrev pub Decides : {E : Type 0} → (answer : E → List ℕ → Option Captur
     → (base : Option Parts) → (text : List ℕ) → Decision → Type 0
 Decides answer policy base text decision =
     MatchBool (nat_le long_text (longest_bytes base text)) (decision ≡ Deny reasons.TooLong)
-    (DecidesParsed (λ url. DecidesUrl answer policy (texts_of_url url)) (parse_url base text)
-    decision)
+    (DecidesParsed answer policy (parse_url base text) decision)
 
 -- ---- rules
 

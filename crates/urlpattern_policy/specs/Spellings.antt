@@ -1,6 +1,6 @@
 -- The plain spelling of a text, and of the eight texts of a URL. A text is a list of characters.
 use Rattle.std.specs.Prelude.{◌≡◌, ℕ, ◌+◌, ◌*◌, Bool, true, false, not, ◌==◌, ◌&&◌, ◌||◌, List, [], ◌∷◌, ◌++◌, reverse, Option, None, Some, IsTrue, is_none, unwrap_or, codes, if◌then◌else◌}
-use Rattle.std.specs.Char.{digit_value, is_ascii_alphanumeric, is_ascii_lowercase, is_digit, to_ascii_uppercase}
+use Rattle.std.specs.Char.{digit_value, is_ascii_alphanumeric, is_digit}
 use Rattle.url.specs.Ascii.{dot, percent_sign, slash}
 use Rattle.urlpattern_components.specs.Eight.{Texts, at, each}
 use Rattle.urlpattern_components.specs.declared.eight.ComponentName.{ComponentName}
@@ -21,47 +21,39 @@ abbrev pub encodes_unreserved : (high low : ℕ) → Bool
 encodes_unreserved high low =
     (is_digit high 16 && is_digit low 16) && is_unreserved (character_of high low)
 
--- Whether `%`, followed by `high` and `low`, is a percent-encoded octet with a small letter.
-abbrev pub has_small_digit : (high low : ℕ) → Bool
-has_small_digit high low =
-    (is_digit high 16 && is_digit low 16) && (is_ascii_lowercase high || is_ascii_lowercase low)
-
--- The text with a plainer spelling of the percent-encoded octet at its beginning: an unreserved
--- character is decoded (RFC 3986, section 6.2.2.2), and the digits of any other octet have capital
--- letters (section 6.2.2.1). None: it does not begin with one, or that is plain.
-abbrev pub plainer_octet : List ℕ → Option (List ℕ)
-plainer_octet [] = None
-plainer_octet (first ∷ []) = None
-plainer_octet (first ∷ high ∷ []) = None
-plainer_octet (first ∷ high ∷ low ∷ rest) =
+-- The text with a percent-encoded unreserved character at its beginning decoded (RFC 3986, section
+-- 6.2.2.2). None: it does not begin with one.
+abbrev pub decoded : List ℕ → Option (List ℕ)
+decoded [] = None
+decoded (first ∷ []) = None
+decoded (first ∷ high ∷ []) = None
+decoded (first ∷ high ∷ low ∷ rest) =
     if first == percent_sign && encodes_unreserved high low
-    then Some (character_of high low ∷ rest)
-    else (if first == percent_sign && has_small_digit high low
-    then Some (first ∷ to_ascii_uppercase high ∷ to_ascii_uppercase low ∷ rest)
-    else None)
+    then Some (character_of high low ∷ rest) else None
 
 -- Whether the two characters are slashes, which `joins` makes one.
 abbrev pub are_joined : (joins : Bool) → (first second : ℕ) → Bool
 are_joined joins first second = joins && (first == slash && second == slash)
 
--- The text with a plainer spelling of its beginning, if there is one: that of a percent-encoded
--- octet; and two slashes are one, if `joins` is true.
-abbrev pub plainer : (joins : Bool) → List ℕ → Option (List ℕ)
-plainer joins [] = None
-plainer joins (first ∷ []) = None
-plainer joins (first ∷ second ∷ rest) =
+-- The text with a shorter spelling of its beginning, if there is one: a percent-encoded unreserved
+-- character is decoded; and two slashes are one, if `joins` is true.
+abbrev pub shortened : (joins : Bool) → List ℕ → Option (List ℕ)
+shortened joins [] = None
+shortened joins (first ∷ []) = None
+shortened joins (first ∷ second ∷ rest) =
     if are_joined joins first second then Some (second ∷ rest)
-    else plainer_octet (first ∷ second ∷ rest)
+    else decoded (first ∷ second ∷ rest)
 
--- The plain spelling of a text: no place of it has a plainer spelling.
+-- The plain spelling of a text: no place of it has a shorter spelling.
 unfoldable pub plain : (joins : Bool) → List ℕ → List ℕ
 plain joins [] = []
-plain joins (c ∷ text) = unwrap_or (plainer joins (c ∷ plain joins text)) (c ∷ plain joins text)
+plain joins (c ∷ text) =
+    unwrap_or (shortened joins (c ∷ plain joins text)) (c ∷ plain joins text)
 
--- Whether no place of the text has a plainer spelling.
+-- Whether no place of the text has a shorter spelling.
 unfoldable pub is_plain : (joins : Bool) → List ℕ → Bool
 is_plain joins [] = true
-is_plain joins (c ∷ text) = is_none (plainer joins (c ∷ text)) && is_plain joins text
+is_plain joins (c ∷ text) = is_none (shortened joins (c ∷ text)) && is_plain joins text
 
 -- ---- the eight texts of a URL
 
@@ -88,7 +80,7 @@ ends_in_dot text = begins_with is_dot (reverse text)
 
 -- The plain spelling of a component's text: a hostname has no dot at its end; a path that begins
 -- with a slash has no empty segment but the last; and in each text but the hostname no unreserved
--- character is percent-encoded, and what is has capital letters as digits.
+-- character is percent-encoded.
 abbrev pub plain_of : ComponentName → List ℕ → List ℕ
 plain_of Hostname text = without_last_dots text
 plain_of Pathname text = plain (begins_with is_slash text) text
@@ -117,11 +109,11 @@ pub record PlainIsPlain (texts : Texts) : Type 0 where
   pub kept : ArePlain texts → plain_texts texts ≡ texts
   pub again : plain_texts (plain_texts texts) ≡ plain_texts texts
 
--- A text and one with a plainer spelling of one place have one plain spelling.
-abbrev pub PlainerIsAlike : Type 0
-PlainerIsAlike =
-    (joins : Bool) (before after spelled : List ℕ) → plainer joins after ≡ Some spelled
-    → plain joins (before ++ after) ≡ plain joins (before ++ spelled)
+-- A text and one with a shorter spelling of one place have one plain spelling.
+abbrev pub ShorterIsAlike : Type 0
+ShorterIsAlike =
+    (joins : Bool) (before after shorter : List ℕ) → shortened joins after ≡ Some shorter
+    → plain joins (before ++ after) ≡ plain joins (before ++ shorter)
 
 -- A hostname with and without a dot at its end have one plain spelling.
 abbrev pub LastDotIsAlike : Type 0

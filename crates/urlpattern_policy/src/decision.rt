@@ -41,7 +41,7 @@ pub enum DenyReason {
     Rule(usize),
     /// No rule matches, and the default is to deny.
     NoRule,
-    /// The text is no URL; or its host is opaque, and `url` rejects it under `http`.
+    /// The text is no URL.
     NotAUrl(ParseError),
     /// The text or the base URL has 16 MB or more.
     TooLong,

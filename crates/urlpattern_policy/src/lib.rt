@@ -7,12 +7,10 @@
 
 mod decision;
 pub mod laws;
-mod plain_patterns;
 mod policy;
 mod spelled_texts;
 mod spelling;
 
 pub use decision::{Decision, DenyReason, Effect};
-pub use plain_patterns::is_plain_pattern;
 pub use policy::{PolicyOptions, UrlPolicy};
 pub use spelled_texts::{are_plain, plain_texts};

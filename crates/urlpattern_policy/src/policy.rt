@@ -19,8 +19,7 @@ use urlpattern_syntax::Error;
 pub struct PolicyOptions {
     /// What is decided about a URL that no rule matches.
     pub default: Effect,
-    /// Whether a URL is brought to its plain spelling before it is matched. An opaque host, under a
-    /// scheme that is not special, is then read as under `http`.
+    /// Whether a URL is brought to its plain spelling before it is matched.
     pub plain_spelling: bool,
     /// Whether a URL with a user name or a password is denied, whatever the rules say.
     pub denies_credentials: bool,

@@ -66,8 +66,8 @@ fn begins_with_slash(text: &str) -> bool
 
 /// Returns the plain spelling of the eight texts of a URL.
 ///
-/// Percent-encoded unreserved characters are decoded, the digits of other octets have capital
-/// letters, empty segments of a path are joined, and the dots at the end of a hostname are dropped.
+/// Percent-encoded unreserved characters are decoded, empty segments of a path are joined, and the
+/// dot at the end of a hostname is dropped.
 pub fn plain_texts(alloc: Global, texts: &Eight<&str>) -> Result<MatchInput, AllocError>
     ensures { IfOk result (λ spelled.
         texts_view spelled ≡ spec.plain_texts (borrowed_texts texts.now)) }

@@ -3,7 +3,7 @@ ghost use Rattle.std.specs.Prelude.{◌≡◌, ◌∷◌, ◌++◌, ◌<◌, [],
 ghost use Rattle.std.specs.Prelude.{◌&&◌, ◌||◌, ◌==◌, is_some};
 ghost use Rattle.std.specs.Str.{chars};
 ghost use Rattle.url.specs.Ascii.{percent_sign, slash};
-ghost use Rattle.urlpattern_policy.specs.Spellings.{are_joined, character_of, encodes_unreserved, has_small_digit, is_unreserved, plain, plainer};
+ghost use Rattle.urlpattern_policy.specs.Spellings.{are_joined, character_of, encodes_unreserved, is_unreserved, plain, shortened};
 ghost use Rattle.urlpattern_policy.specs.Spellings as spec;
 ghost use Rattle.urlpattern_syntax.specs.Text.{text_of};
 
@@ -11,14 +11,14 @@ use std::alloc::{AllocError, Global};
 use std::collections::VecDeque;
 use urlpattern_syntax::text::split_first;
 
-/// Whether no place of a text has a plainer spelling: no unreserved character is percent-encoded,
-/// what is has capital letters as digits, and, if `joins` is true, no slash follows another one.
+/// Whether no place of a text has a shorter spelling: no unreserved character is percent-encoded,
+/// and, if `joins` is true, no slash follows another one.
 pub fn is_plain(text: &str, joins: bool) -> bool
     ensures { result ≡ spec.is_plain joins (chars text.now) }
 {
     let mut rest = text;
     while let Some((c, remaining)) = split_first(rest) {
-        if has_plainer(c, remaining, joins) {
+        if is_shortened(c, remaining, joins) {
             return false;
         }
         rest = remaining;
@@ -26,9 +26,9 @@ pub fn is_plain(text: &str, joins: bool) -> bool
     true
 }
 
-/// Whether `first` and `rest` have a plainer spelling of their beginning.
-fn has_plainer(first: char, rest: &str, joins: bool) -> bool
-    ensures { result ≡ is_some (plainer joins (first ∷ chars rest.now)) }
+/// Whether `first` and `rest` have a shorter spelling of their beginning.
+fn is_shortened(first: char, rest: &str, joins: bool) -> bool
+    ensures { result ≡ is_some (shortened joins (first ∷ chars rest.now)) }
 {
     if !is_mark(first) {
         return false;
@@ -40,14 +40,12 @@ fn has_plainer(first: char, rest: &str, joins: bool) -> bool
         return true;
     }
     match split_first(rest) {
-        Some((third, _)) => {
-            decoded(first, second, third).is_some() || has_small_digit(first, second, third)
-        }
+        Some((third, _)) => decoded(first, second, third).is_some(),
         None => false,
     }
 }
 
-/// Whether a character may begin what has a plainer spelling.
+/// Whether a character may begin what has a shorter spelling.
 fn is_mark(c: char) -> bool
     ensures { result ≡ (c == percent_sign || c == slash) }
 {
@@ -77,16 +75,6 @@ fn decoded(first: char, high: char, low: char) -> Option<char>
     if is_unreserved(c) { Some(c) } else { None }
 }
 
-/// Whether three characters are a percent-encoded octet with a small letter.
-fn has_small_digit(first: char, high: char, low: char) -> bool
-    ensures { result ≡ (first == percent_sign && has_small_digit high low) }
-{
-    first == '%'
-        && high.is_digit(16)
-        && low.is_digit(16)
-        && (high.is_ascii_lowercase() || low.is_ascii_lowercase())
-}
-
 /// Whether a character is unreserved: a letter or a digit of ASCII, or one of `-._~`.
 fn is_unreserved(c: char) -> bool
     ensures { result ≡ is_unreserved c }
@@ -95,8 +83,7 @@ fn is_unreserved(c: char) -> bool
 }
 
 /// Returns the plain spelling of a text: each unreserved character that is percent-encoded is
-/// decoded, the digits of other octets have capital letters, and, if `joins` is true, slashes that
-/// follow one another are one.
+/// decoded, and, if `joins` is true, slashes that follow one another are one.
 pub fn plain_text(alloc: Global, text: &str, joins: bool) -> Result<String, AllocError>
     ensures { IfOk result (λ spelled. text_of spelled ≡ plain joins (chars text.now)) }
 {
@@ -116,7 +103,7 @@ pub fn plain_text(alloc: Global, text: &str, joins: bool) -> Result<String, Allo
 /// Puts a character before a text in plain spelling.
 fn put_before(spelled: &mut VecDeque<char>, first: char, joins: bool) -> Result<(), AllocError>
     ensures { OnOk result (spelled.new.items
-        ≡ unwrap_or (plainer joins (first ∷ spelled.old.items)) (first ∷ spelled.old.items)) }
+        ≡ unwrap_or (shortened joins (first ∷ spelled.old.items)) (first ∷ spelled.old.items)) }
 {
     let Some(second) = spelled.pop_front() else {
         spelled.push_front(first)?;
@@ -133,12 +120,6 @@ fn put_before(spelled: &mut VecDeque<char>, first: char, joins: bool) -> Result<
     };
     if let Some(c) = decoded(first, second, third) {
         spelled.push_front(c)?;
-        return Ok(());
-    }
-    if has_small_digit(first, second, third) {
-        spelled.push_front(third.to_ascii_uppercase())?;
-        spelled.push_front(second.to_ascii_uppercase())?;
-        spelled.push_front(first)?;
         return Ok(());
     }
     spelled.push_front(third)?;

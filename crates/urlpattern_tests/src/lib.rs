@@ -7,8 +7,6 @@
 #[cfg(test)]
 mod captures;
 #[cfg(test)]
-mod copies;
-#[cfg(test)]
 mod decoded;
 #[cfg(test)]
 mod given;
@@ -32,8 +30,6 @@ mod plain;
 mod requests;
 #[cfg(test)]
 mod results;
-#[cfg(test)]
-mod route_tables;
 #[cfg(test)]
 mod routers;
 #[cfg(test)]

@@ -5,10 +5,11 @@ use regex::Regex;
 use std::alloc::Global;
 use std::process::Abort;
 use std::test::Fail;
+use urlpattern::rules::{Reach, USUAL_LIMITS};
 use urlpattern::{ComponentName, Error, NoLink, PathError, RouteError, Routed, UrlPatternRouter};
 
 /// Routes, each with its value. A route without a method is for every method.
-pub const ROUTES: [(Option<&str>, &str, u32); 11] = [
+const ROUTES: [(Option<&str>, &str, u32); 11] = [
     (Some("GET"), "/users/:id", 1),
     (Some("POST"), "/users/:id", 2),
     (Some("GET"), "/users/:id/*", 3),
@@ -36,9 +37,9 @@ const REQUESTS: [(&str, &str, &str); 22] = [
     ("GET", "/docs/a", "7 8 a"),
     ("HEAD", "/docs/a", "7 8 a"),
     ("POST", "/docs/a", "8 9 "),
-    ("HEAD", "/docs/own", "7 8 own"),
+    ("HEAD", "/docs/own", "9 10 "),
     ("HEAD", "/docs/a/b", "8 9 "),
-    ("HEAD", "/state/own", "5 6 own"),
+    ("HEAD", "/state/own", "10 11 "),
     ("PUT", "/users/you", "not allowed: GET POST"),
     ("PUT", "/users/me", "not allowed: GET POST"),
     ("get", "/users/me", "not allowed: GET POST"),
@@ -67,14 +68,11 @@ fn add(
     }
 }
 
-/// The router of some routes.
-pub fn router_of(
-    alloc: Global,
-    routes: &[(Option<&str>, &str, u32)],
-) -> Result<UrlPatternRouter<u32>, Error> {
+/// The router of the routes.
+fn router_of(alloc: Global) -> Result<UrlPatternRouter<u32>, Error> {
     let mut router = UrlPatternRouter::new(alloc);
-    for (method, pathname, value) in routes {
-        add(alloc, &mut router, *method, pathname, *value)?;
+    for (method, pathname, value) in ROUTES {
+        add(alloc, &mut router, method, pathname, value)?;
     }
     Ok(router)
 }
@@ -165,7 +163,7 @@ fn expect_requests(
 
 #[test]
 fn a_request_gets_the_first_route_for_its_method(rt: HostRuntime) -> Result<(), Fail> {
-    let router = router_of(rt.alloc(), &ROUTES)?;
+    let router = router_of(rt.alloc())?;
     let outcome = expect_requests(&rt, rt.alloc(), &router);
     drop(router);
     outcome?;
@@ -193,7 +191,7 @@ fn expect_of_head(
 
 #[test]
 fn head_is_a_method_of_its_own(rt: HostRuntime) -> Result<(), Fail> {
-    let mut router = router_of(rt.alloc(), &ROUTES)?;
+    let mut router = router_of(rt.alloc())?;
     assert!(rt; router.head_as_get);
     router.head_as_get = false;
     let outcome = expect_of_head(&rt, rt.alloc(), &router);
@@ -365,6 +363,56 @@ fn expect_names(
 fn a_route_is_found_by_its_name(rt: HostRuntime) -> Result<(), Fail> {
     let mut router = named_routes(rt.alloc())?;
     let outcome = expect_names(&rt, rt.alloc(), &mut router);
+    drop(router);
+    outcome?;
+    Ok(())
+}
+
+/// What is returned of the routes that are tried first for a method: the index of each, and `+` if
+/// it is reached, or the places of those that cover it.
+fn reached(
+    alloc: Global,
+    router: &UrlPatternRouter<u32>,
+    method: &str,
+) -> Result<String, Error> {
+    let mut text = String::new(alloc);
+    let Ok(found) = router.reach_of_each(alloc, method, USUAL_LIMITS) else {
+        return Err(Error::OutOfMemory);
+    };
+    for (index, reach) in found.routes.iter().zip(&found.reaches) {
+        let shown = match reach {
+            Reach::First(_) => format!(in alloc; "{index}+ ")?,
+            Reach::Never(by) => format!(in alloc; "{index}{by:?} ")?,
+            Reach::Unknown(_) => format!(in alloc; "{index}? ")?,
+        };
+        text.push_str(&shown)?;
+    }
+    drop(found);
+    Ok(text)
+}
+
+/// Compares which routes are reached by each method.
+fn expect_reached(
+    rt: &impl Abort,
+    alloc: Global,
+    router: &UrlPatternRouter<u32>,
+) -> Result<(), Error> {
+    for (method, expected) in [
+        ("GET", "0+ 2+ 3+ 5+ 6[0] 7+ 8+ "),
+        ("POST", "1+ 5+ 8+ "),
+        ("HEAD", "4+ 9+ 10+ "),
+        ("PUT", "5+ 8+ "),
+    ] {
+        let found = reached(alloc, router, method)?;
+        expect_same(rt, found.as_str(), expected, method);
+    }
+    Ok(())
+}
+
+#[test]
+fn routes_that_others_cover_are_not_reached(rt: HostRuntime) -> Result<(), Fail> {
+    let router = router_of(rt.alloc())?;
+    let outcome = expect_reached(&rt, rt.alloc(), &router);
     drop(router);
     outcome?;
     Ok(())

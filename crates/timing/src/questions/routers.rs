@@ -169,12 +169,12 @@ fn by_loop<E: RegExp>(
 ) -> Result<Found, Error> {
     let is_head = router.head_as_get && method == "HEAD";
     if is_head {
-        if let Some((index, true)) = first_for(alloc, router, method, path)? {
+        if let Some(index) = first_for(alloc, router, method, false, path)? {
             return Ok(Found::Route(index));
         }
     }
     let method = if is_head { "GET" } else { method };
-    if let Some((index, _)) = first_for(alloc, router, method, path)? {
+    if let Some(index) = first_for(alloc, router, method, true, path)? {
         return Ok(Found::Route(index));
     }
     let mut is_matched = false;
@@ -198,17 +198,19 @@ fn by_loop<E: RegExp>(
     }
 }
 
-/// The index of the first route that takes a method and whose pattern matches a path, by a loop;
-/// and whether the route has a method.
+/// The index of the first route for a method whose pattern matches a path, by a loop. Routes for
+/// every method count if `or_any` is true.
 fn first_for<E: RegExp>(
     alloc: Global,
     router: &UrlPatternRouter<usize, E>,
     method: &str,
+    or_any: bool,
     path: &str,
-) -> Result<Option<(usize, bool)>, Error> {
+) -> Result<Option<usize>, Error> {
     for (index, (pattern, route)) in router.iter().enumerate() {
-        if route.takes(method) && pattern.test_texts(alloc, &pathname_texts(path))? {
-            return Ok(Some((index, route.method.is_some())));
+        let is_for = route.takes(method) && (or_any || route.method.is_some());
+        if is_for && pattern.test_texts(alloc, &pathname_texts(path))? {
+            return Ok(Some(index));
         }
     }
     Ok(None)

@@ -1,5 +1,5 @@
 //! Whether the constructor string and the init of a pattern are compiled to patterns that match
-//! alike, and a copy of the pattern does too.
+//! alike.
 
 use super::making::RandomSource;
 use super::patterns::{Found, is_match};
@@ -14,7 +14,7 @@ use urlpattern::{Error, UrlPattern, UrlPatternOptions};
 /// The number of URLs for a pattern.
 const URLS: usize = 10;
 
-/// Writes a pattern as a constructor string and as an init, copies it, and matches URLs by each.
+/// Writes a pattern as a constructor string and as an init, and matches URLs by all three.
 pub fn ask(maker: &mut RandomSource) -> Result<Outcome, Error> {
     let options = UrlPatternOptions {
         ignore_case: maker.is_one_in(4),
@@ -29,22 +29,9 @@ pub fn ask(maker: &mut RandomSource) -> Result<Outcome, Error> {
         Ok(pattern) => pattern,
         Err(error) => return Outcome::of_error(&error),
     };
-    let is_alike = is_copy_alike(maker, &pattern, near);
     let outcome = asked(maker, &pattern, near);
     drop(pattern);
-    if is_alike? { outcome } else { Ok(Outcome::Differs) }
-}
-
-/// Whether a copy of a pattern matches URLs as the pattern does.
-fn is_copy_alike(
-    maker: &mut RandomSource,
-    pattern: &UrlPattern<PatternRegexp>,
-    near: &str,
-) -> Result<bool, Error> {
-    let copy = pattern.clone()?;
-    let is_alike = is_matched_alike(maker, pattern, &copy, near);
-    drop(copy);
-    is_alike
+    outcome
 }
 
 /// The outcome for a pattern. One that is written neither way is counted as rejected.

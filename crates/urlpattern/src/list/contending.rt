@@ -1,6 +1,6 @@
 //! The patterns of a list that contend for the same texts.
 ghost use Rattle.std.specs.Prelude.{All, IfErr, IfOk};
-ghost use Rattle.urlpattern.specs.Contending.{AreContentions, AreContentionsBy, ContendingMatch, OthersDoNotContend};
+ghost use Rattle.urlpattern.specs.Contending.{AreContentions, AreContentionsBy, ContendingMatch};
 ghost use Rattle.urlpattern.specs.Reached.{LacksParts};
 ghost use Rattle.urlpattern_compare.specs.CommonTexts.{AreAutomata};
 ghost use Rattle.urlpattern_engine.specs.PatternRegexps.{pattern_engine};
@@ -36,18 +36,14 @@ impl<R: RegExp> UrlPatternList<R> {
 }
 
 /// In a list over `PatternRegexp` or `regex::Regex`, two patterns that contend for texts, as
-/// `contending` finds, both match these, and each matches some that the other does not. Of two
-/// patterns that are no pair, no texts without line feeds are matched by both, or one of the two
-/// matches all that the other does.
+/// `contending` finds, both match these, and each matches some that the other does not.
 pub fn contending_patterns_match()
     ensures pattern_regexp { ContendingMatch pattern_engine }
     ensures regex { ContendingMatch regex_engine }
-    ensures others_of_pattern_regexp { OthersDoNotContend pattern_engine }
-    ensures others_of_regex { OthersDoNotContend regex_engine }
 {}
 
 /// Returns the pairs of patterns with these automata that contend.
-pub(crate) fn contending_of_all(
+fn contending_of_all(
     alloc: Global,
     automata: &[PatternAutomata],
     limits: Limits,

@@ -1,7 +1,7 @@
 //! Routes of a router: the method that each serves, its name, and its value.
 ghost use Rattle.std.specs.Prelude.{◌≡◌, ◌↔◌, IfOk, IsTrue, Some, option_map};
 ghost use Rattle.std.specs.Str.{chars};
-ghost use Rattle.urlpattern.specs.Routes.{HasMethod, HasName, IsRoute, Takes};
+ghost use Rattle.urlpattern.specs.Routes.{HasMethod, HasName, IsRoute, Takes, TakesBy};
 ghost use Rattle.urlpattern_syntax.specs.Text.{option_text, text_of};
 
 use std::alloc::{AllocError, Global};
@@ -66,6 +66,16 @@ impl<T> Route<T> {
         ensures { IsTrue result ↔ Takes (chars method.now) self.now }
     {
         self.method.is_none() || self.has_method(method)
+    }
+
+    /// Whether the route has this method or, if `or_any` is true, serves every method.
+    pub(super) fn takes_by(&self, or_any: bool, method: &str) -> bool
+        ensures { IsTrue result ↔ TakesBy or_any (chars method.now) self.now }
+    {
+        if or_any {
+            return self.takes(method);
+        }
+        self.has_method(method)
     }
 }
 

@@ -3,23 +3,20 @@ ghost use Rattle.std.specs.Bool.{OnFalse, OnTrue};
 ghost use Rattle.std.specs.Prelude.{◌≡◌, ◌&&◌, Ok, not, nat_le, IfErr, IfOk, option_copied};
 ghost use Rattle.std.specs.Str.{chars};
 ghost use Rattle.url.specs.Parser.{parse_url};
-ghost use Rattle.urlpattern_canonical.specs.Canonical.{canonical_hostname, long_text};
+ghost use Rattle.urlpattern_canonical.specs.Canonical.{long_text};
 ghost use Rattle.urlpattern_init.specs.Inheritance.{texts_of_url};
 ghost use Rattle.urlpattern_matches.specs.GroupTexts.{borrowed_texts};
-ghost use Rattle.urlpattern_policy.specs.Decisions.{Decides, DecidesHost, DecidesSpelled, DecidesTexts, DecidesUrl, IsHostRefusal, IsRefusal, IsRespelled, has_credentials, has_opaque_host, is_host_read, longest_bytes, matched_texts};
+ghost use Rattle.urlpattern_policy.specs.Decisions.{Decides, DecidesTexts, DecidesUrl, IsRefusal, IsRespelled, has_credentials, longest_bytes, matched_texts};
 ghost use Rattle.urlpattern_syntax.specs.RegexpText.{is_empty};
-ghost use Rattle.urlpattern_syntax.specs.Text.{text_of};
 
 use super::UrlPolicy;
 use crate::decision::{Decision, DenyReason, Effect};
 use crate::spelled_texts::{are_plain, plain_texts};
 use std::alloc::Global;
 use url::{ParseError, Url};
-use urlpattern_canonical::canonicalize_and_process::{canonicalize_hostname, is_special_scheme};
 use urlpattern_components::Eight;
 use urlpattern_matcher::regexp::RegExp;
 use urlpattern_matches::{input_texts, url_texts};
-use urlpattern_syntax::Error;
 
 /// A text of this many bytes is too long. `url` rejects no shorter one for its length.
 const LONG_TEXT: usize = 1 << 24;
@@ -42,8 +39,7 @@ impl<R: RegExp> UrlPolicy<R> {
 
     /// Decides about a URL.
     ///
-    /// Only an engine allocates, and what brings a URL to its plain spelling that has another or an
-    /// opaque host.
+    /// Only an engine allocates, and what brings a URL to its plain spelling that has another.
     pub fn decide_url(&self, alloc: Global, url: &Url) -> Decision
         ensures { DecidesUrl R.answer self.now (texts_of_url url.now) result }
     {
@@ -57,27 +53,6 @@ impl<R: RegExp> UrlPolicy<R> {
         if self.denies_credentials_of(texts) {
             return Decision::Deny(DenyReason::Credentials);
         }
-        if self.reads_host_of(texts) {
-            return self.decide_by_host(alloc, texts);
-        }
-        self.decide_spelled(alloc, texts)
-    }
-
-    /// Decides about the URL that has these eight texts and an opaque host, by the host that `url`
-    /// reads under `http`.
-    fn decide_by_host(&self, alloc: Global, texts: &Eight<&str>) -> Decision
-        ensures { DecidesHost R.answer self.now (borrowed_texts texts.now) result }
-    {
-        match read_host(alloc, texts.hostname) {
-            Ok(host) => self.decide_spelled(alloc, &with_hostname(texts, &host)),
-            Err(refusal) => Decision::Deny(refusal),
-        }
-    }
-
-    /// Decides about the URL that has these eight texts, in plain spelling if the options say so.
-    fn decide_spelled(&self, alloc: Global, texts: &Eight<&str>) -> Decision
-        ensures { DecidesSpelled R.answer self.now (borrowed_texts texts.now) result }
-    {
         if self.keeps_spelling_of(texts) {
             return self.decide_texts(alloc, texts);
         }
@@ -94,13 +69,6 @@ impl<R: RegExp> UrlPolicy<R> {
     {
         self.options.denies_credentials
             && (is_written(texts.username) || is_written(texts.password))
-    }
-
-    /// Whether the host of a URL with these texts is read as that of a special scheme is.
-    fn reads_host_of(&self, texts: &Eight<&str>) -> bool
-        ensures { result ≡ is_host_read self.now.options (borrowed_texts texts.now) }
-    {
-        self.options.plain_spelling && has_opaque_host(texts)
     }
 
     /// Whether the texts are matched as they are spelled.
@@ -137,30 +105,6 @@ impl<R: RegExp> UrlPolicy<R> {
     }
 }
 
-/// Whether a URL with these texts has an opaque host.
-fn has_opaque_host(texts: &Eight<&str>) -> bool
-    ensures { result ≡ has_opaque_host (borrowed_texts texts.now) }
-{
-    is_written(texts.hostname) && !is_special_scheme(texts.protocol)
-}
-
-/// Returns the texts with another hostname.
-fn with_hostname<'s>(texts: &'s Eight<&str>, hostname: &'s str) -> Eight<&'s str>
-    ensures { borrowed_texts result
-        ≡ record (borrowed_texts texts.now) { hostname = chars hostname.now } }
-{
-    Eight {
-        protocol: texts.protocol,
-        username: texts.username,
-        password: texts.password,
-        hostname,
-        port: texts.port,
-        pathname: texts.pathname,
-        search: texts.search,
-        hash: texts.hash,
-    }
-}
-
 /// Whether a text is not empty.
 fn is_written(text: &str) -> bool
     ensures { result ≡ not (is_empty (chars text.now)) }
@@ -175,28 +119,6 @@ fn is_too_long(text: &str, base: Option<&Url>) -> bool
     match base {
         Some(base) => text.len().max(base.as_str().len()) >= LONG_TEXT,
         None => text.len() >= LONG_TEXT,
-    }
-}
-
-/// Returns the host that `url` reads under `http`, or why a URL with such a host is denied.
-fn read_host(alloc: Global, host: &str) -> Result<String, DenyReason>
-    ensures ok { IfOk result (λ text. canonical_hostname (chars host.now) ≡ Ok (text_of text)) }
-    ensures err { IfErr result (IsRefusal (canonical_hostname (chars host.now))) }
-{
-    match canonicalize_hostname(alloc, host) {
-        Ok(text) => Ok(text),
-        Err(Error::Url(error)) => Err(host_refusal(error)),
-        Err(_) => Err(DenyReason::OutOfMemory),
-    }
-}
-
-/// Returns why a URL is denied whose host `url` rejects for this error.
-fn host_refusal(error: ParseError) -> DenyReason
-    ensures { IsHostRefusal error result }
-{
-    match error {
-        ParseError::Overflow => DenyReason::OutOfMemory,
-        _ => DenyReason::NotAUrl(error),
     }
 }
 

@@ -1,14 +1,12 @@
-use Rattle.std.proofs.Common.{List, ap, ap₂, arith, ℕ, length, subst, take, take_all, ◌<◌, ◌∙◌, ◌≡◌}
+use Rattle.std.proofs.Common.{List, ap, arith, length, subst, take, take_all, ◌<◌, ◌∙◌, ◌≡◌}
 use Rattle.serde_json.proofs.Views.{view-Object}
-use Rattle.serde_json.specs.Data.{Members, no_members}
+use Rattle.serde_json.specs.Data.{no_members, object}
 use Rattle.serde_json.specs.View.{members_view}
-use Rattle.std.specs.Prelude.{Option, Some}
-use Rattle.urlpat_explain.proofs.ExplanationTreeLemmas.{HasTrees, object-of, trees-all, trees-more}
+use Rattle.urlpat_explain.proofs.ExplanationTreeLemmas.{HasTrees, trees-all, trees-more}
 use Rattle.urlpat_explain.specs.Explained.{explained_view, lent_texts}
-use Rattle.urlpat_explain.specs.ExplainedJson.{IsExplainedTree, text_members}
-use Rattle.urlpattern_components.specs.Eight.{at, components}
+use Rattle.urlpat_explain.specs.ExplainedJson.{IsExplainedTree}
+use Rattle.urlpattern_components.specs.Eight.{components}
 use Rattle.urlpattern_components.specs.declared.eight.ComponentName.{ComponentName}
-use Rattle.urlpattern_inputs.specs.Trees.{all_with, each_member}
 use Rattle.urlpat_explain.proofs.explained_json.explanation_tree.Goals as goal
 
 pub loop-name-init : goal.loop-name-init
@@ -29,5 +27,4 @@ returns c =
     take_all c.loop-name.name-index names (omega (arith, ap length c.all-name-items.ensures)) ∙ c.all-name-items.ensures in
     let (trees, are, is) = trees-all Is no_members (members_view c.loop-name.members.entries)
     (subst (λ (them : List ComponentName). HasTrees Is them no_members (members_view c.loop-name.members.entries)) all c.loop-name.invariant) in
-    let text = text_members (explained_view c.args.explained.now).text in
-    (trees, are, view-Object c.put_optional.new.members ∙ object-of (members_view c.put_optional.new.members.entries) (each_member (λ name. Some (at trees name))) text (c.in_ok-put_optional.ensures ∙ ap₂ (λ (before : Members) (written : Option (List ℕ)). all_with before (text_members written)) is c.as_deref-text.ensures.value))
+    (trees, are, view-Object c.loop-name.members ∙ ap object is)

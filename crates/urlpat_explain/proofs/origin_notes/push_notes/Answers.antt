@@ -1,7 +1,7 @@
 use Rattle.std.proofs.Common.{List, ap, ap₂, append_assoc, string_bytes, ℕ, ◌++◌, ◌∙◌, ◌≡◌}
 use Rattle.urlpat_explain.specs.ComponentPlaces.{place_cells}
 use Rattle.urlpat_explain.specs.Explained.{explained_view}
-use Rattle.urlpat_explain.specs.OriginNotes.{component_notes, names_line, text_note, value_notes}
+use Rattle.urlpat_explain.specs.OriginNotes.{component_notes, names_line, value_notes}
 use Rattle.urlpat_explain.specs.declared.origin_notes.TheConstants.{PLACES}
 use Rattle.urlpattern_components.specs.Eight.{components}
 use Rattle.urlpat_explain.proofs.origin_notes.push_notes.Goals as goal
@@ -18,8 +18,5 @@ returns c =
     c.in_ok-push_names.ensures ∙ ap (λ (them : List ℕ). old ++ names_line PLACES.now them) (c.deref.ensures ∙ c.in_ok-places.ensures) in
     let noted : string_bytes c.push_str.new.self ≡ (old ++ line) ++ notes =
     c.in_ok-push_str.ensures.bytes ∙ ap₂ (λ (text behind : List ℕ). text ++ behind) lined (c.deref-2.ensures ∙ c.in_ok-notes.ensures) in
-    let all : string_bytes c.push_str-2.new.self ≡ ((old ++ line) ++ notes) ++ more =
-    c.in_ok-push_str-2.ensures.bytes ∙ ap₂ (λ (text behind : List ℕ). text ++ behind) noted (c.deref-3.ensures ∙ c.in_ok-component_notes.ensures) in
-    let last = text_note explained.text in
-    c.in_ok-push_text_note.ensures ∙ ap₂ (λ (text behind : List ℕ). text ++ behind) all (ap text_note c.as_deref.ensures.value)
-    ∙ append_assoc ((old ++ line) ++ notes) more last ∙ append_assoc (old ++ line) notes (more ++ last) ∙ append_assoc old line (notes ++ (more ++ last))
+    c.in_ok-push_str-2.ensures.bytes ∙ ap₂ (λ (text behind : List ℕ). text ++ behind) noted (c.deref-3.ensures ∙ c.in_ok-component_notes.ensures)
+    ∙ append_assoc (old ++ line) notes more ∙ append_assoc old line (notes ++ more)

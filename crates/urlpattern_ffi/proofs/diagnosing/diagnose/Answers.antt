@@ -1,18 +1,18 @@
-use Rattle.std.proofs.Common.{◌∙◌, ◌+◌, ◌≤◌, ap, arith, length, refl, subst}
+use Rattle.std.proofs.Common.{◌∙◌, ap, refl, subst}
 use Rattle.std.specs.Prelude.{ℕ, List, Option, option_copied, string_bytes}
 use Rattle.std.specs.Str.{chars}
 use Rattle.urlpattern.specs.Errors.{error_view}
 use Rattle.urlpattern.specs.FromString.{RejectsPatternOfText}
 use Rattle.urlpattern_ffi.specs.Calls.{given_base, c_options}
-use Rattle.urlpattern_ffi.specs.ReportedDiagnoses.{most_reason_bytes, place_of_diagnosis}
+use Rattle.urlpattern_ffi.specs.ReportedDiagnoses.{place_of_diagnosis}
 use Rattle.urlpattern_compile.specs.Diagnoses.{ShowsGiven}
 use Rattle.urlpattern_engine.specs.PatternRegexps.{pattern_engine}
 use Rattle.urlpattern_inputs.specs.declared.options.UrlPatternOptions.{UrlPatternOptions}
 use Rattle.urlpattern_ffi.proofs.CallLemmas.{diagnosed}
 use Rattle.urlpattern_ffi.proofs.diagnosing.diagnose.Goals as goal
 
-pub returns-else-len-most : goal.returns-else-len-most
-returns-else-len-most c =
+pub returns-in-Ok-Some : goal.returns-in-Ok-Some
+returns-in-Ok-Some c =
     let found = c.in-Ok-Some.diagnosis in
     let Refuses = λ (bytes : List ℕ) (url : Option (List ℕ)) (asked : UrlPatternOptions). RejectsPatternOfText pattern_engine (chars bytes) url asked (error_view found.error) in
     let base = c.given_base.ensures ∙ ap given_base c.in-Ok-from_utf8.ensures.cases.0 in
@@ -24,9 +24,7 @@ returns-else-len-most c =
     let shown = subst (λ asked. Shows c.in-Ok.text.now (option_copied c.given_base.result) asked) c.options-options.ensures (rw c.in-Ok-Some.field-0-is at c.in-Ok-Some.ensures.shows) in
     let shows = subst (λ bytes. Shows bytes (given_base c.args.base.now) (c_options c.args.ignore_case)) c.in-Ok.ensures.cases.0
     (subst (λ url. Shows c.in-Ok.text.now url (c_options c.args.ignore_case)) base shown) in
-    let short : length (string_bytes found.reason) ≤ most_reason_bytes (length c.args.text.now + length c.args.base.now) =
-    omega (arith, ap length c.in-Ok.ensures.cases.0, ap length c.in-Ok-from_utf8.ensures.cases.0) in
     diagnosed c.args.text.now c.args.base.now c.args.ignore_case c.write_diagnosis.new.place
     (string_bytes found.reason) c.args.buffer.now c.write_diagnosis.new.buffer c.write_diagnosis.new.needed c.write_diagnosis.result
-    (record { diagnosis = found; is_refused = why; shows = shows; is_within = rw c.in-Ok-Some.field-0-is at c.in-Ok-Some.ensures.within; is_reason = refl; is_short = short; is_place = c.write_diagnosis.ensures.place ∙ ap (λ number. place_of_diagnosis number found) c.subject_number-subject.ensures })
+    (record { diagnosis = found; is_refused = why; shows = shows; is_within = rw c.in-Ok-Some.field-0-is at c.in-Ok-Some.ensures.within; is_reason = refl; is_place = c.write_diagnosis.ensures.place ∙ ap (λ number. place_of_diagnosis number found) c.subject_number-subject.ensures })
     c.write_diagnosis.ensures.needed c.write_diagnosis.ensures.written

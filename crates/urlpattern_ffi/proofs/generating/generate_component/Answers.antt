@@ -8,7 +8,7 @@ pub returns-in-Ok : goal.returns-in-Ok
 returns-in-Ok c =
     let Makes = λ (bytes : List ℕ). IsTextOfBytes c.args.pattern.now c.args.component c.args.text.now c.args.given.now (chars bytes) in
     text_generated c.args.pattern.now c.args.component c.args.text.now c.args.given.now c.args.buffer.now c.write.new.buffer c.write.new.needed
-    c.deref.result.now c.write.result c.deref.utf8 (subst Makes (sym c.deref.ensures) c.in-Ok.ensures.generated) c.write.ensures.needed c.write.ensures.written
+    c.deref.result.now c.write.result (subst Makes (sym c.deref.ensures) c.in-Ok.ensures.generated) c.write.ensures.needed c.write.ensures.written
 
 pub returns-in-Err-NoText : goal.returns-in-Err-NoText
 returns-in-Err-NoText c =

@@ -4,17 +4,17 @@ use Rattle.urlpattern_policy.proofs.SpellingLemmas.{is_plain-nil, is_plain-step,
 use Rattle.urlpattern_policy.specs.Spellings.{is_plain}
 use Rattle.urlpattern_policy.proofs.spelling.is_plain.Goals as goal
 
-pub returns-then-has_plainer : goal.returns-then-has_plainer
-returns-then-has_plainer c =
+pub returns-then-is_shortened : goal.returns-then-is_shortened
+returns-then-is_shortened c =
     sym (sym c.loop-c.invariant.left
     ∙ ap (is_plain c.args.joins) c.in-Some.ensures.cut
-    ∙ is_plain-stop c.args.joins c.in-Some.c (chars c.in-Some.remaining.now) (sym c.has_plainer.ensures ∙ c.if-has_plainer.true))
+    ∙ is_plain-stop c.args.joins c.in-Some.c (chars c.in-Some.remaining.now) (sym c.is_shortened.ensures ∙ c.if-is_shortened.true))
 
 pub loop-c-preserved : goal.loop-c-preserved
 loop-c-preserved c = record {
   is_text = search rules;
   left =
-      sym (is_plain-step c.args.joins c.in-Some.c (chars c.in-Some.remaining.now) (sym c.has_plainer.ensures ∙ c.if-has_plainer.false))
+      sym (is_plain-step c.args.joins c.in-Some.c (chars c.in-Some.remaining.now) (sym c.is_shortened.ensures ∙ c.if-is_shortened.false))
       ∙ sym (ap (is_plain c.args.joins) c.in-Some.ensures.cut)
       ∙ c.loop-c.invariant.left;
 }

@@ -3,7 +3,7 @@ use Rattle.std.proofs.lemmas.List.{append-nil}
 use Rattle.std.specs.Prelude.{unwrap_or}
 use Rattle.std.specs.Str.{chars}
 use Rattle.urlpattern_policy.proofs.SpellingLemmas.{plain-cons, plain-nil}
-use Rattle.urlpattern_policy.specs.Spellings.{plain, plainer}
+use Rattle.urlpattern_policy.specs.Spellings.{plain, shortened}
 use Rattle.urlpattern_syntax.proofs.StringTexts.{text-nil, text-push}
 use Rattle.urlpattern_syntax.specs.Text.{text_of}
 use Rattle.urlpattern_policy.proofs.spelling.plain_text.Goals as goal
@@ -24,7 +24,7 @@ loop-before-preserved c =
         first ∷ done.0,
         done.1 ∙ ap (λ it. it ++ done.0) c.in-Some.ensures.cut ∙ append_assoc (chars c.in-Some.before.now) (first ∷ []) done.0,
         c.in_ok-put_before.ensures
-            ∙ ap (λ it. unwrap_or (plainer c.args.joins (first ∷ it)) (first ∷ it)) done.2
+            ∙ ap (λ it. unwrap_or (shortened c.args.joins (first ∷ it)) (first ∷ it)) done.2
             ∙ sym (plain-cons c.args.joins first done.0),
       );
     }

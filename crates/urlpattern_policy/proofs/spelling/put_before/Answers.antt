@@ -1,4 +1,4 @@
-use Rattle.urlpattern_policy.proofs.SpellingLemmas.{put_capital, put_decoded, put_kept}
+use Rattle.urlpattern_policy.proofs.SpellingLemmas.{put_decoded, put_kept}
 use Rattle.std.proofs.Common.{◌∙◌, ◌∷◌, ap, sym}
 use Rattle.urlpattern_policy.proofs.spelling.put_before.Goals as goal
 
@@ -10,24 +10,10 @@ returns-in-Some-decoded c =
     (c.in-Some.ensures.items ∙ ap (λ it. c.in-Some.second ∷ it) c.in-Some-pop_front.ensures.items)
     c.in_ok-push_front-5.ensures.items
 
-pub returns-then-has_small_digit : goal.returns-then-has_small_digit
-returns-then-has_small_digit c =
-    put_capital c.args.joins c.args.first c.in-Some.second c.in-Some-pop_front.third _ _ c.pop_front-2.new.self.items c.args.spelled.now.items _ _ _
-    (sym c.are_joined.ensures ∙ c.if-are_joined.false)
-    c.in_default-decoded.ensures
-    (sym c.has_small_digit.ensures ∙ c.if-has_small_digit.true)
-    (c.in-Some.ensures.items ∙ ap (λ it. c.in-Some.second ∷ it) c.in-Some-pop_front.ensures.items)
-    c.to_ascii_uppercase-then-has_small_digit.ensures.value
-    c.to_ascii_uppercase.ensures.value
-    c.in_ok-push_front-6.ensures.items
-    c.in_ok-push_front-7.ensures.items
-    c.in_ok-push_front-8.ensures.items
-
 pub returns : goal.returns
 returns c =
     put_kept c.args.joins c.args.first c.in-Some.second c.in-Some-pop_front.third c.pop_front-2.new.self.items c.args.spelled.now.items _
     (sym c.are_joined.ensures ∙ c.if-are_joined.false)
     c.in_default-decoded.ensures
-    (sym c.has_small_digit.ensures ∙ c.if-has_small_digit.false)
     (c.in-Some.ensures.items ∙ ap (λ it. c.in-Some.second ∷ it) c.in-Some-pop_front.ensures.items)
-    (c.in_ok-push_front-11.ensures.items ∙ ap (λ it. c.args.first ∷ it) (c.in_ok-push_front-10.ensures.items ∙ ap (λ it. c.in-Some.second ∷ it) c.in_ok-push_front-9.ensures.items))
+    (c.in_ok-push_front-8.ensures.items ∙ ap (λ it. c.args.first ∷ it) (c.in_ok-push_front-7.ensures.items ∙ ap (λ it. c.in-Some.second ∷ it) c.in_ok-push_front-6.ensures.items))

@@ -1,21 +1,16 @@
-use Rattle.std.proofs.Common.{List, subst, sym}
-use Rattle.std.specs.Prelude.{All}
-use Rattle.urlpattern.proofs.ListedParts.{all_automata}
-use Rattle.urlpattern_compare.specs.CommonTexts.{AreAutomata}
-use Rattle.urlpattern_compare.specs.Reaching.{AreReached}
-use Rattle.urlpattern_compare.specs.declared.common_texts.PatternAutomata.{PatternAutomata}
+use Rattle.std.proofs.Common.{sym, ◌∙◌}
+use Rattle.std.proofs.lemmas.Bool.{false≢true}
+use Rattle.std.specs.Str.{chars}
+use Rattle.urlpattern.proofs.FixedLemmas.{ok-weaker}
 use Rattle.urlpattern.proofs.router.UrlPatternRouter.reach_of_each.Goals as goal
 
-pub reach_of_all-requires : goal.reach_of_all-requires
-reach_of_all-requires g c =
-    subst (λ (them : List PatternAutomata). All AreAutomata them) (sym c.deref.ensures.value) (all_automata g.R.RegExp _ c.in_ok-routes.automata.items c.in_ok-routes.ensures.found.1)
+pub returns-then-not-is_head-clause-found : goal.returns-then-not-is_head-clause-found
+returns-then-not-is_head-clause-found g c =
+    ok-weaker _ _ c.reach_of_those.result c.reach_of_those.ensures.found (λ found is.
+    record { head = λ head. absurd (false≢true (sym c.if-not-is_head.true ∙ c.is_head.ensures.1 head)); other = λ _. is })
 
 pub returns-clause-found : goal.returns-clause-found
-returns-clause-found g c = (
-  c.in_ok-routes.ensures.found.0,
-  (
-    c.in_ok-routes.automata.items,
-    c.in_ok-routes.ensures.found.1,
-    subst (λ (them : List PatternAutomata). AreReached c.args.limits them c.in-Ok.reaches.items) c.deref.ensures.value c.in-Ok.ensures,
-  ),
-)
+unfolding chars
+returns-clause-found g c =
+    let head = c.is_head.ensures.0 c.if-not-is_head.false in
+    ok-weaker _ _ c.reach_of_those-2.result c.reach_of_those-2.ensures.found (λ found is. record { head = λ _. is; other = λ no. absurd (no head) })

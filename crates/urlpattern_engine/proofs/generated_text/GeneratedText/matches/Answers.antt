@@ -21,8 +21,8 @@ pub returns : goal.returns
 returns c =
     let own = c.args.self.now in
     let text = chars c.args.text.now in
-    let of = subst (λ read. IfSome read (λ steps. AreStepsOf (chars c.as_str.result.now) steps.items)) c.unwrap-steps.ensures c.in_ok-read_steps.ensures.steps in
+    let of = subst (λ read. IfSome read (λ steps. AreStepsOf (chars c.deref.result.now) steps.items)) c.unwrap-steps.ensures c.in_ok-read_steps.ensures.steps in
     subst (λ answer. IfOk c.match_steps.result (λ found. captures_view found ≡ answer))
-    (ap (λ steps. walk c.args.ignore_case steps text) c.deref.ensures.value
-    ∙ by_tree c.args.ignore_case _ _ c.unwrap-steps.result.items own.tree text of c.as_str.ensures)
+    (ap (λ steps. walk c.args.ignore_case steps text) c.deref-2.ensures.value
+    ∙ by_tree c.args.ignore_case _ _ c.unwrap-steps.result.items own.tree text of (ap chars c.deref.ensures))
     c.match_steps.ensures

@@ -12,7 +12,7 @@ pub returns-in-Steps : goal.returns-in-Steps
 returns-in-Steps c =
     let text = chars c.args.text.now in
     subst (λ e. IfOk c.matches.result (λ found. captures_view found ≡ expression_result c.args.ignore_case e text)) (sym c.in-Steps.is)
-    (subst (λ own. IfOk c.matches.result (λ found. captures_view found ≡ walk c.args.ignore_case own.steps.items text)) c.get.ensures c.matches.ensures)
+    (subst (λ own. IfOk c.matches.result (λ found. captures_view found ≡ walk c.args.ignore_case own.steps.items text)) c.deref.ensures c.matches.ensures)
 
 pub returns-in-LazySteps : goal.returns-in-LazySteps
 returns-in-LazySteps c =
@@ -24,16 +24,17 @@ pub returns-in-Automaton : goal.returns-in-Automaton
 returns-in-Automaton c =
     let text = chars c.args.text.now in
     subst (λ e. IfOk c.matches-in-Automaton.result (λ found. captures_view found ≡ expression_result c.args.ignore_case e text)) (sym c.in-Automaton.is)
-    (subst (λ a. IfOk c.matches-in-Automaton.result (λ found. captures_view found ≡ automaton_result a.nfa text)) c.get-in-Automaton.ensures c.matches-in-Automaton.ensures)
+    (subst (λ a. IfOk c.matches-in-Automaton.result (λ found. captures_view found ≡ automaton_result a.nfa text)) c.deref-in-Automaton.ensures c.matches-in-Automaton.ensures)
 
 pub returns-in-Regex : goal.returns-in-Regex
 returns-in-Regex c =
     let text = chars c.args.text.now in
     subst (λ e. IfOk c.matches-in-Regex.result (λ found. captures_view found ≡ expression_result c.args.ignore_case e text)) (sym c.in-Regex.is)
-    (subst (λ r. IfOk c.matches-in-Regex.result (λ found. captures_view found ≡ regex_result r text)) c.get-in-Regex.ensures c.matches-in-Regex.ensures)
+    (subst (λ r. IfOk c.matches-in-Regex.result (λ found. captures_view found ≡ regex_result r text)) c.deref-in-Regex.ensures c.matches-in-Regex.ensures)
 
 pub returns-in-LazyRegex : goal.returns-in-LazyRegex
 returns-in-LazyRegex c =
     let text = chars c.args.text.now in
     subst (λ e. IfOk c.match_once.result (λ found. captures_view found ≡ expression_result c.args.ignore_case e text)) (sym c.in-LazyRegex.is)
-    (subst (λ regexp. IfOk c.match_once.result (λ found. captures_view found ≡ read_result c.args.ignore_case regexp text)) c.as_str.ensures c.match_once.ensures)
+    (subst (λ bytes. IfOk c.match_once.result (λ found. captures_view found ≡ read_result c.args.ignore_case (chars bytes) text)) c.deref-in-LazyRegex.ensures
+    c.match_once.ensures)
