@@ -1,4 +1,0 @@
-pub mod Handles
-pub mod Memory
-pub mod Returns
-pub mod TextReturns
