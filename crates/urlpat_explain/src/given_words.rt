@@ -4,7 +4,7 @@ ghost use Rattle.std.specs.Prelude.{◌≡◌, IfErr, IfNone, IfOk, IfSome};
 ghost use Rattle.std.specs.Str.{chars};
 ghost use Rattle.urlpat_explain.specs.GivenWords.{AreGiven, WordGivesNothing, IsOnlyOwner, WordGivesGroup, HasNoSingleOwner, IsGroupNamed, NamesNoGroup, RejectsWords};
 ghost use Rattle.urlpat_explain.specs.declared.given_words.ArgumentError.TheVariants as all_misgiven;
-ghost use Rattle.urlpat_lines.specs.Words.{words_view};
+ghost use Rattle.urlpat_matching.specs.Texts.{texts_view};
 ghost use Rattle.urlpattern_pattern.specs.Patterns.{pattern_view};
 
 use std::alloc::{AllocError, Global};
@@ -39,22 +39,22 @@ impl From<AllocError> for ArgumentError<'_> {
 pub fn given_by<'w>(
     alloc: Global,
     pattern: &UrlPattern<PatternRegexp>,
-    words: &'w [String],
+    words: &[&'w str],
 ) -> Result<Vec<GivenGroup<'w>>, ArgumentError<'w>>
     ensures given { IfOk result (λ groups.
-        AreGiven (pattern_view pattern.now) (words_view words.now) groups.items) }
+        AreGiven (pattern_view pattern.now) (texts_view words.now) groups.items) }
     ensures refused { IfErr result
-        (RejectsWords (pattern_view pattern.now) (words_view words.now)) }
+        (RejectsWords (pattern_view pattern.now) (texts_view words.now)) }
 {
     let mut groups = Vec::with_capacity(alloc, words.len())?;
     for word in words {
-        match word_group(pattern, word) {
+        match word_group(pattern, *word) {
             Some(group) => {
                 if groups.push(group).is_err() {
                     return Err(ArgumentError::OutOfMemory);
                 }
             }
-            None => return Err(ArgumentError::Word(word)),
+            None => return Err(ArgumentError::Word(*word)),
         }
     }
     Ok(groups)

@@ -103,7 +103,7 @@ pub fn match_diagnosis(
 pub fn first_diagnosis(
     alloc: Global,
     base: Option<&str>,
-    patterns: &[String],
+    patterns: &[&str],
 ) -> Result<Option<String>, OutOfMemory> {
     for (index, pattern) in patterns.iter().enumerate() {
         if let Some(diagnosis) = diagnosed(alloc, pattern, base)? {

@@ -1,0 +1,17 @@
+use Rattle.std.proofs.Common.{string_bytes}
+use Rattle.urlpat_commands.proofs.CommandNoteLemmas.{reports-alone, reports-no-memory, reports-noted}
+use Rattle.urlpat_matching.specs.Status.{error_line}
+use Rattle.urlpat_commands.proofs.failure.write_failure.Goals as goal
+
+pub returns-in-Ok-None-clause-first : goal.returns-in-Ok-None-clause-first
+returns-in-Ok-None-clause-first g c =
+    reports-alone (error_line c.args.error.now) c.report.result _ _ c.report.ensures
+
+pub returns-in_ok-report-clause-first : goal.returns-in_ok-report-clause-first
+returns-in_ok-report-clause-first g c =
+    reports-noted (error_line c.args.error.now) (string_bytes c.in-Ok-Some.note.now) c.write_all.result _ _ _
+    c.in_ok-report.ensures c.write_all.ensures
+
+pub returns-in-Err-clause-first : goal.returns-in-Err-clause-first
+returns-in-Err-clause-first g c =
+    reports-no-memory (error_line c.args.error.now) c.write_all-2.result _ _ c.write_all-2.ensures

@@ -1,0 +1,24 @@
+//! How the commands that compare patterns compile a constructor string: to the parts of its
+//! pattern.
+
+ghost use Rattle.std.specs.Prelude.{option_copied, IfOk};
+ghost use Rattle.urlpat_commands.specs.Coverings.{ArePartsOf};
+
+use std::alloc::Global;
+use urlpattern::regexp::PatternRegexp;
+use urlpattern::rules::PatternParts;
+use urlpattern::{Error, UrlPattern, UrlPatternOptions};
+
+/// The parts of the pattern of a constructor string, compiled with the engine `PatternRegexp`.
+///
+/// The error is the one with which the pattern or its base is rejected, or that memory ran out.
+pub fn parts_of_text(alloc: Global, text: &str, base: Option<&str>) -> Result<PatternParts, Error>
+    ensures { IfOk result (ArePartsOf text.now (option_copied base.entry)) }
+{
+    let options = UrlPatternOptions::default();
+    let pattern = UrlPattern::<PatternRegexp>::from_constructor_string(alloc, text, base, options)?;
+    match pattern.into_parts() {
+        Some(parts) => Ok(parts),
+        None => unreachable!(),
+    }
+}
