@@ -102,6 +102,8 @@ pub enum Operation {
     Together,
     /// Decides about texts by a policy.
     Decide,
+    /// Adds static routes, and decides about requests.
+    Routes,
     /// Decides which components of a pattern have a meaning.
     Meaning,
     /// Writes a plain value as JSON that was parsed from JSON.
@@ -138,6 +140,7 @@ pub const OPERATIONS: &[(&str, Operation)] = &[
     ("common", Operation::Common),
     ("together", Operation::Together),
     ("decide", Operation::Decide),
+    ("routes", Operation::Routes),
     ("meaning", Operation::Meaning),
     ("json", Operation::Json),
     ("equal", Operation::Equal),

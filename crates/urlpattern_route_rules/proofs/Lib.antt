@@ -1,0 +1,2 @@
+pub mod CompileLemmas
+pub mod PatternLemmas

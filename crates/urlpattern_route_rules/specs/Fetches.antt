@@ -1,0 +1,19 @@
+-- A request of a service worker, as conditions see it.
+use Rattle.std.specs.Prelude.{ℕ, Bool, true, false, List, [], ◌∷◌, codes}
+use Rattle.urlpattern_conditions.specs.Requests.{RequestView}
+use Rattle.urlpattern_init.specs.Inheritance.{texts_of_url}
+use Rattle.urlpattern_route_rules.specs.declared.request.RouterFetch.{RouterFetch}
+use Rattle.urlpattern_routes.specs.Methods.{normalized}
+
+-- Whether the worker is running, as `runningStatus` names it.
+abbrev pub status : (is_running : Bool) → List ℕ
+status true = codes "running"
+status false = codes "not-running"
+
+-- The texts of the URL, and the names of the attributes: method, mode, destination and status.
+abbrev pub fetch_view : RouterFetch → RequestView
+fetch_view fetch = record {
+  texts = texts_of_url fetch.url.now;
+  names = normalized fetch.method.now ∷ fetch.mode.now ∷ fetch.destination.now
+      ∷ status fetch.is_running ∷ [];
+}

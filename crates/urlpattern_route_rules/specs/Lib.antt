@@ -1,0 +1,5 @@
+pub mod Fetches
+pub mod Patterns
+pub mod Compiling
+pub mod Adding
+pub mod Compilers

@@ -1,0 +1,138 @@
+//! The rules of a service worker.
+ghost use Rattle.std.specs.Prelude.{◌≡◌, ◌==◌, IfOk, [], length};
+ghost use Rattle.serde_json.specs.View.{view};
+ghost use Rattle.url.specs.Parts.{serialize};
+ghost use Rattle.urlpattern_conditions.specs.Tables.{DecidesBy};
+ghost use Rattle.urlpattern_route_rules.specs.Adding.{Adds, CompilesCall};
+ghost use Rattle.urlpattern_route_rules.specs.Fetches.{fetch_view, status};
+ghost use Rattle.urlpattern_syntax.specs.Errors.{OnlyOutOfMemory};
+
+use crate::compiled::Compiler;
+use crate::fault::{RouteFault, RoutesError};
+use crate::request::RouterFetch;
+use serde_json::Value;
+use std::alloc::{AllocError, Global};
+use url::Url;
+use urlpattern_conditions::{ConditionTable, Request, Rule};
+use urlpattern_matcher::regexp::RegExp;
+use urlpattern_matches::url_texts;
+use urlpattern_routes::{RouterLimits, RouterRule, normalized_method, rules_in};
+use urlpattern_syntax::Error;
+
+/// The rules of a service worker, in the order in which they were added. The first one whose
+/// condition holds of a request decides where its response comes from.
+#[derive(Debug, Drop)]
+pub struct RouterRules<R: RegExp = regex::Regex> {
+    /// The URL of the worker's script.
+    script: Url,
+    /// The rules as they are given, each with its compiled condition.
+    table: ConditionTable<RouterRule, R>,
+}
+
+impl<R: RegExp> RouterRules<R> {
+    /// Returns the rules of a worker that has none yet. `script` is the URL of its script, which is
+    /// the base URL of patterns. Does not allocate.
+    pub fn new(alloc: Global, script: Url) -> Self
+        ensures script { result.script ≡ script }
+        ensures rules { result.table.rules.items ≡ [] }
+    {
+        Self {
+            script,
+            table: ConditionTable::new(alloc),
+        }
+    }
+
+    /// Adds the rules of a call, in JSON: an array of rules, or a single rule.
+    ///
+    /// If the call is rejected, all of its faults are returned, and no rule is added.
+    pub fn add(
+        &mut self,
+        alloc: Global,
+        json: &Value,
+        limits: &RouterLimits,
+    ) -> Result<(), RoutesError>
+        ensures script { self.new.script ≡ self.old.script }
+        ensures rules { Adds R.RegExp (serialize self.old.script) limits.now (view json.now)
+            self.old.table.rules.items self.new.table.rules.items result }
+    {
+        let (mut added, faults) = self.compiled(alloc, json, limits)?;
+        if !faults.is_empty() {
+            return Err(RoutesError::Rejected(faults));
+        }
+        self.table.rules.append(&mut added)?;
+        Ok(())
+    }
+
+    /// Compiles the rules of a call, and returns them with their faults.
+    fn compiled(
+        &self,
+        alloc: Global,
+        json: &Value,
+        limits: &RouterLimits,
+    ) -> Result<(Vec<Rule<RouterRule, R>>, Vec<RouteFault>), AllocError>
+        ensures { IfOk result (λ made. CompilesCall R.RegExp (serialize self.now.script) limits.now
+            (view json.now) made.0.items made.1.items) }
+    {
+        let mut compiler = Compiler {
+            alloc,
+            script: self.script.as_str(),
+            rule: 0,
+            faults: Vec::new(alloc),
+        };
+        let items = rules_in(json);
+        if limits.rules < items.len() {
+            compiler.faults.push(RouteFault::TooManyRules)?;
+        }
+        let mut rules = Vec::new(alloc);
+        for (index, item) in items.iter().enumerate() {
+            compiler.rule = index;
+            rules.push(compiler.rule(item, limits)?)?;
+        }
+        Ok((rules, compiler.faults))
+    }
+
+    /// Returns the index of the rule that decides about a request, and the rule as it is given.
+    /// `None`: no rule's condition holds, and the handler of the event `fetch` gets the request.
+    pub fn decide(
+        &self,
+        alloc: Global,
+        request: &RouterFetch<'_>,
+    ) -> Result<Option<(usize, &RouterRule)>, Error>
+        ensures first { IfOk result
+            (DecidesBy R.answer (fetch_view request.now) self.now.table.rules.items) }
+        ensures memory { OnlyOutOfMemory result }
+    {
+        let method = normalized_method(alloc, request.method)?;
+        let status = status(request.is_running);
+        let names = [&*method, request.mode, request.destination, status];
+        let texts = url_texts(request.url);
+        self.table.decide(
+            alloc,
+            &Request {
+                texts: &texts,
+                names: &names,
+            },
+        )
+    }
+
+    /// The number of rules.
+    pub fn len(&self) -> usize
+        ensures { result ≡ length self.now.table.rules.items }
+    {
+        self.table.rules.len()
+    }
+
+    /// Whether there is no rule.
+    pub fn is_empty(&self) -> bool
+        ensures { result ≡ (length self.now.table.rules.items == 0) }
+    {
+        self.table.rules.is_empty()
+    }
+}
+
+/// Returns how `runningStatus` names whether the worker is running.
+fn status(is_running: bool) -> &'static str
+    ensures { result.now ≡ status is_running }
+{
+    if is_running { "running" } else { "not-running" }
+}
