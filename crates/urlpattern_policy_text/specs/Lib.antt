@@ -1,0 +1,3 @@
+pub mod PolicyTexts
+pub mod Statements
+pub mod WrittenPolicies
