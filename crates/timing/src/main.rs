@@ -4,7 +4,8 @@
 //! `routers SEED COUNT` for those on routers, `pairs SEED COUNT` for those on pairs of patterns,
 //! and `texts SEED COUNT` for those on patterns as texts), or links captures (`links SEED COUNT`).
 //! `rules FILE` times comparisons of all routes with each other. `repeat FILE NAME CALL COUNT`
-//! repeats a call, for a tool that counts instructions.
+//! repeats a call, for a tool that counts instructions, and `repeat-paths FILE LOOKUP hits COUNT`
+//! (or `misses`) a lookup of each path among the routes of a file.
 #![tactic(auto)]
 
 mod calls;
@@ -52,6 +53,9 @@ const LINK_TIMES: &str = "link-times";
 /// The command that repeats a call without timing it.
 const REPEAT: &str = "repeat";
 
+/// The command that repeats lookups of paths without timing them.
+const REPEAT_PATHS: &str = "repeat-paths";
+
 /// The exit status of a run in which nothing differs.
 const SAME: u8 = 0;
 
@@ -86,6 +90,10 @@ fn run(rt: &HostRuntime) -> io::Result<bool> {
         }
         [command, path, name, call, count] if command.as_str() == REPEAT => {
             timing::repeat(rt, path, name, call, number(count)?)
+        }
+        [command, path, lookup, paths, count] if command.as_str() == REPEAT_PATHS => {
+            let is_missing = paths.as_str() == "misses";
+            timing::repeat_paths(rt, path, lookup, is_missing, number(count)?)
         }
         [command, path] if command.as_str() == ROUTES => {
             timing::run_routes(rt, path, &mut rt.stdout())?;

@@ -1,0 +1,3 @@
+pub mod PathExamples
+pub mod PathLaws
+pub mod PathMatchers

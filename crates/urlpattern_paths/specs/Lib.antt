@@ -1,0 +1,2 @@
+pub mod CapturesLeft
+pub mod PathCaptures
