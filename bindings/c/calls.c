@@ -9,7 +9,9 @@ enum { ROOM = 4096, SPANS = 32, RIGHT = 0, WRONG = 99 };
 
 static char text[ROOM];
 static urlpattern_list patterns = URLPATTERN_EMPTY, others = URLPATTERN_EMPTY;
-static size_t appended;
+static urlpattern_router router = URLPATTERN_EMPTY, other_router = URLPATTERN_EMPTY;
+static urlpattern_policy policy = URLPATTERN_EMPTY, other_policy = URLPATTERN_EMPTY;
+static size_t appended, inserted;
 static int outcome = RIGHT;
 
 /* Whether a call reports what it should, or a value is the wanted one. Otherwise memory ran out, or something is wrong. */
@@ -20,9 +22,15 @@ static bool is(uint32_t status, uint32_t wanted) {
     return status == wanted;
 }
 
-/* The same of a call that appends a pattern. */
+/* Whether a call appends a pattern, as `is` says. */
 static bool is_appended(uint32_t status) {
     appended += status == URLPATTERN_DONE;
+    return is(status, URLPATTERN_DONE);
+}
+
+/* Whether a call appends a route, as `is` says. */
+static bool is_inserted(uint32_t status) {
+    inserted += status == URLPATTERN_DONE;
     return is(status, URLPATTERN_DONE);
 }
 
@@ -86,6 +94,7 @@ static bool are_linked(void) {
 
 static bool are_compared(void) {
     urlpattern_component_number component = URLPATTERN_PROTOCOL;
+    uint32_t reason = 0;
     size_t needed = 0;
     return is(urlpattern_text(&patterns, 0, text, ROOM, &needed), URLPATTERN_DONE)
         && is(urlpattern_text(&patterns, 3, text, ROOM, &needed), URLPATTERN_DONE)
@@ -94,10 +103,15 @@ static bool are_compared(void) {
         && is(urlpattern_covers(&patterns, 0, &patterns, 2, &component), URLPATTERN_NO_MATCH)
         && is(urlpattern_covers(&patterns, 1, &others, 0, &component), URLPATTERN_UNKNOWN)
         && is(urlpattern_covers(&patterns, 0, &others, 0, &component), URLPATTERN_DONE)
+        && is(urlpattern_covering_reason(&patterns, 0, &others, 0, &reason), URLPATTERN_NO_MATCH)
+        && is(urlpattern_covering_reason(&patterns, 1, &others, 0, &reason), URLPATTERN_DONE)
+        && is(reason == URLPATTERN_IGNORED_CASE || reason == URLPATTERN_CUSTOM_EXPRESSION, true)
+        && is(urlpattern_covering_reason(&patterns, 1, &patterns, 0, &reason), URLPATTERN_DONE)
         && is(urlpattern_counterexample(&patterns, 0, &patterns, 2, text, ROOM, &needed), URLPATTERN_DONE)
         && is(urlpattern_counterexample(&patterns, 0, &others, 0, text, ROOM, &needed), URLPATTERN_NO_MATCH)
         && is(urlpattern_overlaps(&patterns, 0, &others, 0, text, ROOM, &needed), URLPATTERN_DONE)
-        && is(urlpattern_overlaps(&patterns, 1, &patterns, 0, text, ROOM, &needed), URLPATTERN_UNKNOWN);
+        && is(urlpattern_overlaps(&patterns, 1, &patterns, 0, text, ROOM, &needed), URLPATTERN_UNKNOWN)
+        && is(urlpattern_reach_of_each(&patterns, text, ROOM, &needed), URLPATTERN_DONE);
 }
 
 static bool are_diagnosed(void) {
@@ -119,6 +133,55 @@ static bool are_shared(void) {
     return is_shared && is_appended(urlpattern_add(&patterns, url, length, "", 0, false));
 }
 
+static bool are_inserted(void) {
+    static const char pattern[] = "https://example.com/:a/(b|c)", init[] = "{\"pathname\":\"/:x/(b|c)\"}";
+    return is_inserted(urlpattern_router_insert(&router, "page", 4, "GET", 3, pattern, sizeof pattern - 1, "", 0, false))
+        && is_inserted(urlpattern_router_insert_init(&router, "", 0, "POST", 4, init, sizeof init - 1, false))
+        && is_inserted(urlpattern_router_insert_init(&router, "", 0, "PUT", 3, init, sizeof init - 1, true));
+}
+
+static bool are_routed(void) {
+    static const char url[] = "https://example.com/x/b", path[] = "/x/b", groups[] = "ax0b";
+    static const urlpattern_given given[] = { { URLPATTERN_PATHNAME, 0, 1, 1, 1 }, { URLPATTERN_PATHNAME, 2, 1, 3, 1 } };
+    static urlpattern_span spans[SPANS];
+    const size_t length = sizeof url - 1, path_length = sizeof path - 1;
+    urlpattern_sizes sizes;
+    size_t index = 0, needed = 0;
+    return is(urlpattern_router_at(&router, "POST", 4, path, path_length, &index, text, ROOM, spans, SPANS, &sizes), URLPATTERN_DONE)
+        && is(urlpattern_router_at_url(&router, "GET", 3, url, length, "", 0, &index, text, ROOM, spans, SPANS, &sizes), URLPATTERN_DONE)
+        && is(urlpattern_router_at(&router, "GET", 3, path, path_length, &index, text, ROOM, spans, SPANS, &sizes), URLPATTERN_NOT_ALLOWED)
+        && is(urlpattern_router_allowed(&router, "GET", 3, path, path_length, text, ROOM, &needed), URLPATTERN_DONE)
+        && is(needed, sizeof "POST, PUT" - 1)
+        && is(urlpattern_router_allowed_at_url(&router, "HEAD", 4, url, length, "", 0, text, ROOM, &needed), URLPATTERN_NO_MATCH)
+        && is(urlpattern_router_link(&router, "page", 4, groups, sizeof groups - 1, given, 2, text, ROOM, &needed), URLPATTERN_DONE)
+        && is(urlpattern_router_link(&router, "page", 4, groups, sizeof groups - 1, given, 1, text, ROOM, &needed), URLPATTERN_REFUSED)
+        && is(urlpattern_router_group_name(&router, 0, URLPATTERN_PATHNAME, 0, text, ROOM, &needed), URLPATTERN_DONE)
+        && is(urlpattern_router_share(&router, &other_router), URLPATTERN_DONE)
+        && is(urlpattern_router_insert(&router, "", 0, "", 0, url, length, "", 0, false), URLPATTERN_SHARED);
+}
+
+/* Whether the policy decides as its rules say. What it has no memory for it denies. */
+static bool are_decided(void) {
+    static const char pattern[] = "https://example.com/:a/(b|c)", init[] = "{\"pathname\":\"/x/*\"}", url[] = "https://example.com/x/%62";
+    size_t rule = 0;
+    return is(urlpattern_policy_add(&policy, false, pattern, sizeof pattern - 1, "", 0, false), URLPATTERN_DONE)
+        && is(urlpattern_policy_add_init(&policy, true, init, sizeof init - 1, false), URLPATTERN_DONE)
+        && is(urlpattern_policy_set_options(&policy, false, true, true), URLPATTERN_DONE)
+        && is(urlpattern_policy_decide(&policy, url, sizeof url - 1, "", 0, &rule), URLPATTERN_DENY)
+        && is(urlpattern_policy_decide(&policy, url, sizeof url - 4, "", 0, &rule), URLPATTERN_ALLOW)
+        && is(urlpattern_policy_share(&policy, &other_policy), URLPATTERN_DONE)
+        && is(urlpattern_policy_set_options(&policy, true, true, true), URLPATTERN_SHARED);
+}
+
+/* How many routes the handle has. Needs no memory. */
+static size_t count_routes(void) {
+    size_t index = 0, needed = 0;
+    while (urlpattern_router_group_name(&router, index, URLPATTERN_PATHNAME, 0, text, ROOM, &needed) == URLPATTERN_DONE) {
+        index++;
+    }
+    return index;
+}
+
 /* How many patterns the handle has. Needs no memory. */
 static size_t count(void) {
     size_t index = 0, needed = 0;
@@ -130,11 +193,16 @@ static size_t count(void) {
 
 int main(void) {
     (void)(is(urlpattern_version(), URLPATTERN_VERSION)
-           && are_appended() && are_matched() && are_inits_matched() && are_linked() && are_compared() && are_diagnosed() && are_shared());
-    if (count() != appended) {
+           && are_appended() && are_matched() && are_inits_matched() && are_linked() && are_compared() && are_diagnosed() && are_shared()
+           && are_inserted() && are_routed() && are_decided());
+    if (count() != appended || count_routes() != inserted) {
         outcome = WRONG;
     }
     urlpattern_free(&patterns);
     urlpattern_free(&others);
+    urlpattern_router_free(&router);
+    urlpattern_router_free(&other_router);
+    urlpattern_policy_free(&policy);
+    urlpattern_policy_free(&other_policy);
     return outcome;
 }

@@ -225,6 +225,32 @@ static void ask_same(void) {
     urlpattern_free(&others);
 }
 
+/* Whether the first of two patterns is the first match of some texts, and covers the other. */
+static void ask_reached(void) {
+    static const char every[] = "https://example.com/*", one[] = "https://example.com/a";
+    static const char end[] = ",[0]]";
+    const size_t end_length = sizeof end - 1;
+    urlpattern_list none = URLPATTERN_EMPTY;
+    urlpattern_sizes sizes;
+    size_t needed = 0, again = 0, index = 9;
+    urlpattern_free(&patterns);
+    uint32_t status = urlpattern_add(&patterns, every, sizeof every - 1, "", 0, false);
+    compare(status == URLPATTERN_DONE, __LINE__, status);
+    status = urlpattern_add(&patterns, one, sizeof one - 1, "", 0, false);
+    compare(status == URLPATTERN_DONE, __LINE__, status);
+    status = urlpattern_reach_of_each(&patterns, buffer, ROOM, &needed);
+    bool is_right = status == URLPATTERN_DONE && needed > 1 + end_length && buffer[0] == '[';
+    compare(is_right && memcmp(buffer + needed - end_length, end, end_length) == 0, __LINE__, status);
+    size_t length = is_right ? needed - 1 - end_length : 0;
+    status = urlpattern_first_captures_of_init(&patterns, buffer + 1, length, &index, group, ROOM, spans, SPANS, &sizes);
+    compare(status == URLPATTERN_DONE && index == 0, __LINE__, status);
+    status = urlpattern_reach_of_each(&patterns, NULL, 0, &again);
+    compare(status == URLPATTERN_TOO_SMALL && again == needed, __LINE__, status);
+    status = urlpattern_reach_of_each(&none, buffer, ROOM, &needed);
+    compare(status == URLPATTERN_NO_PATTERN, __LINE__, status);
+    urlpattern_free(&patterns);
+}
+
 /* Whether the first pattern of a handle captures `7` of a path. */
 static uint32_t path_status(urlpattern_list *list, const char *path, size_t *index) {
     urlpattern_sizes sizes = { 0, 0 };
@@ -336,6 +362,7 @@ int main(void) {
     ask_long_texts();
     ask_inits();
     ask_same();
+    ask_reached();
     ask_paths();
     ask_texts();
     ask_shared();

@@ -160,6 +160,23 @@ bool is_answered(list &patterns, list &others, const words &line) {
     return word == "link" || word == "generate" ? is_linked(patterns, line) : is_covered(patterns, others, line);
 }
 
+// The first of two patterns is the first match of some texts, and covers the other.
+bool is_reached() {
+    list patterns;
+    for (const char *text : {"https://example.com/*", "https://example.com/a"}) {
+        if (patterns.add(text) != status::done) {
+            return false;
+        }
+    }
+    auto json = patterns.reach_of_each();
+    const std::string end = ",[0]]";
+    if (!json || json->size() <= 1 + end.size() || json->substr(json->size() - end.size()) != end) {
+        return false;
+    }
+    auto first = patterns.first_match_of_init(json->substr(1, json->size() - 1 - end.size()));
+    return first && first->index == 0;
+}
+
 } // namespace
 
 int main() {
@@ -182,5 +199,5 @@ int main() {
         }
     }
     std::printf("%u passed, %u failed\n", passed, failed);
-    return failed != 0 || !urlpattern::is_same_version();
+    return failed != 0 || !urlpattern::is_same_version() || !is_reached();
 }

@@ -9,10 +9,11 @@
  *   as many elements, as its size says, which may be written. Each of these pointers may be null
  *   if its size is 0: the text is then empty.
  * - Each other pointer leads to a value of its type that may be written, and that nothing else
- *   uses during the call. No two arguments overlap, but for texts and for the two handles of
- *   `urlpattern_covers` and `urlpattern_is_same`.
+ *   uses during the call. No two arguments overlap, but for texts and for the two handles of the
+ *   header's own functions, such as `urlpattern_covers`.
  * - A handle holds zeros (`URLPATTERN_EMPTY`) before its first call. After that only these
- *   functions write it, and it is not copied: `urlpattern_share` makes another handle.
+ *   functions write it, and it is not copied: `urlpattern_share` makes another handle, as
+ *   `urlpattern_router_share` and `urlpattern_policy_share` do.
  * - One call at a time has a handle. Another thread may make the next one, if the program orders
  *   the two: by a lock, by the start or the end of a thread, or by an atomic.
  * - `malloc`, `realloc` and `free` come from one allocator, may be called from each thread that
@@ -84,7 +85,8 @@ typedef enum urlpattern_status {
                                    * that is given is no text */
     URLPATTERN_TOO_SMALL = 9,     /* too little room; `needed` has the size that is needed */
     URLPATTERN_UNKNOWN = 10,      /* a comparison of two patterns is not decided */
-    URLPATTERN_SHARED = 11        /* another handle has the same patterns, so that none is added */
+    URLPATTERN_SHARED = 11,       /* another handle has the same patterns, so that none is added */
+    URLPATTERN_NOT_ALLOWED = 12   /* of a router: a route matches, but none serves the method */
 } urlpattern_status;
 
 /* The number of a component. */
@@ -99,13 +101,6 @@ typedef enum urlpattern_component_number {
     URLPATTERN_HASH = 7,
     URLPATTERN_NO_COMPONENT = 8 /* is written where there is no component to name */
 } urlpattern_component_number;
-
-/* Which text a place lies in, as a `uint32_t`. */
-enum urlpattern_subject {
-    URLPATTERN_IN_PATTERN = 0,  /* the pattern's text */
-    URLPATTERN_IN_BASE = 1,     /* the base URL */
-    URLPATTERN_IN_COMPONENT = 2 /* of an init: 2 and the number of the component, added */
-};
 
 /* A handle: patterns in their order, as the routes of a router, each named by its index from 0
  * on. One pattern is a list of one. */
@@ -352,26 +347,6 @@ urlpattern_status urlpattern_component(urlpattern_list *patterns, size_t index,
 urlpattern_status urlpattern_text(urlpattern_list *patterns, size_t index, char *buffer,
                                   size_t room, size_t *needed);
 
-/* Whether two patterns of the handle are the same: each component has the same parts, the same
- * names of groups and the same options in both, however the patterns were written. The same
- * patterns match the same URLs with the same captures; that is proved unless one ignores case and
- * has a custom regular expression.
- * DONE (they are), NO_MATCH (they are not), or NO_PATTERN (of one of the two indices). */
-urlpattern_status urlpattern_is_same_within(urlpattern_list *patterns, size_t index, size_t other);
-
-/* Does what `urlpattern_is_same_within` does, with a pattern of another handle. The caller
- * passes two handles, not one twice. */
-urlpattern_status urlpattern_is_same_between(urlpattern_list *patterns, size_t index,
-                                             urlpattern_list *others, size_t other);
-
-/* Calls `urlpattern_is_same_within` if the handles are one, or else
- * `urlpattern_is_same_between`. */
-static inline urlpattern_status urlpattern_is_same(urlpattern_list *patterns, size_t index,
-                                                   urlpattern_list *others, size_t other) {
-    return patterns == others ? urlpattern_is_same_within(patterns, index, other)
-                              : urlpattern_is_same_between(patterns, index, others, other);
-}
-
 /* Whether the pattern of this index has a custom regular expression, as `hasRegExpGroups` of a
  * browser.
  * DONE (it has one), NO_MATCH (it has none), or NO_PATTERN. */
@@ -385,98 +360,16 @@ urlpattern_status urlpattern_has_regexp_groups(urlpattern_list *patterns, size_t
  * DONE (each has one), NO_MATCH (not each has one), OUT_OF_MEMORY, or NO_PATTERN. */
 urlpattern_status urlpattern_has_meaning(urlpattern_list *patterns, size_t index);
 
-/* Whether the pattern of this index covers the asked one, another pattern of the handle or the
- * same: whether it matches each URL that the asked one matches. `component` is the number of a
- * component, or URLPATTERN_NO_COMPONENT.
- * DONE (it covers it), NO_MATCH (it does not: it does not match a text of this component that
- * the asked one matches), UNKNOWN (because of this component, where no other one decides: it has
- * a custom regular expression, ignores case, or would take too many steps to compare),
- * OUT_OF_MEMORY, or NO_PATTERN (of one of the two indices). But for NO_MATCH and UNKNOWN
- * `component` is URLPATTERN_NO_COMPONENT. */
-urlpattern_status urlpattern_covers_within(urlpattern_list *patterns, size_t index, size_t asked,
-                                           urlpattern_component_number *component);
-
-/* Does what `urlpattern_covers_within` does, with an asked pattern of another handle. The caller
- * passes two handles, not one twice: each is taken for the time of the call, and what the call
- * does with one that is taken twice is not known. */
-urlpattern_status urlpattern_covers_between(urlpattern_list *patterns, size_t index,
-                                            urlpattern_list *others, size_t asked,
-                                            urlpattern_component_number *component);
-
-/* Calls `urlpattern_covers_within` if the handles are one, or else `urlpattern_covers_between`.
- * The library has no function of this name: this one is the header's. */
-static inline urlpattern_status urlpattern_covers(urlpattern_list *patterns, size_t index,
-                                                  urlpattern_list *others, size_t asked,
-                                                  urlpattern_component_number *component) {
-    return patterns == others
-        ? urlpattern_covers_within(patterns, index, asked, component)
-        : urlpattern_covers_between(patterns, index, others, asked, component);
-}
-
-/* Writes texts that the asked pattern matches, another pattern of the handle, and the pattern of
- * this index does not, as an init in JSON: in the component that `urlpattern_covers` writes, the
- * one matches the text and the other does not. A component of which no text is known is left out:
- * the asked pattern may match none. The init has at most 1,048,576 bytes.
- * DONE, NO_MATCH (there are none: the pattern covers the asked one), UNKNOWN (as of
- * `urlpattern_covers`), OUT_OF_MEMORY, NO_PATTERN (of one of the two indices), or TOO_SMALL. */
-urlpattern_status urlpattern_counterexample_within(urlpattern_list *patterns, size_t index,
-                                                   size_t asked, char *buffer, size_t room,
-                                                   size_t *needed);
-
-/* Does what `urlpattern_counterexample_within` does, with an asked pattern of another handle.
- * The caller passes two handles, not one twice. */
-urlpattern_status urlpattern_counterexample_between(urlpattern_list *patterns, size_t index,
-                                                    urlpattern_list *others, size_t asked,
-                                                    char *buffer, size_t room, size_t *needed);
-
-/* Whether two patterns of the handle overlap: whether there are texts that both match. Writes such
- * texts, as an init in JSON of at most 1,048,576 bytes. A component that is the same in both is
- * left out where no text is known that it matches: it may match none, as `([^\s\S])` does, and
- * then the patterns overlap in the others alone.
- * DONE (they overlap), NO_MATCH (there are no such texts), UNKNOWN (because of a component, where
- * no other one decides), OUT_OF_MEMORY, NO_PATTERN (of one of the two indices), or TOO_SMALL (they
- * overlap, and there is no room for the texts). */
-urlpattern_status urlpattern_overlaps_within(urlpattern_list *patterns, size_t index, size_t other,
-                                             char *buffer, size_t room, size_t *needed);
-
-/* Does what `urlpattern_overlaps_within` does, with a pattern of another handle. The caller
- * passes two handles, not one twice. */
-urlpattern_status urlpattern_overlaps_between(urlpattern_list *patterns, size_t index,
-                                              urlpattern_list *others, size_t other, char *buffer,
-                                              size_t room, size_t *needed);
-
-/* The part of a text that is at fault, in bytes: `start` is at most `end`, and `end` at most the
- * length of the text. */
-typedef struct urlpattern_place {
-    uint32_t subject; /* URLPATTERN_IN_PATTERN or URLPATTERN_IN_BASE; of an init: also
-                       * URLPATTERN_IN_COMPONENT + the number of the component whose text it is,
-                       * or URLPATTERN_IN_PATTERN for the init as a whole, with no part */
-    size_t start;
-    size_t end;
-} urlpattern_place;
-
-/* Writes why `urlpattern_add` refuses these texts, and the place that is at fault. The reason has
- * at most 1,024 bytes and 16 for each byte of the two texts.
- * DONE, NO_MATCH (they are accepted), NOT_UTF8, OUT_OF_MEMORY, or TOO_SMALL. For DONE and
- * TOO_SMALL `place` is written; for the others nothing is promised of it. */
-urlpattern_status urlpattern_diagnose(const char *text, size_t length, const char *base,
-                                      size_t base_length, bool ignore_case, char *buffer,
-                                      size_t room, size_t *needed, urlpattern_place *place);
-
-/* Writes why `urlpattern_add_init` refuses an init, and the place that is at fault in one of its
- * texts; or, if the component at fault is inherited, since the init has no text for it, in what is
- * inherited. The reason has at most 1,024 bytes and 16 for each byte of the JSON.
- * DONE, NO_MATCH (it is accepted), NOT_UTF8, REFUSED (the JSON is no init, or the base URL is
- * refused, and no reason is written), OUT_OF_MEMORY, or TOO_SMALL, with `place` as of
- * `urlpattern_diagnose`. */
-urlpattern_status urlpattern_diagnose_init(const char *json, size_t length, bool ignore_case,
-                                           char *buffer, size_t room, size_t *needed,
-                                           urlpattern_place *place);
-
 #ifdef __cplusplus
 }
 #endif
 
+#include "urlpattern_comparing.h"
+#include "urlpattern_diagnosing.h"
+#include "urlpattern_policy.h"
+#include "urlpattern_router.h"
+
 #include "urlpattern_nulls.h"
+#include "urlpattern_router_nulls.h"
 
 #endif

@@ -16,102 +16,9 @@
 #ifndef URLPATTERN_HPP
 #define URLPATTERN_HPP
 
-#include "urlpattern.h"
-
-#include <algorithm>
-#include <cstddef>
-#include <cstdint>
-#include <optional>
-#include <string>
-#include <string_view>
-#include <utility>
-#include <vector>
+#include "urlpattern_values.hpp"
 
 namespace urlpattern {
-
-/* What a call reports. The one of zeros is `no_match`. */
-enum class status : std::uint32_t {
-    no_match = URLPATTERN_NO_MATCH,
-    done = URLPATTERN_DONE,
-    no_url = URLPATTERN_NO_URL,
-    no_path = URLPATTERN_NO_PATH,
-    too_long = URLPATTERN_TOO_LONG,
-    not_utf8 = URLPATTERN_NOT_UTF8,
-    refused = URLPATTERN_REFUSED,
-    out_of_memory = URLPATTERN_OUT_OF_MEMORY,
-    no_pattern = URLPATTERN_NO_PATTERN,
-    too_small = URLPATTERN_TOO_SMALL,
-    unknown = URLPATTERN_UNKNOWN,
-    shared = URLPATTERN_SHARED
-};
-
-enum class component : std::uint32_t {
-    protocol = URLPATTERN_PROTOCOL,
-    username = URLPATTERN_USERNAME,
-    password = URLPATTERN_PASSWORD,
-    hostname = URLPATTERN_HOSTNAME,
-    port = URLPATTERN_PORT,
-    pathname = URLPATTERN_PATHNAME,
-    search = URLPATTERN_SEARCH,
-    hash = URLPATTERN_HASH,
-    none = URLPATTERN_NO_COMPONENT
-};
-
-/* The outcome of a call: its status, and its value if that is `done`. */
-template <class Value> class result {
-  public:
-    result(urlpattern_status number, Value value)
-        : code_(static_cast<status>(number)), value_(std::move(value)) {}
-
-    explicit operator bool() const { return code_ == status::done; }
-    status code() const { return code_; }
-    const Value &operator*() const { return value_; }
-    const Value *operator->() const { return &value_; }
-
-  private:
-    status code_;
-    Value value_;
-};
-
-/* A text that is given for a group. */
-struct group {
-    component of;
-    std::string_view name;
-    std::string_view text;
-};
-
-/* Why a pattern is refused, and the bytes at fault, from `start` to `end`, of the text that
- * `subject` names as `urlpattern_place` does. */
-struct refusal {
-    std::string reason;
-    std::uint32_t subject = 0;
-    std::size_t start = 0, end = 0;
-};
-
-/* A match: the index of the pattern, and what its groups captured. */
-class match {
-  public:
-    std::size_t index = 0;
-
-    /* What a group captured, by its number in its component; nothing if it took no part. */
-    std::optional<std::string_view> operator()(component of, std::size_t number) const {
-        for (const urlpattern_span &span : spans) {
-            if (span.component == static_cast<urlpattern_component_number>(of)
-                && span.group == number && span.took_part) {
-                return std::string_view(text).substr(span.start, span.length);
-            }
-        }
-        return std::nullopt;
-    }
-
-    std::string text;
-    std::vector<urlpattern_span> spans;
-};
-
-/* Whether the library is of the version of this header. */
-inline bool is_same_version() {
-    return urlpattern_version() / 1000 == URLPATTERN_VERSION / 1000;
-}
 
 /* Patterns in their order, as the routes of a router, which this object frees. */
 class list {
@@ -127,12 +34,13 @@ class list {
     ~list() { urlpattern_free(&handle_); }
 
     status add(std::string_view pattern, std::string_view base = {}, bool ignore_case = false) {
-        return to_status(urlpattern_add(&handle_, pattern.data(), pattern.size(), base.data(),
-                                        base.size(), ignore_case));
+        return details::to_status(urlpattern_add(&handle_, pattern.data(), pattern.size(),
+                                                 base.data(), base.size(), ignore_case));
     }
 
     status add_init(std::string_view json, bool ignore_case = false) {
-        return to_status(urlpattern_add_init(&handle_, json.data(), json.size(), ignore_case));
+        return details::to_status(
+            urlpattern_add_init(&handle_, json.data(), json.size(), ignore_case));
     }
 
     /* Another list of the same patterns, for another thread; nothing if memory ran out. */
@@ -145,8 +53,8 @@ class list {
     }
 
     status test(std::size_t index, std::string_view url, std::string_view base = {}) {
-        return to_status(urlpattern_test(&handle_, index, url.data(), url.size(), base.data(),
-                                         base.size()));
+        return details::to_status(urlpattern_test(&handle_, index, url.data(), url.size(),
+                                                  base.data(), base.size()));
     }
 
     /* The first component that does not match, if the status is `no_match`. */
@@ -155,18 +63,18 @@ class list {
         urlpattern_component_number number = URLPATTERN_NO_COMPONENT;
         urlpattern_status status = urlpattern_mismatch(&handle_, index, url.data(), url.size(),
                                                        base.data(), base.size(), &number);
-        return {to_status(status), static_cast<component>(number)};
+        return {details::to_status(status), static_cast<component>(number)};
     }
 
     result<std::string> exec(std::size_t index, std::string_view url, std::string_view base = {}) {
-        return written([&](char *buffer, std::size_t room, std::size_t *needed) {
+        return details::written([&](char *buffer, std::size_t room, std::size_t *needed) {
             return urlpattern_exec(&handle_, index, url.data(), url.size(), base.data(),
                                    base.size(), buffer, room, needed);
         });
     }
 
     result<match> captures(std::size_t index, std::string_view url, std::string_view base = {}) {
-        return matched(index, [&](match &found, urlpattern_sizes *sizes) {
+        return details::matched(index, [&](match &found, urlpattern_sizes *sizes) {
             return urlpattern_captures(&handle_, index, url.data(), url.size(), base.data(),
                                        base.size(), found.text.data(), found.text.size(),
                                        found.spans.data(), found.spans.size(), sizes);
@@ -174,7 +82,7 @@ class list {
     }
 
     result<match> captures_of_path(std::size_t index, std::string_view path) {
-        return matched(index, [&](match &found, urlpattern_sizes *sizes) {
+        return details::matched(index, [&](match &found, urlpattern_sizes *sizes) {
             return urlpattern_captures_of_path(&handle_, index, path.data(), path.size(),
                                                found.text.data(), found.text.size(),
                                                found.spans.data(), found.spans.size(), sizes);
@@ -182,7 +90,7 @@ class list {
     }
 
     result<match> first_match(std::string_view url, std::string_view base = {}) {
-        return matched(0, [&](match &found, urlpattern_sizes *sizes) {
+        return details::matched(0, [&](match &found, urlpattern_sizes *sizes) {
             return urlpattern_first_captures(&handle_, url.data(), url.size(), base.data(),
                                              base.size(), &found.index, found.text.data(),
                                              found.text.size(), found.spans.data(),
@@ -191,7 +99,7 @@ class list {
     }
 
     result<match> first_match_of_path(std::string_view path) {
-        return matched(0, [&](match &found, urlpattern_sizes *sizes) {
+        return details::matched(0, [&](match &found, urlpattern_sizes *sizes) {
             return urlpattern_first_captures_of_path(&handle_, path.data(), path.size(),
                                                      &found.index, found.text.data(),
                                                      found.text.size(), found.spans.data(),
@@ -202,7 +110,7 @@ class list {
     /* Matches eight texts, which are parts of one. */
     result<match> captures_of_texts(std::size_t index, std::string_view text,
                                     const urlpattern_parts &parts) {
-        return matched(index, [&](match &found, urlpattern_sizes *sizes) {
+        return details::matched(index, [&](match &found, urlpattern_sizes *sizes) {
             return urlpattern_captures_of_texts(&handle_, index, text.data(), text.size(), &parts,
                                                 found.text.data(), found.text.size(),
                                                 found.spans.data(), found.spans.size(), sizes);
@@ -210,7 +118,7 @@ class list {
     }
 
     result<match> first_match_of_texts(std::string_view text, const urlpattern_parts &parts) {
-        return matched(0, [&](match &found, urlpattern_sizes *sizes) {
+        return details::matched(0, [&](match &found, urlpattern_sizes *sizes) {
             return urlpattern_first_captures_of_texts(&handle_, text.data(), text.size(), &parts,
                                                       &found.index, found.text.data(),
                                                       found.text.size(), found.spans.data(),
@@ -220,7 +128,7 @@ class list {
 
     /* Matches an init, an object of JSON. */
     result<match> captures_of_init(std::size_t index, std::string_view json) {
-        return matched(index, [&](match &found, urlpattern_sizes *sizes) {
+        return details::matched(index, [&](match &found, urlpattern_sizes *sizes) {
             return urlpattern_captures_of_init(&handle_, index, json.data(), json.size(),
                                                found.text.data(), found.text.size(),
                                                found.spans.data(), found.spans.size(), sizes);
@@ -228,7 +136,7 @@ class list {
     }
 
     result<match> first_match_of_init(std::string_view json) {
-        return matched(0, [&](match &found, urlpattern_sizes *sizes) {
+        return details::matched(0, [&](match &found, urlpattern_sizes *sizes) {
             return urlpattern_first_captures_of_init(&handle_, json.data(), json.size(),
                                                      &found.index, found.text.data(),
                                                      found.text.size(), found.spans.data(),
@@ -237,14 +145,15 @@ class list {
     }
 
     result<std::string> exec_of_init(std::size_t index, std::string_view json) {
-        return written([&](char *buffer, std::size_t room, std::size_t *needed) {
+        return details::written([&](char *buffer, std::size_t room, std::size_t *needed) {
             return urlpattern_exec_of_init(&handle_, index, json.data(), json.size(), buffer, room,
                                            needed);
         });
     }
 
     /* What the group of this name captured in a match of this list; nothing if it took no part, or
-     * the pattern has no such group. */
+     * the pattern has no such group. The view is of the match, which is therefore no temporary
+     * one. */
     std::optional<std::string_view> captured(const match &found, component of,
                                              std::string_view name) {
         for (const urlpattern_span &span : found.spans) {
@@ -255,25 +164,28 @@ class list {
         }
         return std::nullopt;
     }
+    std::optional<std::string_view> captured(const match &&found, component of,
+                                             std::string_view name) = delete;
 
     result<std::string> group_name(std::size_t index, component of, std::size_t number) {
-        return written([&](char *buffer, std::size_t room, std::size_t *needed) {
-            return urlpattern_group_name(&handle_, index, to_number(of), number, buffer, room,
-                                         needed);
+        return details::written([&](char *buffer, std::size_t room, std::size_t *needed) {
+            return urlpattern_group_name(&handle_, index, details::to_number(of), number, buffer,
+                                         room, needed);
         });
     }
 
     result<std::string> text_of(std::size_t index, component of) {
-        return written([&](char *buffer, std::size_t room, std::size_t *needed) {
-            return urlpattern_component(&handle_, index, to_number(of), buffer, room, needed);
+        return details::written([&](char *buffer, std::size_t room, std::size_t *needed) {
+            return urlpattern_component(&handle_, index, details::to_number(of), buffer, room,
+                                        needed);
         });
     }
 
     /* The URL of a pattern with these groups; with the status `refused`, why there is none. */
     result<std::string> link(std::size_t index, const std::vector<group> &groups) {
-        auto [text, given] = joined(groups);
-        return written([&, &text = text, &given = given](char *buffer, std::size_t room,
-                                                         std::size_t *needed) {
+        auto [text, given] = details::joined(groups);
+        return details::written([&, &text = text, &given = given](char *buffer, std::size_t room,
+                                                                  std::size_t *needed) {
             return urlpattern_link(&handle_, index, text.data(), text.size(), given.data(),
                                    given.size(), buffer, room, needed);
         });
@@ -282,32 +194,33 @@ class list {
     /* The text of a component with these groups; with the status `refused`, why there is none. */
     result<std::string> generate(std::size_t index, component of,
                                  const std::vector<group> &groups) {
-        auto [text, given] = joined(groups);
-        return written([&, &text = text, &given = given](char *buffer, std::size_t room,
-                                                         std::size_t *needed) {
-            return urlpattern_generate(&handle_, index, to_number(of), text.data(), text.size(),
-                                       given.data(), given.size(), buffer, room, needed);
+        auto [text, given] = details::joined(groups);
+        return details::written([&, &text = text, &given = given](char *buffer, std::size_t room,
+                                                                  std::size_t *needed) {
+            return urlpattern_generate(&handle_, index, details::to_number(of), text.data(),
+                                       text.size(), given.data(), given.size(), buffer, room,
+                                       needed);
         });
     }
 
     /* The pattern as one text, a constructor string; with the status `no_match` there is none. */
     result<std::string> text(std::size_t index) {
-        return written([&](char *buffer, std::size_t room, std::size_t *needed) {
+        return details::written([&](char *buffer, std::size_t room, std::size_t *needed) {
             return urlpattern_text(&handle_, index, buffer, room, needed);
         });
     }
 
     /* Whether a pattern is the same as one of another list or of this one. */
     status is_same(std::size_t index, list &others, std::size_t other) {
-        return to_status(urlpattern_is_same(&handle_, index, &others.handle_, other));
+        return details::to_status(urlpattern_is_same(&handle_, index, &others.handle_, other));
     }
 
     status has_regexp_groups(std::size_t index) {
-        return to_status(urlpattern_has_regexp_groups(&handle_, index));
+        return details::to_status(urlpattern_has_regexp_groups(&handle_, index));
     }
 
     status has_meaning(std::size_t index) {
-        return to_status(urlpattern_has_meaning(&handle_, index));
+        return details::to_status(urlpattern_has_meaning(&handle_, index));
     }
 
     /* Whether a pattern covers the asked one of another list or of this one, and the component to
@@ -316,24 +229,41 @@ class list {
         urlpattern_component_number number = URLPATTERN_NO_COMPONENT;
         urlpattern_status status =
             urlpattern_covers(&handle_, index, &others.handle_, asked, &number);
-        return {to_status(status), static_cast<component>(number)};
+        return {details::to_status(status), static_cast<component>(number)};
+    }
+
+    /* Why it is not known whether a pattern covers the asked one, if it is not: a number of
+     * `urlpattern_covering_reason_number`. */
+    result<std::uint32_t> covering_reason(std::size_t index, list &others, std::size_t asked) {
+        std::uint32_t reason = 0;
+        urlpattern_status status =
+            urlpattern_covering_reason(&handle_, index, &others.handle_, asked, &reason);
+        return {status, reason};
     }
 
     /* Texts that the asked pattern matches and the other one does not, as an init in JSON; with the
      * status `no_match` there are none. */
     result<std::string> counterexample(std::size_t index, list &others, std::size_t asked) {
-        return written([&](char *buffer, std::size_t room, std::size_t *needed) {
+        return details::written([&](char *buffer, std::size_t room, std::size_t *needed) {
             return urlpattern_counterexample(&handle_, index, &others.handle_, asked, buffer, room,
                                              needed);
         });
     }
 
-    /* Texts that both patterns match, as an init in JSON; with the status `no_match` there are none.
-     */
+    /* Texts that both patterns match, as an init in JSON; with the status `no_match` there are
+     * none. */
     result<std::string> overlaps(std::size_t index, list &others, std::size_t other) {
-        return written([&](char *buffer, std::size_t room, std::size_t *needed) {
+        return details::written([&](char *buffer, std::size_t room, std::size_t *needed) {
             return urlpattern_overlaps(&handle_, index, &others.handle_, other, buffer, room,
                                        needed);
+        });
+    }
+
+    /* Of each pattern, texts whose first match it is, or the earlier patterns that cover it, as
+     * `urlpattern_reach_of_each` writes them in JSON. */
+    result<std::string> reach_of_each() {
+        return details::written([&](char *buffer, std::size_t room, std::size_t *needed) {
+            return urlpattern_reach_of_each(&handle_, buffer, room, needed);
         });
     }
 
@@ -341,7 +271,7 @@ class list {
     static result<refusal> diagnose(std::string_view pattern, std::string_view base = {},
                                     bool ignore_case = false) {
         urlpattern_place place{};
-        auto found = written([&](char *buffer, std::size_t room, std::size_t *needed) {
+        auto found = details::written([&](char *buffer, std::size_t room, std::size_t *needed) {
             return urlpattern_diagnose(pattern.data(), pattern.size(), base.data(), base.size(),
                                        ignore_case, buffer, room, needed, &place);
         });
@@ -351,7 +281,7 @@ class list {
     /* Why `add_init` refuses an init. */
     static result<refusal> diagnose_init(std::string_view json, bool ignore_case = false) {
         urlpattern_place place{};
-        auto found = written([&](char *buffer, std::size_t room, std::size_t *needed) {
+        auto found = details::written([&](char *buffer, std::size_t room, std::size_t *needed) {
             return urlpattern_diagnose_init(json.data(), json.size(), ignore_case, buffer, room,
                                             needed, &place);
         });
@@ -359,56 +289,6 @@ class list {
     }
 
   private:
-    static status to_status(urlpattern_status number) { return static_cast<status>(number); }
-
-    static urlpattern_component_number to_number(component of) {
-        return static_cast<urlpattern_component_number>(of);
-    }
-
-    /* Names and texts of groups as one text, and where each of them lies. */
-    static std::pair<std::string, std::vector<urlpattern_given>> joined(
-        const std::vector<group> &groups) {
-        std::string text;
-        std::vector<urlpattern_given> given;
-        for (const group &each : groups) {
-            std::size_t start = text.size() + each.name.size();
-            given.push_back({to_number(each.of), text.size(), each.name.size(), start,
-                             each.text.size()});
-            text.append(each.name).append(each.text);
-        }
-        return {std::move(text), std::move(given)};
-    }
-
-    /* Calls what writes a text, with as much room as it needs. */
-    template <class Call> static result<std::string> written(Call call) {
-        std::string text(256, '\0');
-        std::size_t needed = 0;
-        urlpattern_status status = call(text.data(), text.size(), &needed);
-        while (status == URLPATTERN_TOO_SMALL) {
-            text.resize(needed);
-            status = call(text.data(), text.size(), &needed);
-        }
-        bool is_written = status == URLPATTERN_DONE || status == URLPATTERN_REFUSED;
-        text.resize(is_written ? std::min(needed, text.size()) : 0);
-        return {status, std::move(text)};
-    }
-
-    /* Calls what writes a match, with as much room as it needs. */
-    template <class Call> static result<match> matched(std::size_t index, Call call) {
-        match found;
-        found.index = index;
-        urlpattern_sizes sizes = {256, 16};
-        urlpattern_status status = URLPATTERN_TOO_SMALL;
-        while (status == URLPATTERN_TOO_SMALL) {
-            found.text.resize(std::max(sizes.bytes, found.text.size()));
-            found.spans.resize(std::max(sizes.spans, found.spans.size()));
-            status = call(found, &sizes);
-        }
-        found.text.resize(status == URLPATTERN_DONE ? sizes.bytes : 0);
-        found.spans.resize(status == URLPATTERN_DONE ? sizes.spans : 0);
-        return {status, std::move(found)};
-    }
-
     static result<refusal> refused(const result<std::string> &found,
                                    const urlpattern_place &place) {
         refusal why;
@@ -422,5 +302,8 @@ class list {
 };
 
 } // namespace urlpattern
+
+#include "urlpattern_policy.hpp"
+#include "urlpattern_router.hpp"
 
 #endif

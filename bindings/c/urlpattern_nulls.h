@@ -3,10 +3,10 @@
  * Null pointers. The functions of the library are proved for pointers that are not null, and these
  * pass an empty text, buffer or array in place of one that is null. A program in another language,
  * which calls the library's functions themselves, does so too. */
+#include "urlpattern.h"
+
 #ifndef URLPATTERN_NULLS_H
 #define URLPATTERN_NULLS_H
-
-#include "urlpattern.h"
 
 #ifdef __cplusplus
 extern "C" {
@@ -250,6 +250,12 @@ static inline urlpattern_status urlpattern_overlaps(urlpattern_list *patterns, s
         : urlpattern_overlaps_between(patterns, index, others, other, text, room, needed);
 }
 
+static inline urlpattern_status urlpattern_reach_of_each_(urlpattern_list *patterns, char *buffer,
+                                                          size_t room, size_t *needed) {
+    char no_bytes[1];
+    return urlpattern_reach_of_each(patterns, buffer ? buffer : no_bytes, room, needed);
+}
+
 static inline urlpattern_status urlpattern_diagnose_(const char *text, size_t length,
                                                      const char *base, size_t base_length,
                                                      bool ignore_case, char *buffer, size_t room,
@@ -293,6 +299,7 @@ static inline urlpattern_status urlpattern_diagnose_init_(const char *json, size
 #define urlpattern_group_name urlpattern_group_name_
 #define urlpattern_component urlpattern_component_
 #define urlpattern_text urlpattern_text_
+#define urlpattern_reach_of_each urlpattern_reach_of_each_
 #define urlpattern_diagnose urlpattern_diagnose_
 #define urlpattern_diagnose_init urlpattern_diagnose_init_
 

@@ -486,6 +486,17 @@ class Answers(unittest.TestCase):
         self.assertEqual([routes.overlaps(0, at) for at in range(3)], [True, False, True])
         self.assertEqual(routes.counterexample(0, 2), texts)
 
+    def test_what_is_reached(self):
+        every, one = "https://example.com/*", "https://example.com/a"
+        texts, covered = URLPatternList([every, one]).reach_of_each()
+        fixed = {"protocol": "https", "hostname": "example.com", "port": ""}
+        self.assertEqual((covered, {**texts, **fixed}), ([0], texts))
+        self.assertTrue(URLPattern(every).test(texts))
+        first, second = URLPatternList([one, every]).reach_of_each()
+        self.assertEqual((first["pathname"], URLPattern(one).test(second)), ("/a", False))
+        self.assertTrue(URLPattern(every).test(second))
+        self.assertEqual(URLPatternList().reach_of_each(), [])
+
     def test_one_text(self):
         self.assertEqual(str(URLPattern("/users/:id", "https://example.com")), SOURCES[0])
         self.assertEqual([str(route) for route in URLPatternList(SOURCES)], SOURCES)

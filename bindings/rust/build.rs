@@ -1,6 +1,6 @@
-//! Links `liburlpattern.a`, which lies in the folder that URLPATTERN_DIR names, or else in the first
-//! of FOLDERS that has it.
-use std::path::{Path, PathBuf};
+//! Links `liburlpattern.a`, which lies in the folder that URLPATTERN_DIR names, absolutely or from
+//! the folder of this crate, or else in the first of FOLDERS that has it.
+use std::path::PathBuf;
 use std::{env, process};
 
 const NAME: &str = "liburlpattern.a";
@@ -15,14 +15,13 @@ const FOLDERS: [&str; 3] = [
 
 fn main() {
     let crate_folder = PathBuf::from(env::var_os("CARGO_MANIFEST_DIR").unwrap());
-    let has_it = |folder: &PathBuf| folder.join(NAME).exists();
-    let named = env::var_os("URLPATTERN_DIR").map(PathBuf::from);
-    let found = || {
-        let mut folders = FOLDERS.iter().map(|it| crate_folder.join(Path::new(it)));
-        folders.find(has_it)
+    let folders: Vec<PathBuf> = match env::var_os("URLPATTERN_DIR") {
+        Some(named) => vec![crate_folder.join(named)],
+        None => FOLDERS.iter().map(|it| crate_folder.join(it)).collect(),
     };
-    let folder = named.or_else(found).filter(has_it).unwrap_or_else(|| {
-        eprintln!("{NAME} is not found: URLPATTERN_DIR has to name the folder that it is in");
+    let mut found = folders.iter().filter(|it| it.join(NAME).exists());
+    let folder = found.next().unwrap_or_else(|| {
+        eprintln!("{NAME} is not found in {folders:?}: URLPATTERN_DIR has to name its folder");
         process::exit(1);
     });
     println!("cargo:rustc-link-search=native={}", folder.display());

@@ -26,11 +26,17 @@ from typing import Tuple
 from ._library import calls as _calls
 from ._match import Match
 from ._patterns import URLPattern, URLPatternList
+from ._policy import Decision, URLPolicy
+from ._router import MethodNotAllowed, RouteMatch, URLPatternRouter
 from ._texts import Groups, Init, URLPatternError
 
-__all__ = ["Groups", "Init", "Match", "URLPattern", "URLPatternError", "URLPatternList", "version"]
+__all__ = [
+    *("Decision", "Groups", "Init", "Match", "MethodNotAllowed", "RouteMatch", "URLPattern"),
+    *("URLPatternError", "URLPatternList", "URLPatternRouter", "URLPolicy", "version"),
+]
 
-for _each in (Match, URLPattern, URLPatternError, URLPatternList):
+_classes = Match, MethodNotAllowed, RouteMatch, URLPattern, URLPatternList, URLPatternRouter
+for _each in (*_classes, Decision, URLPatternError, URLPolicy):
     _each.__module__ = __name__
 
 

@@ -6,8 +6,8 @@ import json
 from typing import Any, Dict, Iterable, List, Mapping, Optional, Tuple, cast
 
 from ._library import (
-    COMPONENTS, DONE, LOCK, NO_PATTERN, NO_URL, REFUSED, SIZE, SPAN, UNKNOWN,
-    Call, Handle, Memory, calls, checked, matched, written,
+    COMPONENTS, DONE, LOCK, NO_PATTERN, NO_URL, REASONS, REFUSED, SIZE, SPAN, UNKNOWN,
+    Call, Handle, calls, checked, matched, written,
 )
 from ._match import Match
 from ._texts import (
@@ -29,6 +29,13 @@ def covers(function: Call, *patterns: Any) -> Optional[bool]:
     return None if status == UNKNOWN else checked(status)
 
 
+def covering_reason(function: Call, *patterns: Any) -> Optional[str]:
+    """Why it is not known whether the one of two patterns covers the other, or None if it is."""
+    number = ctypes.c_uint32()
+    status = function(*patterns, ctypes.byref(number))
+    return REASONS[number.value] if checked(status) else None
+
+
 def counterexample(function: Call, *patterns: Any) -> Optional[Dict[str, str]]:
     """Texts that the one of two patterns matches and the other does not, or None if there are none
     or it is not known."""
@@ -43,15 +50,55 @@ def overlaps(function: Call, *patterns: Any) -> Optional[bool]:
     return None if status == UNKNOWN else checked(status)
 
 
-class Patterns:
+class Handled:
+    """What a handle keeps, which is this object's alone."""
+
+    __slots__ = ("_handle", "_address", "_names")
+
+    # What writes the name of a group.
+    _group_name: Any = staticmethod(calls.group_name)
+
+    def __init__(self, handle: Any) -> None:
+        self._handle = handle
+        self._address = ctypes.byref(handle)
+        self._names: Dict[int, List[Tuple[str, str]]] = {}
+
+    def _names_of(self, index: int, spans: bytes) -> List[Tuple[str, str]]:
+        """The components and the names of the groups of a match."""
+        groups = ((component, group) for component, _, group, _, _ in SPAN.iter_unpack(spans))
+        names = self._names[index] = [self._name(index, *group) for group in groups]
+        return names
+
+    def _name(self, index: int, component: int, group: int) -> Tuple[str, str]:
+        """The component and the name of a group. Each match of a pattern has the same groups."""
+        arguments = SIZE[index], component, SIZE[group]
+        status, name = written(self._group_name, self._address, *arguments)
+        checked(status)
+        return COMPONENTS[component], name
+
+    def _made(
+        self,
+        function: Call,
+        of: Tuple[Any, ...],
+        groups: Iterable[Tuple[str, str, Optional[str]]],
+    ) -> Tuple[int, str]:
+        """The status of what is made of groups, and the text. ValueError: it is refused."""
+        text, given = group_texts(groups)
+        arguments = text, SIZE[len(text)], ctypes.byref(given), SIZE[len(given)]
+        status, made = written(function, self._address, *of, *arguments)
+        if status == REFUSED:
+            raise ValueError(made)
+        checked(status)
+        return status, made
+
+
+class Patterns(Handled):
     """Patterns of a handle, which is theirs alone."""
 
-    __slots__ = ("_handle", "_address", "_names", "_sources")
+    __slots__ = ("_sources",)
 
     def __init__(self) -> None:
-        self._handle = Handle()
-        self._address = ctypes.byref(self._handle)
-        self._names: Dict[int, List[Tuple[str, str]]] = {}
+        super().__init__(Handle())
         self._sources: List[Source] = []
 
     def _add(self, source: Source) -> None:
@@ -83,11 +130,10 @@ class Patterns:
             call, texts = calls.first_captures_of_init, init_text(url, base, path)
         else:
             call, texts = _first_captures, url_texts(url, base, path)
-        status, memory = matched(call, "for_first", self._address, *texts)
+        status, index, text, spans = matched(call, "for_first", self._address, *texts)
         if status == NO_PATTERN or not checked(status):
             return None
-        index = memory.number.value
-        return Match(index, self._groups(index, memory))
+        return Match(index, (self._names.get(index) or self._names_of(index, spans), text, spans))
 
     def first_captures(
         self, url: Optional[Input] = None, base: Optional[str] = None, *, path: Optional[str] = None
@@ -155,41 +201,29 @@ class Patterns:
         """The groups of the match of the pattern of this index, or None: a list of tuples of the
         component, the name, and what the group captured, which is None where it took no part. They
         are in the order of the pattern, component by component."""
-        if _is_init(url):
-            call, texts = calls.captures_of_init, init_text(url, base, path)
-        else:
+        match = self._match(index, url, base, path)
+        return None if match is None else match.groups
+
+    def _match(
+        self, index: int, url: Optional[Input], base: Optional[str], path: Optional[str]
+    ) -> Optional[Match]:
+        """The match of the pattern of this index, or None."""
+        if isinstance(url, str) or not _is_init(url):
             call, texts = _captures, url_texts(url, base, path)
-        status, memory = matched(call, "for_match", self._address, SIZE[index], *texts)
-        return self._groups(index, memory) if checked(status) else None
-
-    def _groups(self, index: int, memory: Memory) -> Groups:
-        """The groups of the match that memory has, which is then left."""
-        sizes = memory.sizes
-        text, spans = memory.text[: sizes.bytes], memory.spans[: sizes.spans * SPAN.size]
-        memory.leave()
-        names = self._names.get(index)
-        if names is None:
-            groups = ((component, group) for component, _, group, _, _ in SPAN.iter_unpack(spans))
-            names = self._names[index] = [self._name(index, *group) for group in groups]
-        return [
-            (component, name, text[start : start + length].decode() if took_part else None)
-            for (component, name), (_, took_part, _, start, length)
-            in zip(names, SPAN.iter_unpack(spans))
-        ]
-
-    def _name(self, index: int, component: int, group: int) -> Tuple[str, str]:
-        """The component and the name of a group. Each match of a pattern has the same groups."""
-        arguments = SIZE[index], component, SIZE[group]
-        status, name = written(calls.group_name, self._address, *arguments)
-        checked(status)
-        return COMPONENTS[component], name
+        else:
+            call, texts = calls.captures_of_init, init_text(url, base, path)
+        status, _, text, spans = matched(call, "for_match", self._address, SIZE[index], *texts)
+        if status != DONE:
+            checked(status)
+            return None
+        return Match(index, (self._names.get(index) or self._names_of(index, spans), text, spans))
 
     def link(self, index: int, groups: Iterable[Tuple[str, str, Optional[str]]]) -> str:
         """The URL that the pattern of this index matches with these groups, each a tuple of the
         component, the name and the text, as `captures` gives them; one whose text is None takes no
         part. A match of the URL captures the canonical forms of the texts. ValueError: there is no
         such URL, and the message says why."""
-        return self._made(calls.link, (SIZE[index],), groups)
+        return self._made(calls.link, (SIZE[index],), groups)[1]
 
     def generate(
         self, index: int, component: str, groups: Iterable[Tuple[str, str, Optional[str]]]
@@ -197,27 +231,18 @@ class Patterns:
         """The text of a component that the pattern of this index matches with these groups, as
         `link` has a whole URL. Groups of other components are passed over. ValueError: there is no
         such text, and the message says why."""
-        return self._made(calls.generate, (SIZE[index], number_of(component)), groups)
-
-    def _made(
-        self,
-        function: Call,
-        of: Tuple[Any, ...],
-        groups: Iterable[Tuple[str, str, Optional[str]]],
-    ) -> str:
-        """What is made of groups. ValueError: it is refused."""
-        text, given = group_texts(groups)
-        arguments = text, SIZE[len(text)], ctypes.byref(given), SIZE[len(given)]
-        status, made = written(function, self._address, *of, *arguments)
-        if status == REFUSED:
-            raise ValueError(made)
-        checked(status)
-        return made
+        return self._made(calls.generate, (SIZE[index], number_of(component)), groups)[1]
 
     def covers(self, index: int, asked: int) -> Optional[bool]:
         """Whether the pattern of this index matches each URL that the pattern of the asked index
         matches, or None if it is not known."""
         return covers(calls.covers_within, self._address, SIZE[index], SIZE[asked])
+
+    def covering_reason(self, index: int, asked: int) -> Optional[str]:
+        """Why it is not known whether the pattern of this index covers the one of the asked index,
+        as `covering_reason` of URLPattern has it."""
+        both = self._address, SIZE[index], SIZE[asked]
+        return covering_reason(calls.covering_reason_within, *both)
 
     def counterexample(self, index: int, asked: int) -> Optional[Dict[str, str]]:
         """Texts that the pattern of the asked index matches and the one of this index does not, as

@@ -13,7 +13,19 @@ from typing import Any, Callable, Dict, List, Optional, Sequence, Tuple
 COMPONENTS = ("protocol", "username", "password", "hostname", "port", "pathname", "search", "hash")
 
 NO_MATCH, DONE, NO_URL, NO_PATH, TOO_LONG, NOT_UTF8 = range(6)
-REFUSED, OUT_OF_MEMORY, NO_PATTERN, TOO_SMALL, UNKNOWN, SHARED = range(6, 12)
+REFUSED, OUT_OF_MEMORY, NO_PATTERN, TOO_SMALL, UNKNOWN, SHARED, NOT_ALLOWED = range(6, 13)
+
+# Why it is not known whether a pattern covers another one.
+REASONS = {1: "custom expression", 2: "ignored case", 3: "too many steps", 4: "no parts"}
+
+# What policies decide, apart from what their rules or the default do.
+ALLOW = 1
+DECISIONS = {
+    2: "not a URL", 4: "too long", 5: "not UTF-8", 7: "out of memory", 13: "credentials",
+}
+
+# What is written in place of an index where no rule decides.
+NO_RULE = ctypes.c_size_t(-1).value
 
 # The version of the interface whose statuses these are.
 VERSION = 2
@@ -69,13 +81,33 @@ def _function(
     return alone
 
 
-class Handle(ctypes.Structure):
-    """Patterns of the library. They are freed when nothing refers to this object any more."""
-
+class _Handle(ctypes.Structure):
     _fields_ = [("made_by", ctypes.c_uint32), ("at", ctypes.c_void_p)]
+
+
+class Handle(_Handle):
+    """Patterns of the library. They are freed when nothing refers to this object any more."""
 
     def __del__(
         self, free: Call = _function("free", result=None), address: Any = ctypes.byref
+    ) -> None:
+        free(address(self))
+
+
+class RouterHandle(_Handle):
+    """Routes of the library. They are freed when nothing refers to this object any more."""
+
+    def __del__(
+        self, free: Call = _function("router_free", result=None), address: Any = ctypes.byref
+    ) -> None:
+        free(address(self))
+
+
+class PolicyHandle(_Handle):
+    """A policy of the library. It is freed when nothing refers to this object any more."""
+
+    def __del__(
+        self, free: Call = _function("policy_free", result=None), address: Any = ctypes.byref
     ) -> None:
         free(address(self))
 
@@ -115,13 +147,24 @@ def _declared() -> Any:
     matching = ("test", "mismatch", "exec", "captures", "first_captures")
     of_init = ("exec_of_init", "captures_of_init", "first_captures_of_init")
     writing = ("link", "generate", "group_name", "component", "text")
-    telling = ("has_regexp_groups", "has_meaning")
-    pairs = ("covers", "counterexample", "overlaps", "is_same")
+    telling = ("has_regexp_groups", "has_meaning", "reach_of_each")
+    routing = ("at", "at_url", "allowed", "allowed_at_url", "link", "group_name")
+    router = [f"router_{name}" for name in routing]
+    named = [ctypes.POINTER(RouterHandle), *init, *init]
+    policy = ctypes.POINTER(PolicyHandle)
+    pairs = ("covers", "covering_reason", "counterexample", "overlaps", "is_same")
     comparing = [f"{name}_{which}" for name in pairs for which in ("within", "between")]
     return SimpleNamespace(
         **{name: _function(name) for name in (*matching, *of_init, *writing, *telling, *comparing)},
+        **{name: _function(name) for name in router},
         add=_function("add", [handle, *string, ignores]),
         add_init=_function("add_init", [handle, *init, ignores]),
+        policy_add=_function("policy_add", [policy, ignores, *string, ignores]),
+        policy_add_init=_function("policy_add_init", [policy, ignores, *init, ignores]),
+        policy_set_options=_function("policy_set_options", [policy, ignores, ignores, ignores]),
+        policy_decide=_function("policy_decide"),
+        router_insert=_function("router_insert", [*named, *string, ignores]),
+        router_insert_init=_function("router_insert_init", [*named, *init, ignores]),
         diagnose=_function("diagnose", [*string, ignores, *reason]),
         diagnose_init=_function("diagnose_init", [*init, ignores, *reason]),
         version=_function("version", []),
@@ -190,13 +233,15 @@ def memory() -> Memory:
 
 def checked(status: int) -> bool:
     """Whether there is a match."""
+    if status == DONE:
+        return True
     if status == OUT_OF_MEMORY:
         raise MemoryError("out of memory")
     if status == NO_PATTERN:
         raise IndexError("no such pattern")
     if status == TOO_LONG:
         raise ValueError("a URL or a base URL has 16 MB or more")
-    return status == DONE
+    return False
 
 
 def written(function: Call, *arguments: Any) -> Tuple[int, str]:
@@ -213,14 +258,26 @@ def written(function: Call, *arguments: Any) -> Tuple[int, str]:
     return status, text
 
 
-def matched(function: Call, kind: str, *arguments: Any) -> Tuple[int, Memory]:
-    """Calls what writes a match, with as much room of this kind as it needs. Returns the status and
-    the memory, which is left if there is no match."""
+def matched(function: Call, kind: str, *arguments: Any) -> Tuple[int, int, bytes, bytes]:
+    """Calls what writes a match, with as much room of this kind as it needs. Returns the status, the
+    index, the text and the spans, if they are written."""
     room = memory()
     status = function(*arguments, *getattr(room, kind))
     while status == TOO_SMALL:
         room = Memory(max(room.sizes.bytes, ROOM), max(room.sizes.spans, SPANS))
         status = function(*arguments, *getattr(room, kind))
-    if status != DONE:
-        room.leave()
-    return status, room
+    index, text, spans = 0, b"", b""
+    if status == DONE:
+        index, sizes = room.number.value, room.sizes
+        text, spans = room.text[: sizes.bytes], room.spans[: sizes.spans * SPAN.size]
+    room.leave()
+    return status, index, text, spans
+
+
+def decided(*arguments: Any) -> Tuple[int, int]:
+    """What a policy decides, and the index of the rule that decides."""
+    room = memory()
+    number = calls.policy_decide(*arguments, room.for_number)
+    index = room.number.value
+    room.leave()
+    return number, index

@@ -1,10 +1,31 @@
 """The match of a pattern."""
 from __future__ import annotations
 
-from dataclasses import dataclass
-from typing import Any, Dict, Union, cast
+import struct
+from typing import Any, Dict, List, Tuple, Union, cast
 
 from ._texts import Groups
+
+# What the library writes of a match: the component and the name of each group, the text, and the spans.
+Written = Tuple[List[Tuple[str, str]], bytes, bytes]
+
+# Of a span, as the header declares it, whether the group took part, and where its text begins and
+# how long it is.
+_SPAN = struct.Struct("@4xI8xNN")
+
+
+def groups_of(names: List[Tuple[str, str]], text: bytes, spans: bytes) -> Groups:
+    """The groups of a match."""
+    read, each = text.decode(), zip(names, _SPAN.iter_unpack(spans))
+    if len(read) == len(text):
+        return [
+            (component, name, read[start : start + length] if took_part else None)
+            for (component, name), (took_part, start, length) in each
+        ]
+    return [
+        (component, name, text[start : start + length].decode() if took_part else None)
+        for (component, name), (took_part, start, length) in each
+    ]
 
 
 def _groups_of(component: str) -> Dict[str, Union[str, Any]]:
@@ -14,7 +35,6 @@ def _groups_of(component: str) -> Dict[str, Union[str, Any]]:
     return cast(Dict[str, Union[str, Any]], made)
 
 
-@dataclass
 class Match:
     """A match: the `index` of the pattern in its list, and the `groups` as `captures` gives them.
     It is true, also where its index is 0.
@@ -31,8 +51,41 @@ class Match:
     ({'id': '7', '0': 'x'}, 0)
     """
 
-    index: int
-    groups: Groups
+    __slots__ = ("index", "_found", "__weakref__")
+
+    def __init__(self, index: int, groups: Union[Groups, Written]) -> None:
+        self.index = index
+        self._found = groups
+
+    @property
+    def groups(self) -> Groups:
+        """The groups, as `captures` of URLPattern has them. They are read when they are first
+        asked for.
+
+        >>> URLPattern("https://example.com/:id").match("https://example.com/7").groups[2]
+        ('pathname', 'id', '7')
+        """
+        found = self._found
+        if isinstance(found, tuple):
+            found = self._found = groups_of(*found)
+        return found
+
+    def _content(self) -> Tuple[Any, ...]:
+        """What equal matches have the same, and what a copy is made of."""
+        return self.index, self.groups
+
+    def __reduce__(self) -> Tuple[Any, ...]:
+        return type(self), self._content()
+
+    def __eq__(self, other: object) -> bool:
+        if not isinstance(other, Match) or other.__class__ is not self.__class__:
+            return NotImplemented
+        return self._content() == other._content()
+
+    __hash__ = None  # type: ignore[assignment]
+
+    def __repr__(self) -> str:
+        return f"{type(self).__name__}(index={self.index}, groups={self.groups})"
 
     protocol = _groups_of("protocol")
     username = _groups_of("username")

@@ -1,19 +1,22 @@
 """Patterns, and lists of them."""
 from __future__ import annotations
 
+import json
 from typing import (
     Any, Dict, Iterable, List, Mapping, Optional, Sequence, Tuple, Union, cast, overload,
 )
 
-from ._handled import Patterns, counterexample, covers, overlaps
-from ._library import COMPONENTS, DONE, NO_TEXT, NONE, SIZE, TOO_LONG, calls, checked
+from ._handled import Patterns, counterexample, covering_reason, covers, overlaps
+from ._library import (
+    COMPONENTS, DONE, NO_PATTERN, NO_TEXT, NONE, SIZE, TOO_LONG, calls, checked, written,
+)
 from ._match import Match
 from ._texts import Groups, Init, Input, Source, source_of
 
 _test = calls.test
 
 
-def _source(
+def source_of_pattern(
     pattern: Union[str, Init, URLPattern], base: Optional[str], ignore_case: bool
 ) -> Source:
     """What a pattern is compiled from."""
@@ -70,7 +73,23 @@ class URLPatternList(Patterns, Sequence["URLPattern"]):
         >>> [route.pathname for route in routes]
         ['/users/:id', '/posts/:id', '/*']
         """
-        self._add(_source(pattern, base, ignore_case))
+        self._add(source_of_pattern(pattern, base, ignore_case))
+
+    def reach_of_each(self) -> List[Union[Dict[str, str], List[int], None]]:
+        """What is known of each pattern, in order: a dict of texts whose first match it is; or the
+        indices of earlier patterns that cover it together, so that it is never the first match; or
+        None if neither is known.
+
+        >>> routes = URLPatternList(["https://example.com/*", "https://example.com/a"])
+        >>> texts, covered_by = routes.reach_of_each()
+        >>> routes.first(texts).index, covered_by
+        (0, [0])
+        """
+        status, text = written(calls.reach_of_each, self._address)
+        if status == NO_PATTERN:
+            return []
+        checked(status)
+        return cast(List[Union[Dict[str, str], List[int], None]], json.loads(text))
 
     def __len__(self) -> int:
         return len(self._sources)
@@ -127,7 +146,7 @@ class URLPattern:
         ignore_case: bool = False,
     ) -> None:
         patterns = Patterns()
-        patterns._add(_source(pattern, base, ignore_case))
+        patterns._add(source_of_pattern(pattern, base, ignore_case))
         self._set(patterns, 0)
 
     def _set(self, patterns: Patterns, index: int) -> None:
@@ -224,8 +243,7 @@ class URLPattern:
         >>> match["id"], match.groupdict(), match.pathname
         ('7', {'id': '7'}, {'id': '7'})
         """
-        groups = self._list.captures(self._index, url, base, path=path)
-        return None if groups is None else Match(self._index, groups)
+        return self._list._match(self._index, url, base, path)
 
     def mismatch(
         self, url: Optional[str] = None, base: Optional[str] = None, *, path: Optional[str] = None
@@ -303,6 +321,20 @@ class URLPattern:
             return self._list.covers(self._index, asked._index)
         both = self._address, self._at, asked._address, asked._at
         return covers(calls.covers_between, *both)
+
+    def covering_reason(self, asked: URLPattern) -> Optional[str]:
+        """Why `covers` returns None: "custom expression", "ignored case" or "too many steps". None:
+        it returns something else.
+
+        >>> numbers = URLPattern({"pathname": r"/:id(\\d+)"})
+        >>> numbers.covers(URLPattern({"pathname": "/7"}))
+        >>> numbers.covering_reason(URLPattern({"pathname": "/7"}))
+        'custom expression'
+        """
+        if self._is_of_list(asked):
+            return self._list.covering_reason(self._index, asked._index)
+        both = self._address, self._at, asked._address, asked._at
+        return covering_reason(calls.covering_reason_between, *both)
 
     def counterexample(self, asked: URLPattern) -> Optional[Dict[str, str]]:
         """Texts of components that the asked pattern matches and this one does not, without those

@@ -128,7 +128,8 @@ def url_texts(url: Any, base: Optional[str], path: Optional[str]) -> Tuple[Any, 
     """A URL and its base, each with the number of its bytes, as arguments."""
     if path is not None:
         url = _within(url, base, path)
-    text = encoded(url, "a URL")
+    # (most are a str, and a call takes longer than this)
+    text = url.encode() if type(url) is str else encoded(url, "a URL")
     if base is None:
         return text, SIZE[len(text)], NO_TEXT, NONE
     base_text = encoded(base, "a base URL")

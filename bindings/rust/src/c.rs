@@ -11,9 +11,27 @@ pub const NO_PATTERN: u32 = 8;
 pub const TOO_SMALL: u32 = 9;
 pub const UNKNOWN: u32 = 10;
 pub const SHARED: u32 = 11;
+pub const NOT_ALLOWED: u32 = 12;
+
+/// What a policy decides, apart from `NO_URL`, `TOO_LONG` and that memory ran out.
+pub const DENY: u32 = 0;
+pub const ALLOW: u32 = 1;
+pub const DENY_CREDENTIALS: u32 = 13;
 
 #[repr(C)]
 pub struct List {
+    pub made_by: u32,
+    pub at: *mut c_void,
+}
+
+#[repr(C)]
+pub struct Router {
+    pub made_by: u32,
+    pub at: *mut c_void,
+}
+
+#[repr(C)]
+pub struct Policy {
     pub made_by: u32,
     pub at: *mut c_void,
 }
@@ -94,10 +112,29 @@ extern "C" {
     pub fn urlpattern_has_meaning(list: *mut List, index: usize) -> u32;
     pub fn urlpattern_covers_within(list: *mut List, index: usize, asked: usize, component: *mut u32) -> u32;
     pub fn urlpattern_covers_between(list: *mut List, index: usize, others: *mut List, asked: usize, component: *mut u32) -> u32;
+    pub fn urlpattern_covering_reason_within(list: *mut List, index: usize, asked: usize, reason: *mut u32) -> u32;
+    pub fn urlpattern_covering_reason_between(list: *mut List, index: usize, others: *mut List, asked: usize, reason: *mut u32) -> u32;
     pub fn urlpattern_counterexample_within(list: *mut List, index: usize, asked: usize, buffer: *mut u8, room: usize, needed: *mut usize) -> u32;
     pub fn urlpattern_counterexample_between(list: *mut List, index: usize, others: *mut List, asked: usize, buffer: *mut u8, room: usize, needed: *mut usize) -> u32;
     pub fn urlpattern_overlaps_within(list: *mut List, index: usize, other: usize, buffer: *mut u8, room: usize, needed: *mut usize) -> u32;
     pub fn urlpattern_overlaps_between(list: *mut List, index: usize, others: *mut List, other: usize, buffer: *mut u8, room: usize, needed: *mut usize) -> u32;
+    pub fn urlpattern_reach_of_each(list: *mut List, buffer: *mut u8, room: usize, needed: *mut usize) -> u32;
     pub fn urlpattern_diagnose(text: *const u8, length: usize, base: *const u8, base_length: usize, ignore_case: bool, buffer: *mut u8, room: usize, needed: *mut usize, place: *mut Place) -> u32;
     pub fn urlpattern_diagnose_init(json: *const u8, length: usize, ignore_case: bool, buffer: *mut u8, room: usize, needed: *mut usize, place: *mut Place) -> u32;
+    pub fn urlpattern_router_insert(router: *mut Router, name: *const u8, name_length: usize, method: *const u8, method_length: usize, text: *const u8, length: usize, base: *const u8, base_length: usize, ignore_case: bool) -> u32;
+    pub fn urlpattern_router_insert_init(router: *mut Router, name: *const u8, name_length: usize, method: *const u8, method_length: usize, json: *const u8, length: usize, ignore_case: bool) -> u32;
+    pub fn urlpattern_router_free(router: *mut Router);
+    pub fn urlpattern_router_share(router: *mut Router, other: *mut Router) -> u32;
+    pub fn urlpattern_router_at(router: *mut Router, method: *const u8, method_length: usize, path: *const u8, length: usize, index: *mut usize, buffer: *mut u8, room: usize, spans: *mut Span, span_room: usize, needed: *mut Sizes) -> u32;
+    pub fn urlpattern_router_at_url(router: *mut Router, method: *const u8, method_length: usize, url: *const u8, length: usize, base: *const u8, base_length: usize, index: *mut usize, buffer: *mut u8, room: usize, spans: *mut Span, span_room: usize, needed: *mut Sizes) -> u32;
+    pub fn urlpattern_router_allowed(router: *mut Router, method: *const u8, method_length: usize, path: *const u8, length: usize, buffer: *mut u8, room: usize, needed: *mut usize) -> u32;
+    pub fn urlpattern_router_allowed_at_url(router: *mut Router, method: *const u8, method_length: usize, url: *const u8, length: usize, base: *const u8, base_length: usize, buffer: *mut u8, room: usize, needed: *mut usize) -> u32;
+    pub fn urlpattern_router_link(router: *mut Router, name: *const u8, name_length: usize, text: *const u8, length: usize, given: *const Given, count: usize, buffer: *mut u8, room: usize, needed: *mut usize) -> u32;
+    pub fn urlpattern_router_group_name(router: *mut Router, index: usize, component: u32, group: usize, buffer: *mut u8, room: usize, needed: *mut usize) -> u32;
+    pub fn urlpattern_policy_add(policy: *mut Policy, allows: bool, text: *const u8, length: usize, base: *const u8, base_length: usize, ignore_case: bool) -> u32;
+    pub fn urlpattern_policy_add_init(policy: *mut Policy, allows: bool, json: *const u8, length: usize, ignore_case: bool) -> u32;
+    pub fn urlpattern_policy_set_options(policy: *mut Policy, default_allows: bool, plain_spelling: bool, denies_credentials: bool) -> u32;
+    pub fn urlpattern_policy_free(policy: *mut Policy);
+    pub fn urlpattern_policy_share(policy: *mut Policy, other: *mut Policy) -> u32;
+    pub fn urlpattern_policy_decide(policy: *mut Policy, url: *const u8, length: usize, base: *const u8, base_length: usize, rule: *mut usize) -> u32;
 }

@@ -1,16 +1,28 @@
 //! Calls of the library that write a text or a match, with as much room as it needs.
 use crate::error::answer;
-use crate::{c, Captures, ComponentName, Covering, Error, Subject, UrlPatternList};
+use crate::{c, Captures, ComponentName, Covering, Error, Subject};
 use std::cell::UnsafeCell;
 
 /// How many bytes a text is first given room for, and how many spans a match.
 const ROOM: usize = 256;
 const SPANS: usize = 16;
 
-impl UrlPatternList {
+/// What has patterns, whose matches have groups with names.
+pub(crate) trait Matching {
+    /// Calls what writes the name of a group.
+    fn group_name(
+        &self,
+        index: usize,
+        component: u32,
+        group: usize,
+        buffer: *mut u8,
+        room: usize,
+        needed: *mut usize,
+    ) -> u32;
+
     /// Calls what writes a match, with as much room as it needs. `index` is that of the pattern,
-    /// unless the call finds it.
-    pub(crate) fn matched(
+    /// unless the call finds it. `None`: there is no match, or none for the method of a request.
+    fn matched(
         &self,
         call: impl Fn(&mut usize, &mut [u8], &mut [c::Span], &mut c::Sizes) -> u32,
         mut index: usize,
@@ -47,9 +59,8 @@ impl UrlPatternList {
         index: usize,
         span: &c::Span,
     ) -> Result<(ComponentName, String, Option<(usize, usize)>), Error> {
-        let (status, name) = written(|buffer, room, needed| unsafe {
-            let (component, group) = (span.component, span.group);
-            c::urlpattern_group_name(self.at(), index, component, group, buffer, room, needed)
+        let (status, name) = written(|buffer, room, needed| {
+            self.group_name(index, span.component, span.group, buffer, room, needed)
         });
         answer(status)?;
         let component = ComponentName::of(span.component).expect("the number of a component");
@@ -105,7 +116,8 @@ pub(crate) fn written(call: impl Fn(*mut u8, usize, *mut usize) -> u32) -> (u32,
     (status, String::from_utf8(buffer).expect("texts are UTF-8"))
 }
 
-/// The outcome of appending a pattern, given a call that says why one is refused.
+/// The outcome of appending a pattern, given a call that says why one is refused. A pattern that is
+/// not refused by itself has a name that another one has.
 pub(crate) fn pushed(
     status: u32,
     diagnose: impl Fn(*mut u8, usize, *mut usize, *mut c::Place) -> u32,
@@ -139,6 +151,7 @@ pub(crate) fn pushed(
             start,
             end,
         }),
+        c::NO_MATCH => Err(Error::NameTaken),
         c::NO_URL => Err(Error::RefusedBase),
         _ => Err(Error::OutOfMemory),
     }

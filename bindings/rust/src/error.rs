@@ -43,8 +43,15 @@ pub enum Error {
     NoPattern,
     /// Memory ran out.
     OutOfMemory,
-    /// Another list has the same patterns, so that none is added.
+    /// Another list or router has the same patterns, so that none is added.
     Shared,
+    /// Another route has the name.
+    NameTaken,
+    /// A method is no token of HTTP, such as `GET`, or there is a name without a method.
+    NotAMethod,
+    /// A route matches, but none serves the method of the request. A router returns
+    /// `Routed::MethodNotAllowed` instead, so that no call fails with this error.
+    NotAllowed,
 }
 
 impl fmt::Display for Error {
@@ -57,7 +64,10 @@ impl fmt::Display for Error {
             Error::TooLong => "a URL or a base URL has 16 MB or more",
             Error::NoPattern => "no such pattern",
             Error::OutOfMemory => "out of memory",
-            Error::Shared => "another list has the same patterns",
+            Error::Shared => "another list or router has the same patterns",
+            Error::NameTaken => "another route has the name",
+            Error::NotAMethod => "the method is not a token, such as `GET`",
+            Error::NotAllowed => "no route serves the method",
         })
     }
 }
@@ -74,6 +84,7 @@ pub(crate) fn answer(status: u32) -> Result<bool, Error> {
         c::TOO_LONG => Err(Error::TooLong),
         c::NO_PATTERN => Err(Error::NoPattern),
         c::SHARED => Err(Error::Shared),
+        c::NOT_ALLOWED => Err(Error::NotAllowed),
         c::REFUSED => Err(Error::RefusedBase),
         _ => Err(Error::OutOfMemory),
     }

@@ -12,7 +12,7 @@
 //!
 //! Threads. A list is `Send`, as is proved of its handle, and not `Sync`: one call at a time has a
 //! handle. `try_clone` makes another list of the same patterns, in the memory that they have, so
-//! that each thread has one of its own:
+//! that each thread has one of its own. So it is of a router and of a policy.
 //!
 //! ```
 //! fn is_sent<T: Send>() {}
@@ -33,13 +33,18 @@ mod list;
 mod list_inits;
 mod list_pairs;
 mod pattern;
+mod policy;
 mod result;
+mod router;
 
 pub use error::{Error, Subject};
 pub use init::{ComponentName, UrlPatternInit, UrlPatternOptions};
 pub use list::{Covering, UrlPatternList};
+pub use list_pairs::CoveringReason;
 pub use pattern::UrlPattern;
+pub use policy::{Decision, DenyReason, PolicyOptions, UrlPolicy};
 pub use result::{Captures, UrlPatternComponentResult, UrlPatternResult};
+pub use router::{PatternSource, Routed, UrlPatternRouter};
 
 /// The version of the library: 1,000 times its first number, and its second.
 pub fn version() -> u32 {

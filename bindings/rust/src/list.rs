@@ -1,5 +1,5 @@
 //! Lists of patterns.
-use crate::calls::{covering, given, joined, pushed, written};
+use crate::calls::{covering, given, joined, pushed, written, Matching};
 use crate::error::answer;
 use crate::{
     c, Captures, ComponentName, Error, UrlPatternInit, UrlPatternOptions, UrlPatternResult,
@@ -38,6 +38,21 @@ impl Default for UrlPatternList {
 impl Drop for UrlPatternList {
     fn drop(&mut self) {
         unsafe { c::urlpattern_free(self.at()) }
+    }
+}
+
+impl Matching for UrlPatternList {
+    fn group_name(
+        &self,
+        index: usize,
+        component: u32,
+        group: usize,
+        buffer: *mut u8,
+        room: usize,
+        needed: *mut usize,
+    ) -> u32 {
+        let at = self.at();
+        unsafe { c::urlpattern_group_name(at, index, component, group, buffer, room, needed) }
     }
 }
 

@@ -1,5 +1,5 @@
 //! Inits that are matched, patterns as one text, and texts of components.
-use crate::calls::{given, written};
+use crate::calls::{given, written, Matching};
 use crate::error::answer;
 use crate::{c, Captures, ComponentName, Error, UrlPatternInit, UrlPatternList, UrlPatternResult};
 

@@ -1,8 +1,19 @@
-//! Two patterns, of one list or of two.
+//! Patterns that are compared: two, of one list or of two, or all of a list.
 use crate::calls::written;
 use crate::error::answer;
 use crate::{c, Error, UrlPatternInit, UrlPatternList};
 use std::ptr;
+
+/// Why it is not known whether a pattern covers another one.
+#[derive(Clone, Copy, Debug, PartialEq, Eq)]
+pub enum CoveringReason {
+    /// A component has a custom regular expression.
+    CustomExpression,
+    /// A component ignores case.
+    IgnoredCase,
+    /// It would take too many steps to compare them.
+    TooMany,
+}
 
 impl UrlPatternList {
     /// Whether a pattern is the same as one of this list or of another: whether both have the same
@@ -15,6 +26,30 @@ impl UrlPatternList {
                 c::urlpattern_is_same_between(self.at(), index, others.at(), other)
             }
         })
+    }
+
+    /// Why it is not known whether a pattern covers the asked one, of this list or of another.
+    /// `None`: it is known.
+    pub fn covering_reason(
+        &self,
+        index: usize,
+        others: &Self,
+        asked: usize,
+    ) -> Result<Option<CoveringReason>, Error> {
+        let mut number = 0;
+        let is_unknown = answer(unsafe {
+            if ptr::eq(self, others) {
+                c::urlpattern_covering_reason_within(self.at(), index, asked, &mut number)
+            } else {
+                let others = others.at();
+                c::urlpattern_covering_reason_between(self.at(), index, others, asked, &mut number)
+            }
+        })?;
+        Ok(is_unknown.then_some(match number {
+            1 => CoveringReason::CustomExpression,
+            2 => CoveringReason::IgnoredCase,
+            _ => CoveringReason::TooMany,
+        }))
     }
 
     /// Texts that the asked pattern, of this list or of another, matches and a pattern does not: an
@@ -77,5 +112,18 @@ impl UrlPatternList {
             return Ok(None);
         }
         answer(status).map(Some)
+    }
+
+    /// Whether each pattern is the first match of some texts: an array in JSON, with an init that
+    /// has such texts, or an array of the indices of earlier patterns that cover the pattern
+    /// together, or `null` if neither is known.
+    pub fn reach_of_each(&self) -> Result<String, Error> {
+        let (status, json) = written(|buffer, room, needed| unsafe {
+            c::urlpattern_reach_of_each(self.at(), buffer, room, needed)
+        });
+        if status == c::NO_PATTERN {
+            return Ok("[]".to_owned());
+        }
+        answer(status).map(|_| json)
     }
 }

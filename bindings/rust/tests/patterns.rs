@@ -247,6 +247,20 @@ fn links_and_coverings() {
 }
 
 #[test]
+fn a_list_knows_what_is_reached() {
+    assert_eq!(UrlPatternList::new().reach_of_each().as_deref(), Ok("[]"));
+    let mut list = UrlPatternList::new();
+    for text in ["https://example.com/*", "https://example.com/a"] {
+        list.push(text, None, PLAIN).unwrap();
+    }
+    let reach = list.reach_of_each().unwrap();
+    assert!(reach.starts_with("[{") && reach.ends_with("},[0]]"));
+    for text in ["\"protocol\":\"https\"", "\"hostname\":\"example.com\""] {
+        assert_eq!(reach.matches(text).count(), 1);
+    }
+}
+
+#[test]
 fn a_list_finds_the_first() {
     let list = routes();
     let found = list

@@ -98,7 +98,7 @@ fn automata(alloc: Global, given: &[Value]) -> Result<Vec<PatternAutomata>, Faul
 }
 
 /// The pattern of a text or an init, which is valid.
-fn pattern(alloc: Global, fields: &Value) -> Result<UrlPattern<PatternRegexp>, Fault> {
+pub fn pattern(alloc: Global, fields: &Value) -> Result<UrlPattern<PatternRegexp>, Fault> {
     match built::<PatternRegexp>(alloc, fields)? {
         Ok(pattern) => Ok(pattern),
         Err(Error::OutOfMemory) => Err(Fault::OutOfMemory),

@@ -10,6 +10,7 @@ mod components;
 mod constructors;
 mod contending;
 mod diagnoses;
+mod differences;
 mod engines;
 mod generated;
 mod given;

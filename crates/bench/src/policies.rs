@@ -17,22 +17,32 @@ pub fn is_same(case: &Case<'_>) -> Result<bool, Fault> {
     let Answer::Ok(recorded) = case.answer else {
         return Ok(false);
     };
-    let policy = policy(case.alloc, case.question)?;
+    let policy = policy_of(case.alloc, case.question)?;
     let base = base(case.alloc, case.question)?;
+    are_decided(case.alloc, &policy, base.as_ref(), recorded)
+}
+
+/// Whether a policy decides about texts as recorded, and alike about their URLs.
+pub fn are_decided(
+    alloc: Global,
+    policy: &UrlPolicy<PatternRegexp>,
+    base: Option<&Url>,
+    recorded: &Value,
+) -> Result<bool, Fault> {
     for pair in list(recorded, "decisions")? {
-        let decision = policy.decide(case.alloc, text(pair, "of")?, base.as_ref());
-        if !is_recorded(case.alloc, decision, text(pair, "is")?)? {
+        let decision = policy.decide(alloc, text(pair, "of")?, base);
+        if !is_recorded(alloc, decision, text(pair, "is")?)? {
             return Ok(false);
         }
-        if !agrees(case.alloc, &policy, base.as_ref(), text(pair, "of")?, decision)? {
+        if !agrees(alloc, policy, base, text(pair, "of")?, decision)? {
             return Ok(false);
         }
     }
     Ok(true)
 }
 
-/// The policy of a question.
-fn policy(alloc: Global, question: &Value) -> Result<UrlPolicy<PatternRegexp>, Fault> {
+/// The policy that an object describes.
+pub fn policy_of(alloc: Global, question: &Value) -> Result<UrlPolicy<PatternRegexp>, Fault> {
     let mut policy = UrlPolicy::new(alloc);
     policy.options.plain_spelling = !is_set(question, "as_spelled");
     policy.options.denies_credentials = is_set(question, "denies_credentials");

@@ -102,6 +102,12 @@ pub enum Operation {
     Together,
     /// Decides about texts by a policy.
     Decide,
+    /// Compares two policies.
+    Difference,
+    /// Finds what a policy allows and a pattern does not match.
+    Within,
+    /// Finds the rules of a policy that never decide.
+    Dead,
     /// Decides which components of a pattern have a meaning.
     Meaning,
     /// Writes a plain value as JSON that was parsed from JSON.
@@ -138,6 +144,9 @@ pub const OPERATIONS: &[(&str, Operation)] = &[
     ("common", Operation::Common),
     ("together", Operation::Together),
     ("decide", Operation::Decide),
+    ("difference", Operation::Difference),
+    ("within", Operation::Within),
+    ("dead", Operation::Dead),
     ("meaning", Operation::Meaning),
     ("json", Operation::Json),
     ("equal", Operation::Equal),

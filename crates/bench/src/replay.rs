@@ -2,7 +2,7 @@
 
 mod first_match;
 
-use crate::{constructors, contending, diagnoses, inputs, plain, policies, trees};
+use crate::{constructors, contending, diagnoses, differences, inputs, plain, policies, trees};
 use crate::{generated, links, patterns, rules};
 use crate::recorded::{
     Answer, Fault, OPERATIONS, Operation, field, is_set, named, optional_text, text,
@@ -117,6 +117,9 @@ fn is_same_over<R: RegExp>(operation: Operation, case: &Case<'_>) -> Result<bool
         Operation::Common => common::is_same_common(case),
         Operation::Together => common::is_same_together(case),
         Operation::Decide => policies::is_same(case),
+        Operation::Difference => differences::is_same(case),
+        Operation::Within => differences::is_same_within(case),
+        Operation::Dead => differences::are_same_dead(case),
         Operation::Meaning => rules::is_same_meaning(case),
         Operation::Json => trees::is_same(case),
         Operation::Equal => trees::is_same_equality(case),

@@ -2,9 +2,11 @@
 //! routes (`routes FILE`), and draws the times in standard input (`chart`). Asks random questions
 //! on which calls have to agree (`questions SEED COUNT`, `lists SEED COUNT` for those on lists,
 //! `routers SEED COUNT` for those on routers, `pairs SEED COUNT` for those on pairs of patterns,
-//! and `texts SEED COUNT` for those on patterns as texts), or links captures (`links SEED COUNT`).
+//! `texts SEED COUNT` for those on patterns as texts, and `policies SEED COUNT` for those on
+//! policies), or links captures (`links SEED COUNT`).
 //! `rules FILE` times comparisons of all routes with each other. `repeat FILE NAME CALL COUNT`
-//! repeats a call, for a tool that counts instructions.
+//! repeats a call, for a tool that counts instructions, and `decisions FILE RULES CALL COUNT` a
+//! decision of a policy, or what it is compared with.
 #![tactic(auto)]
 
 mod calls;
@@ -40,6 +42,9 @@ const PAIRS: &str = "pairs";
 /// The command that asks questions on patterns as texts alone.
 const TEXTS: &str = "texts";
 
+/// The command that asks questions on policies alone.
+const POLICIES: &str = "policies";
+
 /// The command that prints times of comparisons of routes.
 const RULES: &str = "rules";
 
@@ -51,6 +56,9 @@ const LINK_TIMES: &str = "link-times";
 
 /// The command that repeats a call without timing it.
 const REPEAT: &str = "repeat";
+
+/// The command that repeats decisions without timing them.
+const DECISIONS: &str = "decisions";
 
 /// The exit status of a run in which nothing differs.
 const SAME: u8 = 0;
@@ -87,6 +95,9 @@ fn run(rt: &HostRuntime) -> io::Result<bool> {
         [command, path, name, call, count] if command.as_str() == REPEAT => {
             timing::repeat(rt, path, name, call, number(count)?)
         }
+        [command, path, rules, call, count] if command.as_str() == DECISIONS => {
+            timing::repeat_decisions(rt, path, number(rules)?, call, number(count)?)
+        }
         [command, path] if command.as_str() == ROUTES => {
             timing::run_routes(rt, path, &mut rt.stdout())?;
             Ok(true)
@@ -114,6 +125,10 @@ fn run(rt: &HostRuntime) -> io::Result<bool> {
         [command, seed, count] if command.as_str() == TEXTS => {
             let (seed, count) = (number(seed)?, number(count)?);
             questions::run_alone(rt.alloc(), Alone::Texts, seed, count, &mut rt.stdout())
+        }
+        [command, seed, count] if command.as_str() == POLICIES => {
+            let (seed, count) = (number(seed)?, number(count)?);
+            questions::run_alone(rt.alloc(), Alone::Policies, seed, count, &mut rt.stdout())
         }
         [command, path] if command.as_str() == RULES => {
             timing::run_rules(rt, path, &mut rt.stdout())?;

@@ -12,6 +12,7 @@ mod lists;
 mod making;
 mod matchers;
 mod patterns;
+mod policies;
 mod printing;
 mod routers;
 mod rules;
@@ -201,6 +202,8 @@ pub enum Alone {
     Rules,
     /// Patterns that are written as texts.
     Texts,
+    /// Policies.
+    Policies,
 }
 
 impl Alone {
@@ -211,6 +214,7 @@ impl Alone {
             Alone::Routers => "routers",
             Alone::Rules => "pairs of patterns",
             Alone::Texts => "patterns as texts",
+            Alone::Policies => "policies",
         }
     }
 
@@ -221,6 +225,7 @@ impl Alone {
             Alone::Routers => routers::ask(maker),
             Alone::Rules => rules::ask(maker),
             Alone::Texts => texts::ask(maker),
+            Alone::Policies => policies::ask(maker),
         }
     }
 }

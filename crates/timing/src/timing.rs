@@ -2,6 +2,7 @@
 //! each call. Also times the first match of lists of routes, and matchers that leave an engine many
 //! choices.
 
+mod decisions;
 mod hostile;
 mod links;
 mod lists;
@@ -312,6 +313,19 @@ pub fn run_routes<R: Files + AllocGlobal + Clock, O: Write>(
     let text = fs::read_to_string(rt, path)?;
     routes::run(rt, &text, out)?;
     paths::run(rt, &text, out)
+}
+
+/// Repeats a call for a policy of this many rules, those of the routes of a file first. Returns
+/// whether each text is allowed, or found.
+pub fn repeat_decisions<R: Files + AllocGlobal>(
+    rt: &R,
+    path: &str,
+    size: u64,
+    call: &str,
+    count: u64,
+) -> io::Result<bool> {
+    let text = fs::read_to_string(rt, path)?;
+    Ok(matches!(decisions::repeat(rt.alloc(), &text, size as usize, call, count), Ok(true)))
 }
 
 /// Prints the times of comparing all routes of a file with each other.

@@ -12,9 +12,13 @@ use Rattle.regex_meta.specs.contracts.plan.Plans as Plans
 use Rattle.regex_meta.specs.contracts.program.Program as Program
 use Rattle.regex_nfa.proofs.nfa.Nfa.TheSendSync as nfa
 use Rattle.urlpattern.proofs.list.UrlPatternList.TheSendSync as list
+use Rattle.urlpattern.proofs.router.UrlPatternRouter.TheSendSync as router
 use Rattle.urlpattern_engine.proofs.strategy.StepSearch.TheSendSync as search_of_steps
 use Rattle.urlpattern_engine.specs.contracts.pattern_regexp.PatternRegexp as PatternRegexp
 use Rattle.urlpattern_ffi.specs.contracts.pattern_box.PatternBox as PatternBox
+use Rattle.urlpattern_ffi_tables.specs.contracts.policy_box.PolicyBox as PolicyBox
+use Rattle.urlpattern_ffi_tables.specs.contracts.router_box.RouterBox as RouterBox
+use Rattle.urlpattern_policy.proofs.policy.UrlPolicy.TheSendSync as policy
 use Rattle.urlpattern_steps.proofs.step.Step.TheSendSync as step
 
 hir_send : IsSend (Hir.the_field).row
@@ -52,3 +56,9 @@ engine_sync = search (shared, crosses, sendable) depth 60 fits 20000
 
 pub patterns_send : IsSend PatternBox.the_row
 patterns_send = search (engine_send, engine_sync, list.the_send, list.the_sync, crosses, sendable) depth 60 fits 20000
+
+pub router_send : IsSend RouterBox.the_row
+router_send = search (engine_send, engine_sync, router.the_send, router.the_sync, crosses, sendable) depth 60 fits 20000
+
+pub policy_send : IsSend PolicyBox.the_row
+policy_send = search (engine_send, engine_sync, policy.the_send, policy.the_sync, crosses, sendable) depth 60 fits 20000

@@ -1,7 +1,8 @@
 //! URL patterns for other languages: the C functions of a static library. `bindings/c/urlpattern.h`
 //! declares them.
 //!
-//! Each function but `urlpattern_free` wraps a call of `urlpattern_ffi`, and repeats its clauses.
+//! Each function but those that free wraps a call of `urlpattern_ffi` or `urlpattern_ffi_tables`,
+//! and repeats its clauses.
 //! Raw pointers stay inside of `BoxParts` and `Slot`.
 #![tactic(auto)]
 
@@ -10,6 +11,12 @@ mod exports;
 mod init_exports;
 mod pair_exports;
 mod patterns;
+mod policy;
+mod policy_exports;
+mod reach_exports;
+mod reason_exports;
+mod router;
+mod router_exports;
 mod sharing;
 mod slot;
 mod text_exports;
@@ -30,7 +37,21 @@ pub use pair_exports::{
     urlpattern_overlaps_between, urlpattern_overlaps_within,
 };
 pub use patterns::Patterns;
-pub use sharing::{handles_are_sent, urlpattern_share};
+pub use policy::Policy;
+pub use policy_exports::{
+    urlpattern_policy_add, urlpattern_policy_add_init, urlpattern_policy_decide,
+    urlpattern_policy_free, urlpattern_policy_set_options, urlpattern_policy_share,
+};
+pub use reach_exports::urlpattern_reach_of_each;
+pub use reason_exports::{urlpattern_covering_reason_between, urlpattern_covering_reason_within};
+pub use router::Router;
+pub use router_exports::{
+    urlpattern_router_allowed, urlpattern_router_allowed_at_url, urlpattern_router_at,
+    urlpattern_router_at_url, urlpattern_router_free, urlpattern_router_group_name,
+    urlpattern_router_insert, urlpattern_router_insert_init, urlpattern_router_link,
+    urlpattern_router_share,
+};
+pub use sharing::{handles_are_sent, policies_are_sent, routers_are_sent, urlpattern_share};
 pub use slot::Slot;
 pub use text_exports::{
     urlpattern_captures_of_path, urlpattern_captures_of_texts, urlpattern_first_captures_of_path,

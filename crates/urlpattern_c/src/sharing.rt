@@ -5,6 +5,8 @@ ghost use Rattle.urlpattern_ffi.specs.Calls.{ReturnsStatus};
 ghost use Rattle.urlpattern_ffi.specs.KeptPatterns.{AreShared};
 
 use crate::patterns::Patterns;
+use crate::policy::Policy;
+use crate::router::Router;
 use std::alloc::Global;
 use urlpattern_ffi::{Status, share};
 
@@ -40,4 +42,14 @@ fn accept_sent<T: Send>(_value: &T) {}
 /// A handle may go from thread to thread.
 pub fn handles_are_sent(patterns: &Patterns) {
     accept_sent(patterns)
+}
+
+/// A handle to a router may go from thread to thread.
+pub fn routers_are_sent(router: &Router) {
+    accept_sent(router)
+}
+
+/// A handle to a policy may go from thread to thread.
+pub fn policies_are_sent(policy: &Policy) {
+    accept_sent(policy)
 }

@@ -18,7 +18,7 @@ use Rattle.urlpattern_syntax.specs.declared.parts.ComponentParts.{ComponentParts
 
 -- ---- a wildcard alone
 
-segment_means : (text : List ℕ) → text ≢ [] → IsTrue (lacks line_feed text) → MeansText default_options (wildcard_part PartType.SegmentWildcard ∷ []) text
+pub segment_means : (text : List ℕ) → text ≢ [] → IsTrue (lacks line_feed text) → MeansText default_options (wildcard_part PartType.SegmentWildcard ∷ []) text
 segment_means text some line =
     let whole : text ≡ text ++ [] = sym (append-nil text) in (
       Some text ∷ [],
@@ -49,33 +49,33 @@ Copies n text = AreCopies default_options (wildcard_part PartType.SegmentWildcar
 copy_some : Copies 1 [] → ⊥
 copy_some (first, rest, cut, (piece, is, (some, line)), end) = some (empty_first piece [] (sym (empty_first first rest cut) ∙ is))
 
-segment_some : MeansText default_options (wildcard_part PartType.SegmentWildcard ∷ []) [] → ⊥
+pub segment_some : MeansText default_options (wildcard_part PartType.SegmentWildcard ∷ []) [] → ⊥
 segment_some (captures, (first, rest, own, others, cut, joined, means, end)) =
     copy_some (subst (λ (text : List ℕ). Copies 1 text) (empty_first first rest cut) (subst (λ (n : ℕ). Copies n first) means.allowed means.are_copies))
 
 -- ---- a component
 
 module _ (kind : PartType) (component : ComponentParts) (is : IsWildcard kind component) where
-  known_wildcard : kind ≢ PartType.Regexp → IsKnown component
+  pub known_wildcard : kind ≢ PartType.Regexp → IsKnown component
   known_wildcard generated = record {
     generated = subst AreGenerated (sym is.parts) (All-cons (λ (part : PartView). part.kind ≢ PartType.Regexp) (wildcard_part kind) [] generated (All-nil (λ (part : PartView). part.kind ≢ PartType.Regexp)));
     case_kept = ap (λ (options : OptionsView). options.ignore_case) is.options;
   }
 
-  means_in : (text : List ℕ) → MeansText default_options (wildcard_part kind ∷ []) text → MeansIn component text
+  pub means_in : (text : List ℕ) → MeansText default_options (wildcard_part kind ∷ []) text → MeansIn component text
   means_in text means =
       subst (λ (options : OptionsView). MeansText options (parts_view component.parts.items) text) (sym is.options)
       (subst (λ (parts : List PartView). MeansText default_options parts text) (sym is.parts) means)
 
-  means_out : (text : List ℕ) → MeansIn component text → MeansText default_options (wildcard_part kind ∷ []) text
+  pub means_out : (text : List ℕ) → MeansIn component text → MeansText default_options (wildcard_part kind ∷ []) text
   means_out text means =
       subst (λ (parts : List PartView). MeansText default_options parts text) is.parts
       (subst (λ (options : OptionsView). MeansText options (parts_view component.parts.items) text) is.options means)
 
-segment_not_custom : PartType.SegmentWildcard ≢ PartType.Regexp
+pub segment_not_custom : PartType.SegmentWildcard ≢ PartType.Regexp
 segment_not_custom e = absurd cc
 
-full_not_custom : PartType.FullWildcard ≢ PartType.Regexp
+pub full_not_custom : PartType.FullWildcard ≢ PartType.Regexp
 full_not_custom e = absurd cc
 
 -- ---- a pattern

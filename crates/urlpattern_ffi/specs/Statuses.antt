@@ -1,7 +1,7 @@
 -- The numbers of statuses for C.
 use Rattle.std.specs.Prelude.{ℕ}
 use Rattle.urlpattern_ffi.specs.declared.status.Status.{Status}
-use Rattle.urlpattern_ffi.specs.declared.status.Status.TheVariants.{NoMatch, Done, NoUrl, NoPath, TooLong, NotUtf8, Refused, OutOfMemory, NoPattern, TooSmall, Unknown, Shared}
+use Rattle.urlpattern_ffi.specs.declared.status.Status.TheVariants.{NoMatch, Done, NoUrl, NoPath, TooLong, NotUtf8, Refused, OutOfMemory, NoPattern, TooSmall, Unknown, Shared, NotAllowed}
 
 -- The number of a status for C. `Done` is not 0, so that a variable of zeros is never `Done`.
 abbrev pub status_number : Status → ℕ
@@ -17,3 +17,4 @@ status_number NoPattern = 8
 status_number TooSmall = 9
 status_number Unknown = 10
 status_number Shared = 11
+status_number NotAllowed = 12

@@ -42,7 +42,7 @@ pub fn add(
 }
 
 /// The status for an error of compiling: `OutOfMemory`, or `Refused` for any other error.
-pub(crate) fn status_of_error(error: &Error) -> Status
+pub fn status_of_error(error: &Error) -> Status
     ensures { result ≡ error_status (error_view error.now) }
 {
     match error {
@@ -52,14 +52,14 @@ pub(crate) fn status_of_error(error: &Error) -> Status
 }
 
 /// The base URL that a text gives. `None`: the text is empty.
-pub(crate) fn given_base(text: &str) -> Option<&str>
+pub fn given_base(text: &str) -> Option<&str>
     ensures { option_copied result ≡ given_base text.now }
 {
     if text.is_empty() { None } else { Some(text) }
 }
 
 /// Compiles a constructor string, under a base URL if there is one.
-fn compiled(
+pub fn compiled(
     alloc: Global,
     text: &str,
     base: Option<&str>,
@@ -75,7 +75,7 @@ fn compiled(
 }
 
 /// The options with which patterns are compiled: the syntax of `regex`, and case ignored or not.
-pub(crate) fn options(ignore_case: bool) -> UrlPatternOptions
+pub fn options(ignore_case: bool) -> UrlPatternOptions
     ensures { result ≡ c_options ignore_case }
 {
     UrlPatternOptions {

@@ -44,7 +44,7 @@ pub fn add_init(
 ///
 /// The error is the status that says why there is no init.
 #[tactic(auto, using(crate::proofs::ReportedInitLemmas::no_init))]
-pub(crate) fn init_of(alloc: Global, json: &[u8]) -> Result<UrlPatternInit, Status>
+pub fn init_of(alloc: Global, json: &[u8]) -> Result<UrlPatternInit, Status>
     ensures found { IfOk result (IsInitOfJson json.now) }
     ensures missing { IfErr result (IsNoInit json.now) }
 {

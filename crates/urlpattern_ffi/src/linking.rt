@@ -57,7 +57,7 @@ fn link_pattern(
 
 /// Writes to `buffer` why there is no URL, and the length of that in bytes to `needed`. `Refused`:
 /// the reason is written.
-fn write_reason(alloc: Global, reason: &NoLink, buffer: &mut [u8], needed: &mut usize) -> Status
+pub fn write_reason(alloc: Global, reason: &NoLink, buffer: &mut [u8], needed: &mut usize) -> Status
     ensures { IsReasonWritten reason.now buffer.old buffer.new needed.new result }
 {
     let Ok(text) = reason_text(alloc, reason) else {

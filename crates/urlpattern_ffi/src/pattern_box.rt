@@ -16,7 +16,7 @@ pub struct PatternBox {
 }
 
 /// The patterns of a handle. `None`: the handle has none.
-pub(crate) fn list_of(kept: &Option<Box<PatternBox>>) -> Option<&UrlPatternList<PatternRegexp>>
+pub fn list_of(kept: &Option<Box<PatternBox>>) -> Option<&UrlPatternList<PatternRegexp>>
     ensures some { IfSome result (λ list.
         (list.now ≡ boxed_patterns kept.now) × (list.now ≢ [])) }
     ensures none { IfNone result (boxed_patterns kept.now ≡ []) }
@@ -31,7 +31,7 @@ pub(crate) fn list_of(kept: &Option<Box<PatternBox>>) -> Option<&UrlPatternList<
 }
 
 /// The pattern at an index. `None`: the index is out of range, or the handle is empty.
-pub(crate) fn pattern_at(
+pub fn pattern_at(
     kept: &Option<Box<PatternBox>>,
     index: usize,
 ) -> Option<&UrlPattern<PatternRegexp>>

@@ -39,7 +39,7 @@ pub struct Sizes {
 /// Writes the room that both need to `needed`. `TooSmall`: `buffer` or `spans` has too little room,
 /// and some captures and spans may be written. `OutOfMemory`: a size exceeds `usize`, and `needed`
 /// is unchanged.
-pub(crate) fn write_groups(
+pub fn write_groups(
     found: &UrlPatternCaptures<'_, '_>,
     buffer: &mut [u8],
     spans: &mut [GroupSpan],

@@ -34,6 +34,8 @@ pub enum Status {
     Unknown,
     /// The patterns are those of another handle too, and none is appended.
     Shared,
+    /// Some route matches, but none that serves the method of the request.
+    NotAllowed,
 }
 
 impl Status {
@@ -54,6 +56,7 @@ impl Status {
             Status::TooSmall => 9,
             Status::Unknown => 10,
             Status::Shared => 11,
+            Status::NotAllowed => 12,
         }
     }
 }

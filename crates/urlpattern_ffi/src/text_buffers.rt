@@ -14,7 +14,7 @@ use urlpattern_ffi_links::component_of;
 
 /// Writes a text to the start of a buffer, and its length in bytes to `needed`. `TooSmall`: the
 /// text does not fit, and the buffer is unchanged.
-pub(crate) fn write(text: &str, buffer: &mut [u8], needed: &mut usize) -> Status
+pub fn write(text: &str, buffer: &mut [u8], needed: &mut usize) -> Status
     ensures written { IsWrittenTo text.now buffer.old buffer.new result }
     ensures needed { needed.new ≡ length text.now }
 {

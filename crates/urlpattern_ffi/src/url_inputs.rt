@@ -16,7 +16,7 @@ pub(crate) const LONG_TEXT: usize = 1 << 24;
 ///
 /// The error is the status that says why there is no URL: `TooLong`, `NotUtf8`, `NoUrl` if `url`
 /// rejects a text, or `OutOfMemory`.
-pub(crate) fn url_of(alloc: Global, text: &[u8], base: &[u8]) -> Result<Url, Status>
+pub fn url_of(alloc: Global, text: &[u8], base: &[u8]) -> Result<Url, Status>
     ensures found { IfOk result (λ url. IsUrlUnderBase text.now base.now url) }
     ensures missing { IfErr result (IsNoUrl text.now base.now) }
 {

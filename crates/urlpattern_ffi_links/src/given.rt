@@ -30,7 +30,7 @@ pub struct GivenBytes {
 ///
 /// The error is `Unlinked::Given` if an element gives no group, also where memory runs out, or
 /// `OutOfMemory`.
-pub(crate) fn groups_of<'t>(
+pub fn groups_of<'t>(
     alloc: Global,
     text: &'t [u8],
     given: &[GivenBytes],

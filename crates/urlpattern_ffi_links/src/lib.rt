@@ -5,6 +5,6 @@ mod given;
 mod given_link;
 mod given_text;
 
-pub use given::{GivenBytes, component_of, part_of};
+pub use given::{GivenBytes, component_of, groups_of, part_of};
 pub use given_link::{Unlinked, link};
 pub use given_text::{Ungenerated, generate};

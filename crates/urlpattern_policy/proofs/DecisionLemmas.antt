@@ -22,7 +22,7 @@ use Rattle.urlpattern_policy.specs.declared.decision.Decision.{Decision}
 use Rattle.urlpattern_policy.specs.declared.decision.Decision.TheVariants.{Deny}
 use Rattle.urlpattern_policy.specs.declared.decision.DenyReason.{DenyReason}
 use Rattle.urlpattern_policy.specs.declared.decision.DenyReason.TheVariants as reasons
-use Rattle.urlpattern_policy.specs.declared.decision.Effect.{Effect}
+use Rattle.urlpattern_differences.specs.declared.rules.Effect.{Effect}
 use Rattle.urlpattern_policy.specs.declared.policy.PolicyOptions.{PolicyOptions}
 use Rattle.urlpattern_syntax.specs.Errors.{MemoryOr}
 use Rattle.urlpattern_syntax.specs.declared.error.Error.{Error}

@@ -80,7 +80,7 @@ pub without_first_dots-nil : without_first_dots [] ≡ []
 unfolding without_first_dots
 without_first_dots-nil = refl
 
-without_first_dots-is : (c : ℕ) (text : List ℕ) → is_dot c ≡ true → without_first_dots (c ∷ text) ≡ without_first_dots text
+pub without_first_dots-is : (c : ℕ) (text : List ℕ) → is_dot c ≡ true → without_first_dots (c ∷ text) ≡ without_first_dots text
 unfolding without_first_dots
 without_first_dots-is c text is = rw is refl
 

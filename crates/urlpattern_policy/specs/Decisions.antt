@@ -20,8 +20,8 @@ use Rattle.urlpattern_policy.specs.declared.decision.Decision.{Decision}
 use Rattle.urlpattern_policy.specs.declared.decision.Decision.TheVariants.{Allow, Deny}
 use Rattle.urlpattern_policy.specs.declared.decision.DenyReason.{DenyReason}
 use Rattle.urlpattern_policy.specs.declared.decision.DenyReason.TheVariants as reasons
-use Rattle.urlpattern_policy.specs.declared.decision.Effect.{Effect}
-use Rattle.urlpattern_policy.specs.declared.decision.Effect.TheVariants as effects
+use Rattle.urlpattern_differences.specs.declared.rules.Effect.{Effect}
+use Rattle.urlpattern_differences.specs.declared.rules.Effect.TheVariants as effects
 use Rattle.urlpattern_policy.specs.declared.policy.PolicyOptions.{PolicyOptions}
 use Rattle.urlpattern_policy.specs.declared.policy.UrlPolicy.{UrlPolicy}
 use Rattle.urlpattern_syntax.specs.RegexpText.{is_empty}

@@ -4,15 +4,6 @@ ghost use Rattle.urlpattern_policy.specs.DecisionWords.{is_allow};
 
 use url::ParseError;
 
-/// What a rule decides about the URLs that its pattern matches.
-#[derive(Debug, Clone, Copy, PartialEq, Eq)]
-pub enum Effect {
-    /// Each of the URLs is denied.
-    Deny,
-    /// Each of the URLs is allowed.
-    Allow,
-}
-
 /// What a policy decides about a URL, or about a text that may be none.
 #[derive(Debug, Clone, Copy, PartialEq, Eq)]
 pub enum Decision {

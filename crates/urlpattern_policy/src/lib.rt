@@ -12,7 +12,8 @@ mod policy;
 mod spelled_texts;
 mod spelling;
 
-pub use decision::{Decision, DenyReason, Effect};
+pub use decision::{Decision, DenyReason};
 pub use plain_patterns::is_plain_pattern;
 pub use policy::{PolicyOptions, UrlPolicy};
 pub use spelled_texts::{are_plain, plain_texts};
+pub use urlpattern_differences::Effect;

@@ -2,14 +2,14 @@
 ghost use Rattle.std.specs.Prelude.{◌≡◌, [], OnErr, OnOk};
 ghost use Rattle.urlpattern_policy.specs.Decisions.{AppendsRule};
 ghost use Rattle.urlpattern_policy.specs.PolicyWords.{strict_options};
-ghost use Rattle.urlpattern_policy.specs.declared.decision.Effect.TheVariants as effects;
+ghost use Rattle.urlpattern_differences.specs.declared.rules.Effect.TheVariants as effects;
 ghost use Rattle.urlpattern_syntax.specs.Errors.{OnlyOutOfMemory};
 
 mod deciding;
 
-use crate::decision::Effect;
 use std::alloc::Global;
 use urlpattern::UrlPatternMap;
+use urlpattern_differences::Effect;
 use urlpattern_matcher::regexp::RegExp;
 use urlpattern_pattern::UrlPattern;
 use urlpattern_syntax::Error;

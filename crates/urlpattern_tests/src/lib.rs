@@ -1,11 +1,14 @@
 //! Tests that the data replayed by `bench` cannot express: components built by hand, engines that
-//! return what no engine should, the elements of lists and maps, routers, borrowed matches, copies
-//! and comparisons of small values, calls with no or a bounded number of requests for memory, and
-//! lines that are too long. The crate has tests only.
+//! return what no engine should, the elements of lists and maps, routers, conditions, static routes
+//! that are read and written, borrowed matches, copies and comparisons of small values, calls with
+//! no or a bounded number of requests for memory, and lines that are too long. The crate has tests
+//! only.
 #![tactic(auto)]
 
 #[cfg(test)]
 mod captures;
+#[cfg(test)]
+mod conditions;
 #[cfg(test)]
 mod copies;
 #[cfg(test)]
@@ -36,6 +39,8 @@ mod results;
 mod route_tables;
 #[cfg(test)]
 mod routers;
+#[cfg(test)]
+mod routes;
 #[cfg(test)]
 mod stubborn;
 #[cfg(test)]

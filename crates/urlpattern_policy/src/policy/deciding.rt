@@ -11,12 +11,13 @@ ghost use Rattle.urlpattern_syntax.specs.RegexpText.{is_empty};
 ghost use Rattle.urlpattern_syntax.specs.Text.{text_of};
 
 use super::UrlPolicy;
-use crate::decision::{Decision, DenyReason, Effect};
+use crate::decision::{Decision, DenyReason};
 use crate::spelled_texts::{are_plain, plain_texts};
 use std::alloc::Global;
 use url::{ParseError, Url};
 use urlpattern_canonical::canonicalize_and_process::{canonicalize_hostname, is_special_scheme};
 use urlpattern_components::Eight;
+use urlpattern_differences::Effect;
 use urlpattern_matcher::regexp::RegExp;
 use urlpattern_matches::{input_texts, url_texts};
 use urlpattern_syntax::Error;

@@ -2,7 +2,7 @@ use Rattle.std.proofs.Common.{◌≡◌, Some}
 use Rattle.urlpattern_matches.specs.BorrowedMatches.{pattern_captures_view}
 use Rattle.urlpattern_matches.specs.GroupTexts.{borrowed_texts}
 use Rattle.urlpattern_policy.proofs.DecisionLemmas.{first_rule, found_rule}
-use Rattle.urlpattern_policy.specs.declared.decision.Effect.TheVariants as effects
+use Rattle.urlpattern_differences.specs.declared.rules.Effect.TheVariants as effects
 use Rattle.urlpattern_policy.proofs.policy.UrlPolicy.decide_texts.Goals as goal
 
 pub returns-in-Allow : goal.returns-in-Allow

@@ -1,0 +1,13 @@
+use Rattle.std.proofs.Common.{subst, sym}
+use Rattle.urlpattern_c.specs.Handles.{router_in}
+use Rattle.urlpattern_ffi_tables.specs.Compilations.{IsPatternOfJson, RejectsJson}
+use Rattle.urlpattern_ffi_tables.specs.AddedRoutes.{IsRouteAdded}
+use Rattle.urlpattern_ffi_tables.specs.KeptRouters.{Router, boxed_router}
+use Rattle.urlpattern_c.proofs.router_exports.urlpattern_router_insert_init.Goals as goal
+
+pub returns : goal.returns
+returns c =
+    let Adds = λ (old new : Router). IsRouteAdded (IsPatternOfJson c.args.json.now c.args.ignore_case) (RejectsJson c.args.json.now c.args.ignore_case) old c.args.name.now c.args.method.now new c.add_init_route-status.result in
+    let kept = boxed_router c.add_init_route-status.new.kept in
+    let added = subst (λ old. Adds old kept) c.take-kept.ensures.taken c.add_init_route-status.ensures in
+    (c.add_init_route-status.result, c.number.ensures, subst (Adds (router_in c.args.router.now)) (sym c.put.ensures) added)

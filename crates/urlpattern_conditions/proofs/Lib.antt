@@ -1,0 +1,3 @@
+pub mod ConditionExamples
+pub mod ConditionLemmas
+pub mod TableLemmas

@@ -1,0 +1,4 @@
+pub mod Requests
+pub mod Conditions
+pub mod ConditionViews
+pub mod Tables

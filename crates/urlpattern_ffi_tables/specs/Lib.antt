@@ -1,0 +1,10 @@
+pub mod AddedRoutes
+pub mod AllowedMethodTexts
+pub mod Compilations
+pub mod CoveringReasons
+pub mod KeptPolicies
+pub mod KeptRouters
+pub mod RouteLinks
+pub mod RoutedRequests
+pub mod Verdicts
+pub mod WrittenReaches

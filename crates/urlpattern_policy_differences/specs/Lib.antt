@@ -1,0 +1,2 @@
+pub mod AlikeDecisions
+pub mod Comparing

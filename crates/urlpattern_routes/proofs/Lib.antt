@@ -1,0 +1,4 @@
+pub mod ConditionLemmas
+pub mod ReadingExamples
+pub mod RoundTrip
+pub mod WritingLemmas

@@ -1,0 +1,11 @@
+pub mod Faults
+pub mod Methods
+pub mod Texts
+pub mod Names
+pub mod Views
+pub mod Members
+pub mod Sources
+pub mod Conditions
+pub mod Rules
+pub mod Trees
+pub mod Readers
