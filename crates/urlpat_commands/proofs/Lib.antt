@@ -1,6 +1,0 @@
-pub mod AnswerExamples
-pub mod CommandAnswerLemmas
-pub mod FirstCommandLemmas
-pub mod ShortLemmas
-pub mod FilterCommandLemmas
-pub mod CommandNoteLemmas
