@@ -20,7 +20,7 @@ use Rattle.urlpattern_components.specs.Eight.{name_text}
 -- the component.
 abbrev pub reason_text : Reason → List ℕ
 reason_text reasons.CustomExpression = codes "has a custom expression"
-reason_text reasons.IgnoredCase = codes "ignores case"
+reason_text reasons.IgnoredCase = codes "has a custom expression, and ignores case"
 reason_text reasons.TooMany = codes "would take too many steps to compare"
 
 -- What is not known because of the component of the pattern itself, in words that follow `whether`.

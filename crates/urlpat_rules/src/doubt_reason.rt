@@ -12,7 +12,7 @@ pub fn reason_text(reason: Reason) -> &'static str
 {
     match reason {
         Reason::CustomExpression => "has a custom expression",
-        Reason::IgnoredCase => "ignores case",
+        Reason::IgnoredCase => "has a custom expression, and ignores case",
         Reason::TooMany => "would take too many steps to compare",
     }
 }

@@ -1,15 +1,15 @@
 -- Whether parts are custom, and what their automata accept.
-use Rattle.std.proofs.Common.{◌≡◌, ◌≢◌, ℕ, Bool, true, false, List, [], ◌∷◌, refl, ap, ◌↔◌, Option, Some, None, Result, Ok, Err, IfOk, IfSome}
+use Rattle.std.proofs.Common.{◌≡◌, ◌≢◌, ℕ, Bool, true, false, List, [], ◌∷◌, refl, sym, ap, ◌∙◌, inl, inr, true≢false, Option, Some, None, Result, Ok, Err, IfOk, IfSome}
 use Rattle.std.specs.declared.alloc.{AllocError.AllocError}
-use Rattle.std.proofs.lemmas.List.Elements.{All-cons, All-head, All-nil, All-tail}
+use Rattle.std.proofs.lemmas.List.Elements.{All-cons, All-head, All-nil, All-tail, All-weaker}
 use Rattle.std.specs.List.{list_any}
 use Rattle.std.specs.Prelude.{◌||◌}
-use Rattle.urlpattern_compare.specs.Answers.{is_custom_part, is_custom_kind}
-use Rattle.urlpattern_compare.specs.Automata.{AcceptsText, IsWithin}
-use Rattle.urlpattern_compare.specs.MeantTexts.{MeansText}
-use Rattle.urlpattern_compare.specs.Making.{made, made_view}
+use Rattle.urlpattern_compare.specs.Answers.{AcceptsMeaning, IsByCase, IsTold, is_custom_part, is_custom_kind}
+use Rattle.urlpattern_compare.specs.Automata.{IsWithin}
+use Rattle.urlpattern_compare.specs.Making.{IsMadeOf}
 use Rattle.urlpattern_compare.specs.declared.parts_automaton.PartsAutomaton.{PartsAutomaton}
-use Rattle.urlpattern_compare.proofs.PartsRead.{parts_accepted, parts_within}
+use Rattle.urlpattern_compare.proofs.PartsRead.{made_within, meaning_accepted}
+use Rattle.urlpattern_expressions.specs.SimpleExpressions.{AreSimple, HasSimpleExpression}
 use Rattle.urlpattern_meaning.specs.PartMeaning.{AreGenerated}
 use Rattle.urlpattern_syntax.specs.declared.parser.PartType.{PartType}
 use Rattle.urlpattern_syntax.specs.{Options.OptionsView, Parts.PartView, Parts.part_view, Parts.parts_view}
@@ -42,17 +42,33 @@ pub custom : (parts : List Part) → list_any is_custom_part parts ≡ true → 
 custom [] some are = absurd cc
 custom (part ∷ parts) some are = custom_cases part parts (is_custom_part part) refl some (custom parts) are
 
+-- Parts of which none is custom have simple expressions alone.
+pub generated_simple : (parts : List PartView) → AreGenerated parts → AreSimple parts
+generated_simple parts are = All-weaker (λ (it : PartView). it.kind ≢ PartType.Regexp) (λ (it : PartView). HasSimpleExpression it.kind it.value) (λ it other. simple_by it.kind it.value other) parts are
+  where
+    simple_by : (kind : PartType) (value : List ℕ) → kind ≢ PartType.Regexp → HasSimpleExpression kind value
+    simple_by PartType.FixedText value other = tt
+    simple_by PartType.SegmentWildcard value other = tt
+    simple_by PartType.FullWildcard value other = tt
+    simple_by PartType.Regexp value other = absurd (other refl)
+
+-- Where case is ignored, parts that tell have no custom part among them.
+pub told_generated : (options : OptionsView) (parts : List PartView) → IsTold options parts → options.ignore_case ≡ true → AreGenerated parts
+told_generated options parts told ignored = elim told.by_case [
+  | inl kept ↦ absurd (true≢false (sym ignored ∙ kept))
+  | inr generated ↦ generated
+]
+
 -- ---- automata
 
-pub made_within : (options : OptionsView) (parts : List PartView) (result : Result (Option PartsAutomaton) AllocError) →
-    IfOk result (λ found. IfSome found (λ automaton. made_view automaton ≡ made options parts)) → IfOk result (λ found. IfSome found IsWithin)
-made_within options parts (Err e) is = is
-made_within options parts (Ok None) is = is
-made_within options parts (Ok (Some automaton)) is = parts_within options parts automaton is
+pub all_within : (options : OptionsView) (parts : List PartView) (result : Result (Option PartsAutomaton) AllocError) →
+    IfOk result (λ found. IfSome found (IsMadeOf options parts)) → IfOk result (λ found. IfSome found IsWithin)
+all_within options parts (Err e) is = is
+all_within options parts (Ok None) is = is
+all_within options parts (Ok (Some automaton)) is = made_within options parts automaton is
 
-pub made_accepts : (options : OptionsView) (parts : List PartView) (result : Result (Option PartsAutomaton) AllocError) → AreGenerated parts →
-    IfOk result (λ found. IfSome found (λ automaton. made_view automaton ≡ made options parts)) →
-    IfOk result (λ found. IfSome found (λ automaton. (text : List ℕ) → AcceptsText automaton text ↔ MeansText options parts text))
-made_accepts options parts (Err e) gen is = is
-made_accepts options parts (Ok None) gen is = is
-made_accepts options parts (Ok (Some automaton)) gen is = parts_accepted options parts automaton gen is
+pub made_accepts : (options : OptionsView) (parts : List PartView) (result : Result (Option PartsAutomaton) AllocError) → IsByCase options parts →
+    IfOk result (λ found. IfSome found (IsMadeOf options parts)) → IfOk result (λ found. IfSome found (AcceptsMeaning options parts))
+made_accepts options parts (Err e) by is = is
+made_accepts options parts (Ok None) by is = is
+made_accepts options parts (Ok (Some automaton)) by is = meaning_accepted options parts automaton by is

@@ -127,8 +127,8 @@ writable engine Accepted firsts taken reading kept compiled settings text captur
     let own = kept_parts kept in
     let ways = firsts options (engine_flags options) own compiled.matcher (record {
       is_made = made.is_component.has_matcher;
-      generated = it.known.generated;
-      case_kept = it.known.case_kept;
+      generated = it.generated;
+      case_kept = it.case_kept;
       took = taken options compiled.matcher.inner made.has_engine.of_matcher;
     }) in
     record {

@@ -1,13 +1,13 @@
 -- Statements of the laws of links of a match: the groups of the match, and the texts of the link.
 -- `answer` is what a value of an engine returns for a text.
-use Rattle.std.specs.Prelude.{◌≡◌, ◌≢◌, ℕ, AllPairs, List, Option, Some, map}
+use Rattle.std.specs.Prelude.{◌≡◌, ◌≢◌, ℕ, false, AllPairs, List, Option, Some, map}
 use Rattle.std.specs.{Borrow.Bor, Map.keys_of}
 use Rattle.url.specs.{Parser.Parsed, Parts.Parts}
 use Rattle.urlpattern_matcher.specs.Components.{ComponentView}
 use Rattle.urlpattern_compile.specs.Compiled.{AreCompiled}
 use Rattle.urlpattern_matcher.specs.declared.regexp.RegExp.{Ghosts as Engine}
 use Rattle.urlpattern_generate.specs.WriteSettings.{GivenView, WriteSettings, given_groups, text_given}
-use Rattle.urlpattern_compare.specs.Comparing.{IsKnown}
+use Rattle.urlpattern_meaning.specs.PartMeaning.{AreGenerated}
 use Rattle.urlpattern_init.specs.Inheritance.{texts_of_url}
 use Rattle.urlpattern_init.specs.UrlTexts.{IsLine}
 use Rattle.urlpattern_init.specs.declared.init.UrlPatternInit.{UrlPatternInit}
@@ -121,12 +121,13 @@ LinksOfMatchesAreTheTexts {E} answer =
 
 -- ---- links of compiled patterns
 
--- The premises for a component of a compiled pattern: the meaning of its parts is known, no fixed
--- text of them has a modifier, the text is a line, and each captured text is its own canonical
+-- The premises for a component of a compiled pattern: no part is custom, case is kept, no fixed
+-- text of the parts has a modifier, the text is a line, and each captured text is its own canonical
 -- form.
 pub record IsWritableFromParts (component : ComponentParts)
     (canonical : List ℕ → Parsed (List ℕ)) (text : List ℕ) (captures : Captures) : Type 0 where
-  pub known : IsKnown component
+  pub generated : AreGenerated (kept_parts component)
+  pub case_kept : (kept_options component).ignore_case ≡ false
   pub plain : HavePlainTexts (kept_parts component)
   pub line : IsLine text
   pub are_canonical : AreCanonical canonical captures

@@ -1,7 +1,7 @@
 -- Policies without a difference decide alike.
 use Rattle.std.proofs.Common.{◌≡◌, ◌≢◌, ◌∙◌, ◌⊎◌, ◌<◌, ◌&&◌, ◌||◌, ℕ, zero, suc, All, Bool, true, false, true≢false, List, [], ◌∷◌, ◌++◌, MatchBool, None, Option, Some, Ok, Err, ap, arith, inl, inr, length, map, not, refl, slice_get, subst, sym, take}
 use Rattle.std.proofs.lemmas.List.{map-append}
-use Rattle.std.proofs.lemmas.List.Elements.{All-append, All-cons, All-head, All-nil, All-tail}
+use Rattle.std.proofs.lemmas.List.Elements.{All-append, All-cons, All-head, All-nil, All-tail, All-weaker}
 use Rattle.std.specs.Map.{keys_of, values_of}
 use Rattle.std.specs.Prelude.{IsTrue, unwrap_or, if◌then◌else◌}
 use Rattle.url.specs.Parser.{Parsed}
@@ -30,11 +30,12 @@ use Rattle.urlpattern_init.proofs.UrlTexts.{texts_of_urls}
 use Rattle.urlpattern_init.specs.Inheritance.{texts_of_url}
 use Rattle.urlpattern_laws.specs.PartReadings.{OwnPartsMean}
 use Rattle.urlpattern_matcher.specs.declared.regexp.RegExp.{Ghosts as Engine}
+use Rattle.urlpattern_pattern.specs.Patterns.{PatternView, pattern_view}
 use Rattle.urlpattern_policy_differences.proofs.ComparingLemmas.{more_appended, none_appended}
 use Rattle.urlpattern_policy_differences.proofs.HostLines.{canonical_line}
 use Rattle.urlpattern_policy_differences.proofs.LineLemmas.{matched_credentials, matched_lines}
 use Rattle.urlpattern_policy_differences.proofs.MeantLemmas.{IsMeant, IsTold, SameMatch, are_meanings, meant_are, meant_at, meant_by, meant_parts, none_meant, none_meant_at_all}
-use Rattle.urlpattern_policy_differences.specs.AlikeDecisions.{NoDifferenceAllows, WithinAllows, only_allows}
+use Rattle.urlpattern_policy_differences.specs.AlikeDecisions.{EachKeeps, NoDifferenceAllows, WithinAllows, only_allows}
 use Rattle.urlpattern_policy_differences.specs.Comparing.{AppendsRules, IsEmpty, difference_of, is_spelled_alike}
 use Rattle.urlpattern_policy.specs.DecisionWords.{is_allow}
 use Rattle.urlpattern_policy.specs.Decisions.{DecidesHost, DecidesParsed, DecidesSpelled, DecidesTexts, DecidesUrl, IsDefault, IsFirstRule, has_credentials, has_opaque_host, is_host_read, matched_texts}
@@ -96,7 +97,7 @@ module _ (written : ComponentName) (parts : PatternParts) (is : IsWritten writte
 -- Rules that deny credentials, if the options say so.
 pub record AreFronts {E : Type 0} (engine : Engine E) (options : PolicyOptions) (opening : PolicyAutomata) : Type 0 where
   pub fronts : List PatternMeaning
-  pub are : All (IsMeant engine) fronts
+  pub are : All IsTold fronts
   pub own_parts : map (λ it. it.parts) fronts ≡ parts_of opening.patterns.items
   pub denied : opening.effects.items ≡ map (λ it. effects.Deny) fronts
   pub default : opening.default ≡ options.default
@@ -109,7 +110,7 @@ module _ {E : Type 0} (engine : Engine E) (options : PolicyOptions) (empty openi
   no_fronts : options.denies_credentials ≡ false → opening ≡ empty → AreFronts engine options opening
   no_fronts off same = record {
     fronts = [];
-    are = All-nil (IsMeant engine);
+    are = All-nil IsTold;
     own_parts = sym (ap parts_of (ap (λ (it : PolicyAutomata). it.patterns.items) same ∙ is_empty_policy.patterns));
     denied = ap (λ (it : PolicyAutomata). it.effects.items) same ∙ is_empty_policy.effects;
     default = ap (λ (it : PolicyAutomata). it.default) same ∙ is_empty_policy.default;
@@ -168,8 +169,8 @@ module _ {E : Type 0} (engine : Engine E) (options : PolicyOptions) (empty openi
     two_fronts : opening.patterns.items ≡ username ∷ password ∷ [] → opening.effects.items ≡ effects.Deny ∷ effects.Deny ∷ [] → opening.default ≡ options.default → AreFronts engine options opening
     two_fronts patterns own default = record {
       fronts = users ∷ passwords ∷ [];
-      are = All-cons (IsMeant engine) users (passwords ∷ []) (inr (written_told Username username.parts user))
-          (All-cons (IsMeant engine) passwords [] (inr (written_told Password password.parts pass)) (All-nil (IsMeant engine)));
+      are = All-cons IsTold users (passwords ∷ []) (written_told Username username.parts user)
+          (All-cons IsTold passwords [] (written_told Password password.parts pass) (All-nil IsTold));
       own_parts = sym (ap parts_of patterns);
       denied = own;
       default = default;
@@ -244,8 +245,10 @@ module _ {E : Type 0} (engine : Engine E) (policy : UrlPolicy E) (automata : Pol
       ∙ ap (λ l. parts_of opening.patterns.items ++ l) (meant_parts engine (keys_of policy.rules) appended.own appended.have)
       ∙ sym (ap parts_of appended.patterns ∙ map-append (λ (it : PatternAutomata). it.parts) opening.patterns.items appended.own)
 
-  pub all_are : All (IsMeant engine) all
-  all_are = All-append (IsMeant engine) fronts.fronts (meant_by engine (keys_of policy.rules) appended.own) fronts.are (meant_are engine (keys_of policy.rules) appended.own appended.have)
+  pub all_are : (Keeps : PatternView E → Type 0) → EachKeeps Keeps policy → All (IsMeant engine Keeps) all
+  all_are Keeps keep =
+      All-append (IsMeant engine Keeps) fronts.fronts (meant_by engine (keys_of policy.rules) appended.own)
+      (All-weaker IsTold (IsMeant engine Keeps) (λ it told. inr told) fronts.fronts fronts.are) (meant_are engine Keeps (keys_of policy.rules) appended.own appended.have keep)
 
   pub all_effects : automata.effects.items ≡ map (λ it. effects.Deny) fronts.fronts ++ values_of policy.rules
   all_effects = appended.effects ∙ ap (λ l. l ++ values_of policy.rules) fronts.denied
@@ -404,7 +407,7 @@ module _ {E : Type 0} (engine : Engine E) (policy : UrlPolicy E) (texts : Texts)
 
 -- ---- two policies decide
 
-module _ {E : Type 0} (engine : Engine E) (mean : OwnPartsMean engine) (same_match : SameMatch engine) where
+module _ {E : Type 0} (engine : Engine E) (Keeps : PatternView E → Type 0) (mean : OwnPartsMean engine Keeps) (same_match : SameMatch engine) where
   module _ (policy : UrlPolicy E) (automata opening : PolicyAutomata) (fronts : AreFronts engine policy.options opening) (appended : AppendsRules engine policy.rules opening automata) (texts asked : Texts) (are_fit : AreFit texts asked) where
     abbrev matched : Texts
     matched = matched_texts policy.options asked
@@ -440,8 +443,8 @@ module _ {E : Type 0} (engine : Engine E) (mean : OwnPartsMean engine) (same_mat
       by true never = absurd cc
       by false answered = (refl, answered)
 
-  pub no_difference : NoDifferenceAllows engine
-  no_difference one other limits (ones, others, (opening, (empty, is_empty_one, option), appended), (also, (nothing, is_empty_other, also_option), also_appended), (excess, is, found)) alike url valid rule decision allows decides =
+  pub no_difference : NoDifferenceAllows engine Keeps
+  no_difference one other limits (ones, others, (opening, (empty, is_empty_one, option), appended), (also, (nothing, is_empty_other, also_option), also_appended), (excess, is, found)) keep also_keep alike url valid rule decision allows decides =
       elim (not_memory decision) [
         | inl fine ↦ fine
         | inr (is_ruled, denies) ↦
@@ -457,8 +460,8 @@ module _ {E : Type 0} (engine : Engine E) (mean : OwnPartsMean engine) (same_mat
             let spelled = spelled_alike one.options other.options asked alike in
             let none : AllowsAllOf others ones = subst (λ (it : Excess). IsExcess limits ones others it) (nothing_is one.options other.options excess found) is in
             let allowed = none (all engine one ones opening fronts appended) (all engine other others also also_fronts also_appended)
-            (are_meanings engine mean same_match (all engine one ones opening fronts appended) (all engine other others also also_fronts also_appended) ones.patterns.items others.patterns.items
-            (all_parts engine one ones opening fronts appended) (all_parts engine other others also also_fronts also_appended) (all_are engine one ones opening fronts appended) (all_are engine other others also also_fronts also_appended))
+            (are_meanings engine Keeps mean same_match (all engine one ones opening fronts appended) (all engine other others also also_fronts also_appended) ones.patterns.items others.patterns.items
+            (all_parts engine one ones opening fronts appended) (all_parts engine other others also also_fronts also_appended) (all_are engine one ones opening fronts appended Keeps keep) (all_are engine other others also also_fronts also_appended Keeps also_keep))
             (λ name. at (matched_texts one.options asked) name) here.0 there.0
             (record {
               lines = matched_lines one.options asked are_fit.lines;
@@ -472,8 +475,8 @@ module _ {E : Type 0} (engine : Engine E) (mean : OwnPartsMean engine) (same_mat
   alike_itself true = refl
   alike_itself false = refl
 
-  pub within_allows : WithinAllows engine
-  within_allows policy pattern limits (own, whole, made, (empty, is_empty_policy, appends), (excess, is, found)) =
+  pub within_allows : WithinAllows engine Keeps
+  within_allows policy pattern limits (own, whole, made, (empty, is_empty_policy, appends), (excess, is, found)) keep keeps =
       let only = only_allows policy.options.plain_spelling pattern in
       let nothing = nothing_is policy.options strict_options excess found in
       no_difference policy only limits (
@@ -482,4 +485,4 @@ module _ {E : Type 0} (engine : Engine E) (mean : OwnPartsMean engine) (same_mat
         made,
         (empty, (empty, is_empty_policy, refl), more_appended engine [] (pattern, effects.Allow) empty empty whole (none_appended engine [] empty) appends),
         (excess, is, subst (λ (it : Excess). differences.Nothing ≡ difference_of policy.options only.options it) (sym nothing) refl),
-      ) (alike_itself policy.options.plain_spelling)
+      ) keep (All-cons (λ it. Keeps (pattern_view it)) pattern [] keeps (All-nil (λ it. Keeps (pattern_view it)))) (alike_itself policy.options.plain_spelling)
