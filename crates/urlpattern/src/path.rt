@@ -2,6 +2,7 @@
 ghost use Rattle.std.specs.Prelude.{◌↔◌, IsTrue};
 ghost use Rattle.std.specs.Str.{chars};
 ghost use Rattle.urlpattern.specs.Paths.{IsPath};
+ghost use Rattle.urlpattern_syntax.specs.Text.{lacks};
 
 use urlpattern_canonical::canonicalize_and_process::begins_with_slash;
 
@@ -13,5 +14,15 @@ pub fn is_path(text: &str) -> bool
     if !begins_with_slash(text) {
         return false;
     }
-    text.chars().all(|c| c != '\n' && c != '?' && c != '#')
+    if !lacks(text, '\n') {
+        return false;
+    }
+    lacks(text, '?') && lacks(text, '#')
+}
+
+/// Whether a text does not have a character.
+fn lacks(text: &str, c: char) -> bool
+    ensures { IsTrue result ↔ IsTrue (lacks c (chars text.now)) }
+{
+    !text.contains(c)
 }

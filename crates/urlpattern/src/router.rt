@@ -2,13 +2,15 @@
 //!
 //! The routes are a map, whose index finds those that can match.
 ghost use Rattle.http_header.specs.Token.{IsToken};
-ghost use Rattle.std.specs.Prelude.{◌≡◌, [], true, IfErr, IfOk, None, OnErr, OnOk, Some};
+ghost use Rattle.std.specs.Prelude.{◌≡◌, [], true, IfErr, IfNone, IfOk, IfSome, None, OnErr, OnOk, Some};
 ghost use Rattle.std.specs.Str.{chars};
+ghost use Rattle.urlpattern.specs.Paths.{IsPath};
 ghost use Rattle.urlpattern.specs.PatternKeys.{address_of};
-ghost use Rattle.urlpattern.specs.Routes.{AppendsRoute, CallsEngineOfRequest, IsCandidate, IsNewName, IsRouteError, IsRoutePathError, IsRouted, IsRoutedPath};
+ghost use Rattle.urlpattern.specs.Routes.{AppendsRoute, CallsEngineOfRequest, IsCandidate, IsNewName, IsRouteError, IsRoutePathError, IsRouted, IsRoutedPath, NoneMatches};
 ghost use Rattle.urlpattern_index.specs.Keys.{hashes_of, hashes_view};
 ghost use Rattle.urlpattern_init.specs.Inheritance.{texts_of_url};
 ghost use Rattle.urlpattern_matches.specs.GroupTexts.{borrowed_texts};
+ghost use Rattle.urlpattern_matches.specs.MatchInput.{pathname_alone};
 ghost use Rattle.urlpattern_syntax.specs.Errors.{OnlyOutOfMemory};
 ghost use Rattle.urlpattern_syntax.specs.Text.{option_text};
 
@@ -16,6 +18,7 @@ mod allowed_methods;
 mod contending;
 mod copy;
 mod named;
+mod quick;
 mod reach;
 mod route;
 mod route_contentions;
@@ -29,6 +32,7 @@ use crate::path::is_path;
 use crate::path_error::PathError;
 pub use allowed_methods::AllowedMethods;
 use http_header::is_token;
+use quick::Quick;
 pub use reach::covered_routes_serve_nothing;
 pub use route::Route;
 pub use route_contentions::RouteContentions;
@@ -41,6 +45,7 @@ use urlpattern_components::Eight;
 use urlpattern_index::{Address, AddressHashes};
 use urlpattern_matcher::regexp::RegExp;
 use urlpattern_matches::{pathname_texts, url_texts};
+use urlpattern_paths::match_with_path;
 use urlpattern_pattern::UrlPattern;
 use urlpattern_syntax::Error;
 use urlpattern_syntax::error::OutOfMemory;
@@ -86,7 +91,87 @@ impl<T, R: RegExp> UrlPatternRouter<T, R> {
         if !is_path(path) {
             return Err(PathError::NotAPath);
         }
-        Ok(self.at_texts(alloc, method, pathname_texts(path))?)
+        let mut hashes = AddressHashes::new();
+        match self.first_of_path(path, &mut hashes) {
+            Some(first) => self.at_path(alloc, method, path, &hashes, first),
+            None => Ok(Routed::NotFound),
+        }
+    }
+
+    /// Returns the index of the first route that may match a path, all other components being
+    /// empty, and fills `hashes` with those of the path. `None`: no route matches.
+    #[inline(always)]
+    fn first_of_path(&self, path: &str, hashes: &mut AddressHashes) -> Option<usize>
+        ensures hashes { hashes_view hashes.new
+            ≡ hashes_of (address_of (pathname_alone (chars path.now))) }
+        ensures first { IfSome result
+            (IsCandidate R.answer self.now.routes (pathname_alone (chars path.now))) }
+        ensures none { IfNone result (NoneMatches R.answer self.now.routes
+            (pathname_alone (chars path.now))) }
+    {
+        let texts = pathname_texts(path);
+        hashes.fill(Address {
+            protocol: texts.protocol,
+            hostname: texts.hostname,
+            pathname: texts.pathname,
+        });
+        self.routes.next_candidate(hashes, 0)
+    }
+
+    /// Returns what the router has for a request with this method and a path. `hashes` are those of
+    /// the path, and no route before the index `first` matches it.
+    #[inline(always)]
+    fn at_path<'m, 'u>(
+        &'m self,
+        alloc: Global,
+        method: &str,
+        path: &'u str,
+        hashes: &AddressHashes,
+        first: usize,
+    ) -> Result<Routed<'m, 'u, T, R>, PathError>
+        requires path { IsPath (chars path.now) }
+        requires hashes { hashes_view hashes.now
+            ≡ hashes_of (address_of (pathname_alone (chars path.now))) }
+        requires first { IsCandidate R.answer self.now.routes (pathname_alone (chars path.now))
+            first }
+        ensures routed { IfOk result
+            (IsRoutedPath R.answer self.now (chars method.now) (chars path.now)) }
+        ensures refused { IfErr result
+            (IsRoutePathError R.answer self.now (chars method.now) (chars path.now)) }
+    {
+        let texts = pathname_texts(path);
+        match self.first_quickly(alloc, method, path, hashes, first) {
+            Quick::Served(index, value, pattern, groups) => {
+                let found = match_with_path(pattern, &texts, groups);
+                Ok(Routed::Found(index, value, found))
+            }
+            Quick::NotFound => Ok(Routed::NotFound),
+            Quick::Unknown => self.at_path_slowly(alloc, method, path, hashes, first),
+        }
+    }
+
+    /// Returns what the router has for a request with this method and a path, as `at_path` does,
+    /// without reading the path by parts first.
+    #[inline(never)]
+    fn at_path_slowly<'m, 'u>(
+        &'m self,
+        alloc: Global,
+        method: &str,
+        path: &'u str,
+        hashes: &AddressHashes,
+        first: usize,
+    ) -> Result<Routed<'m, 'u, T, R>, PathError>
+        requires path { IsPath (chars path.now) }
+        requires hashes { hashes_view hashes.now
+            ≡ hashes_of (address_of (pathname_alone (chars path.now))) }
+        requires first { IsCandidate R.answer self.now.routes (pathname_alone (chars path.now))
+            first }
+        ensures routed { IfOk result
+            (IsRoutedPath R.answer self.now (chars method.now) (chars path.now)) }
+        ensures refused { IfErr result
+            (IsRoutePathError R.answer self.now (chars method.now) (chars path.now)) }
+    {
+        Ok(self.at_candidate(alloc, method, pathname_texts(path), hashes, first)?)
     }
 
     /// Returns the first route that serves this method and whose pattern matches the URL. Case

@@ -13,7 +13,7 @@ use urlpattern_components::Eight;
 use urlpattern_index::{Address, AddressHashes};
 use urlpattern_matcher::regexp::RegExp;
 use urlpattern_matches::{UrlPatternCaptures, UrlPatternResult};
-use urlpattern_pattern::match_of_texts;
+use urlpattern_paths::match_by_parts;
 use urlpattern_syntax::Error;
 use urlpattern_syntax::error::OutOfMemory;
 
@@ -112,7 +112,7 @@ impl<R: RegExp> UrlPatternList<R> {
         let mut found = Some(index);
         while let Some(index) = found {
             let pattern = &self.patterns[index];
-            if let Some(captures) = match_of_texts(alloc, pattern, texts)? {
+            if let Some(captures) = match_by_parts(alloc, pattern, texts)? {
                 return Ok(Some((index, captures)));
             }
             found = self.next_candidate(hashes, index + 1);

@@ -12,7 +12,7 @@ use urlpattern_components::Eight;
 use urlpattern_index::AddressHashes;
 use urlpattern_matcher::regexp::RegExp;
 use urlpattern_matches::UrlPatternCaptures;
-use urlpattern_pattern::match_of_texts;
+use urlpattern_paths::match_by_parts;
 use urlpattern_syntax::error::OutOfMemory;
 
 impl<T, R: RegExp> UrlPatternRouter<T, R> {
@@ -82,7 +82,7 @@ impl<T, R: RegExp> UrlPatternRouter<T, R> {
     }
 
     /// Whether the method is `HEAD`, and is served by routes for `GET`.
-    fn is_head(&self, method: &str) -> bool
+    pub(super) fn is_head(&self, method: &str) -> bool
         ensures { IsTrue result ↔ IsHead self.now (chars method.now) }
     {
         if !self.head_as_get {
@@ -150,7 +150,7 @@ impl<T, R: RegExp> UrlPatternRouter<T, R> {
         if !route.takes(method) {
             return Ok(None);
         }
-        match match_of_texts(alloc, pattern, texts)? {
+        match match_by_parts(alloc, pattern, texts)? {
             Some(captures) => Ok(Some((&route.value, captures))),
             None => Ok(None),
         }
