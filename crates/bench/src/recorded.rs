@@ -108,6 +108,10 @@ pub enum Operation {
     Within,
     /// Finds the rules of a policy that never decide.
     Dead,
+    /// Reads a policy from a text, and writes it.
+    PolicyText,
+    /// Reads a policy from JSON, and writes it.
+    PolicyJson,
     /// Decides which components of a pattern have a meaning.
     Meaning,
     /// Writes a plain value as JSON that was parsed from JSON.
@@ -147,6 +151,8 @@ pub const OPERATIONS: &[(&str, Operation)] = &[
     ("difference", Operation::Difference),
     ("within", Operation::Within),
     ("dead", Operation::Dead),
+    ("policy_text", Operation::PolicyText),
+    ("policy_json", Operation::PolicyJson),
     ("meaning", Operation::Meaning),
     ("json", Operation::Json),
     ("equal", Operation::Equal),

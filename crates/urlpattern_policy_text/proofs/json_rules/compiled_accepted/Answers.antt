@@ -1,0 +1,17 @@
+use Rattle.std.proofs.Common.{[], inr, subst, sym}
+use Rattle.urlpattern_compile.proofs.DiagnosisLemmas.{is_other}
+use Rattle.urlpattern_compile.specs.Compiled.{RejectsInit}
+use Rattle.urlpattern_diagnosis.specs.declared.diagnosis.Subject.TheVariants as subjects
+use Rattle.urlpattern_policy_text.proofs.DiagnosisLemmas.{shown_whole}
+use Rattle.urlpattern_policy_text.specs.PolicyTexts.{rule_options}
+use Rattle.urlpattern_syntax.specs.Errors.{error_view}
+use Rattle.urlpattern_syntax.specs.declared.error.Error.{Error}
+use Rattle.urlpattern_policy_text.proofs.json_rules.compiled_accepted.Goals as goal
+
+pub returns-in-Err-clause-rejected : goal.returns-in-Err-clause-rejected
+returns-in-Err-clause-rejected g c =
+    let rejected = is_other (RejectsInit g.R.RegExp c.args.made rule_options) c.in-Err.error c.in_ok-error.error c.in-Err.ensures.refused c.in_ok-error.ensures in
+    let shown = c.in_ok-diagnosis.ensures in (
+      subst (λ (error : Error). RejectsInit g.R.RegExp c.args.made rule_options (error_view error)) (sym shown.error) rejected,
+      inr (c.requires, shown_whole subjects.Whole [] c.in_ok-diagnosis.diagnosis shown.subject shown.text shown.fault shown.within),
+    )
