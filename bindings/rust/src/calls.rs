@@ -151,7 +151,6 @@ pub(crate) fn pushed(
             start,
             end,
         }),
-        c::NO_MATCH => Err(Error::NameTaken),
         c::NO_URL => Err(Error::RefusedBase),
         _ => Err(Error::OutOfMemory),
     }

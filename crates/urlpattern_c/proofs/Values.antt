@@ -25,10 +25,7 @@ use Rattle.std.proofs.cell.Inside.{Good}
 use Rattle.std.specs.Box.Ownership.{box_owns}
 use Rattle.std.proofs.ResultValues.{and_tt}
 use Rattle.std.specs.Prelude.{IsSome, Option, None, Some}
-use Rattle.urlpattern_c.specs.Memory.{Kept, kept_patterns_box, kept_policy_box, kept_router_box, leads_to}
-use Rattle.urlpattern_ffi.specs.declared.pattern_box.PatternBox.{PatternBox}
-use Rattle.urlpattern_ffi_tables.specs.declared.policy_box.PolicyBox.{PolicyBox}
-use Rattle.urlpattern_ffi_tables.specs.declared.router_box.RouterBox.{RouterBox}
+use Rattle.urlpattern_c.specs.Memory.{leads_to}
 use Rattle.urlpattern_c.specs.contracts.box_parts.BoxParts as parts
 use Rattle.urlpattern_c.specs.contracts.slot.Slot as slot
 
@@ -64,38 +61,24 @@ module _ (R Z : RattleType) (L : Laws Z) (g : Ghosts Z.Denot) where
 abbrev pub single : Val → Val
 single v = vstruct (vcons v vnil)
 
-abbrev pub Slot : RattleType
-Slot = slot.the_row
+module _ (R : RattleType) where
+  abbrev pub Slot : RattleType
+  Slot = slot.the_row R
 
-pub slot_good : (p : Ptr) → Good (layout Slot) (single (ptr_val p))
-slot_good (block_ptr b o) = (tt, (tt, tt))
-slot_good null_ptr = (tt, (record { fits = lit< tt }, tt))
+  pub slot_good : (p : Ptr) → Good (layout Slot) (single (ptr_val p))
+  slot_good (block_ptr b o) = (tt, (tt, tt))
+  slot_good null_ptr = (tt, (record { fits = lit< tt }, tt))
 
--- What a slot has that has patterns.
-pub filled_patterns : (held : Option Kept) → IsSome (kept_patterns_box held) → (kept : PatternBox) × (held ≡ Some (inl kept))
-filled_patterns None none = absurd cc
-filled_patterns (Some (inl kept)) some = (kept, refl)
-filled_patterns (Some (inr other)) none = absurd cc
+  -- What a slot has that is not empty.
+  pub filled : (held : Option R.Denot) → IsSome held → (kept : R.Denot) × (held ≡ Some kept)
+  filled None none = absurd cc
+  filled (Some kept) some = (kept, refl)
 
--- What a slot has that has a router.
-pub filled_router : (held : Option Kept) → IsSome (kept_router_box held) → (kept : RouterBox) × (held ≡ Some (inr (inl kept)))
-filled_router None none = absurd cc
-filled_router (Some (inl patterns)) none = absurd cc
-filled_router (Some (inr (inl kept))) some = (kept, refl)
-filled_router (Some (inr (inr policy))) none = absurd cc
+  module _ {M : Type 1} {𝓤 : Ura M} {𝓛 : Logic 𝓤} {K : Type 0} {Γ : List (Item 𝓤)} {G : Goal 𝓤 𝓛.H} where
+    pub slot_out : K → (d : Slot.Denot) (vs : List Val) → (vs ≡ single (ptr_val d.at) ∷ [] → Seq K 𝓛 (‵ (leads_to R d.at d.held) ∷ Γ) G) → Seq K 𝓛 (‵ (Slot.own_val d vs) ∷ Γ) G
+    slot_out t d vs k = fsplit t $ fpick t (λ vss. fsplit t $ feq_l t (λ ev. fsplit t $ feq_l t (λ ep. drop t $ k (subst (λ (ps : List Val). vs ≡ vstruct (of_list (ps ++ [])) ∷ []) ep ev))))
 
--- What a slot has that has a policy.
-pub filled_policy : (held : Option Kept) → IsSome (kept_policy_box held) → (kept : PolicyBox) × (held ≡ Some (inr (inr kept)))
-filled_policy None none = absurd cc
-filled_policy (Some (inl patterns)) none = absurd cc
-filled_policy (Some (inr (inl router))) none = absurd cc
-filled_policy (Some (inr (inr kept))) some = (kept, refl)
-
-module _ {M : Type 1} {𝓤 : Ura M} {𝓛 : Logic 𝓤} {K : Type 0} {Γ : List (Item 𝓤)} {G : Goal 𝓤 𝓛.H} where
-  pub slot_out : K → (d : Slot.Denot) (vs : List Val) → (vs ≡ single (ptr_val d.at) ∷ [] → Seq K 𝓛 (‵ (leads_to d.at d.held) ∷ Γ) G) → Seq K 𝓛 (‵ (Slot.own_val d vs) ∷ Γ) G
-  slot_out t d vs k = fsplit t $ fpick t (λ vss. fsplit t $ feq_l t (λ ev. fsplit t $ feq_l t (λ ep. drop t $ k (subst (λ (ps : List Val). vs ≡ vstruct (of_list (ps ++ [])) ∷ []) ep ev))))
-
-  pub slot_in : K → (p : Ptr) (x : Option Kept) → Step K 𝓛 (‵ (Slot.own_val (record { at = p; held = x }) (single (ptr_val p) ∷ [])) ∷ Γ) G (‵ (leads_to p x) ∷ Γ) G
-  slot_in t p x = step (λ s. let v : Val = single (ptr_val p) in
-      nothing t $ feq_i t (List Val) (ptr_val p ∷ []) (ptr_val p ∷ []) refl $ fjoin t $ feq_i t (List Val) (v ∷ []) (v ∷ []) refl $ fjoin t $
-      fpack t (Valss (RawPtr ∷ [])) (within (shape slot.the_type) (p, tt) (v ∷ [])) (ptr_val p ∷ [], tt) $ fjoin t $ s)
+    pub slot_in : K → (p : Ptr) (x : Option R.Denot) → Step K 𝓛 (‵ (Slot.own_val (record { at = p; held = x }) (single (ptr_val p) ∷ [])) ∷ Γ) G (‵ (leads_to R p x) ∷ Γ) G
+    slot_in t p x = step (λ s. let v : Val = single (ptr_val p) in
+        nothing t $ feq_i t (List Val) (ptr_val p ∷ []) (ptr_val p ∷ []) refl $ fjoin t $ feq_i t (List Val) (v ∷ []) (v ∷ []) refl $ fjoin t $
+        fpack t (Valss (RawPtr ∷ [])) (within (shape (slot.the_type R)) (p, tt) (v ∷ [])) (ptr_val p ∷ [], tt) $ fjoin t $ s)

@@ -1,42 +1,11 @@
 -- The memory that a handle points to.
-use Rattle.std.specs.Prelude.{◌⊎◌, Option, None, Some}
+use Rattle.std.specs.Prelude.{Option, None, Some}
 use Rattle.std.specs.Box.Ownership.{box_owns}
-use Rattle.std.specs.Coded.{Coded, coded_option, coded⊎}
 use Rattle.std.specs.Global.{Global}
 use Rattle.std.specs.contracts.impls.GlobalAllocator.TheImpl.{ghosts}
 use base.Fml.{Fml, ftrue}
 use denote.RawPtr.{Ptr}
-use mathlib.Core.Logic.{inl, inr}
-use Rattle.urlpattern_ffi.specs.contracts.pattern_box.PatternBox.{the_row as PatternsRow}
-use Rattle.urlpattern_ffi.specs.declared.pattern_box.PatternBox.{PatternBox}
-use Rattle.urlpattern_ffi_tables.specs.contracts.policy_box.PolicyBox.{the_row as PolicyRow}
-use Rattle.urlpattern_ffi_tables.specs.contracts.router_box.RouterBox.{the_row as RouterRow}
-use Rattle.urlpattern_ffi_tables.specs.declared.policy_box.PolicyBox.{PolicyBox}
-use Rattle.urlpattern_ffi_tables.specs.declared.router_box.RouterBox.{RouterBox}
-
--- What a handle keeps: patterns, a router, or a policy.
-abbrev pub Kept : Type 0
-Kept = PatternBox ⊎ RouterBox ⊎ PolicyBox
-
--- How the logic stores what is kept.
-abbrev pub coded_kept : Coded (Option Kept)
-coded_kept =
-    coded_option (coded⊎ PatternsRow.coded (coded⊎ RouterRow.coded PolicyRow.coded))
-
--- The patterns, if that is what is kept.
-abbrev pub kept_patterns_box : Option Kept → Option PatternBox
-kept_patterns_box (Some (inl patterns)) = Some patterns
-kept_patterns_box kept = None
-
--- The router, if that is what is kept.
-abbrev pub kept_router_box : Option Kept → Option RouterBox
-kept_router_box (Some (inr (inl router))) = Some router
-kept_router_box kept = None
-
--- The policy, if that is what is kept.
-abbrev pub kept_policy_box : Option Kept → Option PolicyBox
-kept_policy_box (Some (inr (inr policy))) = Some policy
-kept_policy_box kept = None
+use denote.RattleType.{RattleType}
 
 -- The allocator of all handles: the heap of the C library.
 abbrev pub heap : Global
@@ -44,8 +13,6 @@ heap = record { memory = record { seal = tt } }
 
 -- The memory that a pointer owns. `Some`: the pointer leads to what is kept, owns it, and has the
 -- right to free its memory. `None`: it owns nothing.
-abbrev pub leads_to : Ptr → Option Kept → Fml
-leads_to at None = ftrue
-leads_to at (Some (inl patterns)) = box_owns (ghosts.dealloc_token heap) PatternsRow at patterns
-leads_to at (Some (inr (inl router))) = box_owns (ghosts.dealloc_token heap) RouterRow at router
-leads_to at (Some (inr (inr policy))) = box_owns (ghosts.dealloc_token heap) PolicyRow at policy
+abbrev pub leads_to : (R : RattleType) → Ptr → Option R.Denot → Fml
+leads_to R at None = ftrue
+leads_to R at (Some kept) = box_owns (ghosts.dealloc_token heap) R at kept

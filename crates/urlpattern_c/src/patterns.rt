@@ -1,6 +1,5 @@
 //! The handle with patterns that C keeps.
 ghost use Rattle.std.specs.Prelude.{◌≡◌, ◌==◌, is_some};
-ghost use Rattle.urlpattern_c.specs.Memory.{kept_patterns_box};
 
 use crate::box_parts::BoxParts;
 use crate::slot::Slot;
@@ -18,8 +17,8 @@ const MADE: u32 = 2000;
 pub struct Patterns {
     /// `MADE` if the slot has patterns, and else any other number.
     made_by: u32,
-    pub(crate) slot: Slot,
-    ghost agrees: { (made_by == 2000) ≡ is_some (kept_patterns_box slot.held) },
+    pub(crate) slot: Slot<PatternBox>,
+    ghost agrees: { (made_by == 2000) ≡ is_some slot.held },
 }
 
 impl Patterns {
@@ -44,7 +43,7 @@ impl Patterns {
     {
         let Patterns { made_by, slot } = mem::replace(self, Patterns::empty());
         if made_by == MADE {
-            Some(slot.into_patterns(alloc).into_box())
+            Some(slot.into_parts(alloc).into_box())
         } else {
             None
         }
@@ -57,7 +56,7 @@ impl Patterns {
         *self = match kept {
             Some(kept) => Patterns {
                 made_by: MADE,
-                slot: Slot::of_patterns(BoxParts::of(kept)),
+                slot: Slot::of(BoxParts::of(kept)),
             },
             None => Patterns::empty(),
         };

@@ -1,6 +1,5 @@
 //! The handle with a policy that C keeps.
 ghost use Rattle.std.specs.Prelude.{◌≡◌, ◌==◌, is_some};
-ghost use Rattle.urlpattern_c.specs.Memory.{kept_policy_box};
 
 use crate::box_parts::BoxParts;
 use crate::slot::Slot;
@@ -18,8 +17,8 @@ const MADE: u32 = 2_002_000;
 pub struct Policy {
     /// `MADE` if the slot has a policy, and else any other number.
     made_by: u32,
-    pub(crate) slot: Slot,
-    ghost agrees: { (made_by == 2002000) ≡ is_some (kept_policy_box slot.held) },
+    pub(crate) slot: Slot<PolicyBox>,
+    ghost agrees: { (made_by == 2002000) ≡ is_some slot.held },
 }
 
 impl Policy {
@@ -44,7 +43,7 @@ impl Policy {
     {
         let Policy { made_by, slot } = mem::replace(self, Policy::empty());
         if made_by == MADE {
-            Some(slot.into_policy(alloc).into_box())
+            Some(slot.into_parts(alloc).into_box())
         } else {
             None
         }
@@ -57,7 +56,7 @@ impl Policy {
         *self = match kept {
             Some(kept) => Policy {
                 made_by: MADE,
-                slot: Slot::of_policy(BoxParts::of(kept)),
+                slot: Slot::of(BoxParts::of(kept)),
             },
             None => Policy::empty(),
         };

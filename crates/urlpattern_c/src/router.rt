@@ -1,6 +1,5 @@
 //! The handle with a router that C keeps.
 ghost use Rattle.std.specs.Prelude.{◌≡◌, ◌==◌, is_some};
-ghost use Rattle.urlpattern_c.specs.Memory.{kept_router_box};
 
 use crate::box_parts::BoxParts;
 use crate::slot::Slot;
@@ -18,8 +17,8 @@ const MADE: u32 = 1_002_000;
 pub struct Router {
     /// `MADE` if the slot has a router, and else any other number.
     made_by: u32,
-    pub(crate) slot: Slot,
-    ghost agrees: { (made_by == 1002000) ≡ is_some (kept_router_box slot.held) },
+    pub(crate) slot: Slot<RouterBox>,
+    ghost agrees: { (made_by == 1002000) ≡ is_some slot.held },
 }
 
 impl Router {
@@ -44,7 +43,7 @@ impl Router {
     {
         let Router { made_by, slot } = mem::replace(self, Router::empty());
         if made_by == MADE {
-            Some(slot.into_router(alloc).into_box())
+            Some(slot.into_parts(alloc).into_box())
         } else {
             None
         }
@@ -57,7 +56,7 @@ impl Router {
         *self = match kept {
             Some(kept) => Router {
                 made_by: MADE,
-                slot: Slot::of_router(BoxParts::of(kept)),
+                slot: Slot::of(BoxParts::of(kept)),
             },
             None => Router::empty(),
         };

@@ -1,31 +1,28 @@
 //! The pointer in a handle of C, to what the handle keeps.
 ghost use Rattle.std.specs.Prelude.{◌≡◌, IsSome, Option, None, Some};
-ghost use Rattle.urlpattern_c.specs.Memory.{Kept, coded_kept, kept_patterns_box, kept_policy_box, kept_router_box};
 
 use crate::box_parts::BoxParts;
 use std::alloc::Global;
 use std::marker::Model;
 use std::ptr;
-use urlpattern_ffi::PatternBox;
-use urlpattern_ffi_tables::{PolicyBox, RouterBox};
 
 /// A pointer to what a handle keeps, or a null pointer.
 #[repr(C)]
 #[derive(Drop)]
-pub struct Slot {
-    at: *mut u8,
-    pub(crate) ghost held: { Option Kept } by { coded_kept },
+pub struct Slot<T> {
+    at: *mut T,
+    pub(crate) ghost held: { Option T },
 }
 
-impl Model for Slot {
+impl<T> Model for Slot<T> {
     ghost use Rattle.urlpattern_c.specs.Memory.{leads_to};
 
-    ghost also_owns = { λ slot. leads_to slot.at slot.held };
+    ghost also_owns = { λ slot. leads_to T.row slot.at slot.held };
 }
 
-impl Slot {
+impl<T: Drop> Slot<T> {
     /// Returns a null pointer.
-    pub(crate) fn empty() -> Slot
+    pub(crate) fn empty() -> Slot<T>
         ensures { result.held ≡ None }
     {
         Slot {
@@ -33,65 +30,22 @@ impl Slot {
         }
     }
 
-    /// Returns the pointer of a box that was taken apart. The slot owns the patterns.
-    pub(crate) fn of_patterns(parts: BoxParts<PatternBox, Global>) -> Slot
-        ensures { kept_patterns_box result.held ≡ Some parts.value }
+    /// Returns the pointer of a box that was taken apart. The slot owns the value.
+    pub(crate) fn of(parts: BoxParts<T, Global>) -> Slot<T>
+        ensures { result.held ≡ Some parts.value }
     {
         let BoxParts { at, alloc: _ } = parts;
-        Slot { at: at as *mut u8 }
+        Slot { at }
     }
 
-    /// Returns the pointer of a box that was taken apart. The slot owns the router.
-    pub(crate) fn of_router(parts: BoxParts<RouterBox, Global>) -> Slot
-        ensures { kept_router_box result.held ≡ Some parts.value }
-    {
-        let BoxParts { at, alloc: _ } = parts;
-        Slot { at: at as *mut u8 }
-    }
-
-    /// Returns the pointer of a box that was taken apart. The slot owns the policy.
-    pub(crate) fn of_policy(parts: BoxParts<PolicyBox, Global>) -> Slot
-        ensures { kept_policy_box result.held ≡ Some parts.value }
-    {
-        let BoxParts { at, alloc: _ } = parts;
-        Slot { at: at as *mut u8 }
-    }
-
-    /// Returns the parts of the box with the patterns, given the allocator that made the box.
-    pub(crate) fn into_patterns(self, alloc: Global) -> BoxParts<PatternBox, Global>
-        requires { IsSome (kept_patterns_box self.held) }
-        ensures { kept_patterns_box self.held ≡ Some result.value }
+    /// Returns the parts of the box, given the allocator that made the box.
+    pub(crate) fn into_parts(self, alloc: Global) -> BoxParts<T, Global>
+        requires { IsSome self.held }
+        ensures { self.held ≡ Some result.value }
     {
         let Slot { at } = self;
-        BoxParts {
-            at: at as *mut PatternBox,
-            alloc,
-        }
-    }
-
-    /// Returns the parts of the box with the router, given the allocator that made the box.
-    pub(crate) fn into_router(self, alloc: Global) -> BoxParts<RouterBox, Global>
-        requires { IsSome (kept_router_box self.held) }
-        ensures { kept_router_box self.held ≡ Some result.value }
-    {
-        let Slot { at } = self;
-        BoxParts {
-            at: at as *mut RouterBox,
-            alloc,
-        }
-    }
-
-    /// Returns the parts of the box with the policy, given the allocator that made the box.
-    pub(crate) fn into_policy(self, alloc: Global) -> BoxParts<PolicyBox, Global>
-        requires { IsSome (kept_policy_box self.held) }
-        ensures { kept_policy_box self.held ≡ Some result.value }
-    {
-        let Slot { at } = self;
-        BoxParts {
-            at: at as *mut PolicyBox,
-            alloc,
-        }
+        BoxParts { at, alloc }
     }
 }
 
-unsafe impl Send for Slot {}
+unsafe impl<T: Send> Send for Slot<T> {}

@@ -1,16 +1,18 @@
 -- `empty` writes a null pointer.
 use Rattle.std.proofs.Common.{◌≡◌, [], ◌∷◌, refl}
 use Rattle.std.specs.Prelude.{None}
+use mir.Syntax.{a_type, dcons, dnil}
+use mir.MapTy.{inst_fn}
+use denote.Param.{param, bounded}
 use mir.Val.{Val}
 use base.Logic.{SProp, emp}
-use base.Fml.{ftrue}
 use types.Kit.{‵, raw, ◌⊛◌, ◌$◌, ◌∵◌, !, qed, by, keep, split, use0}
 use types.Run.{lit, no_more, and_then, returns, enter}
 use types.ByLocal.{alloc_all, pass_all, free_all, look_at, sets}
 use types.Part.{agg}
 use contract.Monad.{fact, fact_i}
 use contract.Running.{tables}
-use denote.RattleType.{owns}
+use denote.RattleType.{RattleType, owns}
 use denote.Signature.{types_at}
 use denote.RawPtr.{null_ptr, ptr_val}
 use denote.Steps.{nothing}
@@ -24,14 +26,14 @@ use Rattle.urlpattern_c.proofs.slot.Slot.empty.Statement.{statement}
 use Rattle.urlpattern_c.proofs.slot.Slot.empty.Code as code
 
 pub empty_spec : {M : Type 1} → statement M
-empty_spec 𝓤 𝓛 𝓜 𝓡 wired =
-    let H = 𝓛.H in let 𝓣 = tables 𝓤 H 𝓜 𝓡 𝓡.env in let c = clauses 𝓛 𝓜.mem 𝓡.returns in let hs : Stays ended.signature.params ended.kept = tt in
-    proved_at 𝓛 ended hs c 𝓜 𝓡 tt #self code.function (code.unfolded 𝓤 H 𝓜 𝓡 wired) (λ z are.
-    let Post : Val → SProp 𝓤 = (walk_of 𝓛 ended hs c).post z in
-    qed 𝓛 ((raw (alive 𝓛 ended.signature z.0.0 z.0.1) ⊛ ‵ (owns (types_at ended.signature.params z.0.0) z.0.3 z.0.4)) ∷ ‵ ftrue ∷ []) ∵ split ! $
-    enter ! 𝓣.C 𝓣.Λ code.function [] Post $ alloc_all ! (λ l. pass_all ! refl tt $
-    sets ! (agg ! (and_then ! (lit ! tt) (no_more !))) refl (slot_good null_ptr) $
-    nothing ! $ slot_in ! null_ptr None $ use0 𝓛 (raw (fact 𝓤 (None ≡ None))) (fact_i 𝓤 (None ≡ None) (emp 𝓤) refl) $
+empty_spec 𝓤 𝓛 𝓜 𝓡 wired T L dx glue =
+    let H = 𝓛.H in let 𝓣 = tables 𝓤 H 𝓜 𝓡 𝓡.env in let R : RattleType = param 0 T in let En = ended T dx in let c = clauses T dx 𝓛 𝓜.mem 𝓡.returns in let gs = bounded (a_type ∷ []) (T, tt) (dcons dx dnil) in let fn = inst_fn gs code.function in let hs : Stays En.signature.params En.kept = tt in
+    proved_at 𝓛 En hs c 𝓜 𝓡 tt (#self gs) fn (code.unfolded 𝓤 H 𝓜 𝓡 wired (T, tt) dx) (λ z are.
+    let Post : Val → SProp 𝓤 = (walk_of 𝓛 En hs c).post z in
+    qed 𝓛 ((raw (alive 𝓛 En.signature z.0.0 z.0.1) ⊛ ‵ (owns (types_at En.signature.params z.0.0) z.0.3 z.0.4)) ∷ raw ((c z.0.0 z.0.3).requires z.1) ∷ []) ∵ split ! $
+    enter ! 𝓣.C 𝓣.Λ fn [] Post $ alloc_all ! (λ l. pass_all ! refl tt $
+    sets ! (agg ! (and_then ! (lit ! tt) (no_more !))) refl (slot_good R null_ptr) $
+    nothing ! $ slot_in R ! null_ptr None $ use0 𝓛 (raw (fact 𝓤 (None ≡ None))) (fact_i 𝓤 (None ≡ None) (emp 𝓤) refl) $
     -- [the fact; the slot; the tokens; nothing; ..].
     returns ! (look_at ! 0 refl) $ free_all ! refl $ keep ! (2 ∷ 3 ∷ 1 ∷ 0 ∷ []) $
-    by ! (leaves 𝓛 ended hs c z (single (ptr_val null_ptr)) (record { at = null_ptr; held = None }) tt tt)))
+    by ! (leaves 𝓛 En hs c z (single (ptr_val null_ptr)) (record { at = null_ptr; held = None }) tt tt)))
