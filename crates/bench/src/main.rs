@@ -23,6 +23,7 @@ mod policies;
 mod recorded;
 mod replay;
 mod report;
+mod routes;
 mod rules;
 mod texts;
 mod tokens;
