@@ -5,7 +5,7 @@ import pathlib
 import pickle
 import unittest
 
-from test_urlpattern import CALLS, wrong_answers
+from samples import CALLS, wrong_answers
 from urlpattern import Decision, URLPattern, URLPatternError, URLPolicy
 
 ROWS = pathlib.Path(__file__).parents[2] / "crates/bench/data/policies.jsonl"

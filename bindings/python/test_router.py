@@ -5,7 +5,7 @@ import pathlib
 import pickle
 import unittest
 
-from test_urlpattern import CALLS, in_threads, wrong_answers
+from samples import CALLS, in_threads, wrong_answers
 from urlpattern import MethodNotAllowed, RouteMatch, URLPattern, URLPatternError, URLPatternRouter
 
 # The routes of a router, and requests.

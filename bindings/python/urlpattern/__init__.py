@@ -24,8 +24,9 @@ from __future__ import annotations
 from typing import Tuple
 
 from ._library import calls as _calls
+from ._list import URLPatternList
 from ._match import Match
-from ._patterns import URLPattern, URLPatternList
+from ._pattern import URLPattern
 from ._policy import Decision, URLPolicy
 from ._router import MethodNotAllowed, RouteMatch, URLPatternRouter
 from ._texts import Groups, Init, URLPatternError

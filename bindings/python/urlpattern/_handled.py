@@ -3,11 +3,11 @@ from __future__ import annotations
 
 import ctypes
 import json
-from typing import Any, Dict, Iterable, List, Mapping, Optional, Tuple, cast
+from typing import Any, Dict, Iterable, List, Mapping, Optional, Tuple, TypeVar, cast
 
 from ._library import (
-    COMPONENTS, DONE, LOCK, NO_PATTERN, NO_URL, REASONS, REFUSED, SIZE, SPAN, UNKNOWN,
-    Call, Handle, calls, checked, matched, written,
+    COMPONENTS, DONE, FREE, LOCK, NO_PATTERN, NO_URL, REASONS, REFUSED, SIZE, SPAN, SPAN_SIZE,
+    TOO_SMALL, UNKNOWN, Call, Handle, Memory, calls, checked, matched, memory, written,
 )
 from ._match import Match
 from ._texts import (
@@ -16,6 +16,11 @@ from ._texts import (
 
 _test, _exec = calls.test, calls.exec
 _captures, _first_captures = calls.captures, calls.first_captures
+
+# Makes an object without its `__init__`, which takes longer than to set what it has.
+_new = object.__new__
+
+Found = TypeVar("Found", bound=Match)
 
 
 def _is_init(url: Any) -> bool:
@@ -62,6 +67,17 @@ class Handled:
         self._handle = handle
         self._address = ctypes.byref(handle)
         self._names: Dict[int, List[Tuple[str, str]]] = {}
+
+    def _found(self, match: Found, index: int, room: Memory) -> Found:
+        """The match, which is that of this index, as a call wrote it. Leaves the memory to later
+        calls."""
+        sizes = room.sizes
+        text, spans = room.text[: sizes.bytes], room.spans[: sizes.spans * SPAN_SIZE]
+        if room.is_kept:
+            FREE.append(room)
+        match.index = index
+        match._found = self._names.get(index) or self._names_of(index, spans), text, spans
+        return match
 
     def _names_of(self, index: int, spans: bytes) -> List[Tuple[str, str]]:
         """The components and the names of the groups of a match."""
@@ -130,10 +146,14 @@ class Patterns(Handled):
             call, texts = calls.first_captures_of_init, init_text(url, base, path)
         else:
             call, texts = _first_captures, url_texts(url, base, path)
-        status, index, text, spans = matched(call, "for_first", self._address, *texts)
-        if status == NO_PATTERN or not checked(status):
-            return None
-        return Match(index, (self._names.get(index) or self._names_of(index, spans), text, spans))
+        status, room = matched(call, self._address, *texts)
+        if status == DONE:
+            index = room.number.value
+            return self._found(_new(Match), index, room)
+        room.leave()
+        if status != NO_PATTERN:
+            checked(status)
+        return None
 
     def first_captures(
         self, url: Optional[Input] = None, base: Optional[str] = None, *, path: Optional[str] = None
@@ -208,15 +228,20 @@ class Patterns(Handled):
         self, index: int, url: Optional[Input], base: Optional[str], path: Optional[str]
     ) -> Optional[Match]:
         """The match of the pattern of this index, or None."""
-        if isinstance(url, str) or not _is_init(url):
-            call, texts = _captures, url_texts(url, base, path)
-        else:
+        if _is_init(url):
             call, texts = calls.captures_of_init, init_text(url, base, path)
-        status, _, text, spans = matched(call, "for_match", self._address, SIZE[index], *texts)
-        if status != DONE:
-            checked(status)
-            return None
-        return Match(index, (self._names.get(index) or self._names_of(index, spans), text, spans))
+        else:
+            call, texts = _captures, url_texts(url, base, path)
+        room = memory()
+        status = call(self._address, SIZE[index], *texts, *room.for_match)
+        while status == TOO_SMALL:
+            room = room.larger()
+            status = call(self._address, SIZE[index], *texts, *room.for_match)
+        if status == DONE:
+            return self._found(_new(Match), index, room)
+        room.leave()
+        checked(status)
+        return None
 
     def link(self, index: int, groups: Iterable[Tuple[str, str, Optional[str]]]) -> str:
         """The URL that the pattern of this index matches with these groups, each a tuple of the

@@ -137,6 +137,7 @@ class _Sizes(ctypes.Structure):
 # A span, as the header declares it: the component, whether the group took part, its number, and
 # where its text begins and how long it is.
 SPAN = struct.Struct("@IINNN")
+SPAN_SIZE = SPAN.size
 
 
 def _declared() -> Any:
@@ -204,9 +205,9 @@ class Memory:
 
     def __init__(self, size: int = ROOM, count: int = SPANS) -> None:
         self.text: Any = (ctypes.c_char * size)()
-        self.spans: Any = (ctypes.c_char * (count * SPAN.size))()
+        self.spans: Any = (ctypes.c_char * (count * SPAN_SIZE))()
         self.number, self.sizes = ctypes.c_size_t(), _Sizes()
-        self.is_kept = size + count * SPAN.size <= KEPT
+        self.is_kept = size + count * SPAN_SIZE <= KEPT
         text, spans = ctypes.byref(self.text), ctypes.byref(self.spans)
         self.for_number = ctypes.byref(self.number)
         self.for_text = text, SIZE[size], self.for_number
@@ -217,6 +218,11 @@ class Memory:
         """Leaves the memory to later calls."""
         if self.is_kept:
             FREE.append(self)
+
+    def larger(self) -> Memory:
+        """Memory with the room that a match needs, as the call says that had this one."""
+        return Memory(max(self.sizes.bytes, ROOM), max(self.sizes.spans, SPANS))
+
 
 
 # Memory that no call has.
@@ -258,20 +264,15 @@ def written(function: Call, *arguments: Any) -> Tuple[int, str]:
     return status, text
 
 
-def matched(function: Call, kind: str, *arguments: Any) -> Tuple[int, int, bytes, bytes]:
-    """Calls what writes a match, with as much room of this kind as it needs. Returns the status, the
-    index, the text and the spans, if they are written."""
+def matched(function: Call, *arguments: Any) -> Tuple[int, Memory]:
+    """Calls what writes the index and the groups of a match, with as much room as they need. Returns
+    the status, and the memory that has them, which is to be left or read."""
     room = memory()
-    status = function(*arguments, *getattr(room, kind))
+    status = function(*arguments, *room.for_first)
     while status == TOO_SMALL:
-        room = Memory(max(room.sizes.bytes, ROOM), max(room.sizes.spans, SPANS))
-        status = function(*arguments, *getattr(room, kind))
-    index, text, spans = 0, b"", b""
-    if status == DONE:
-        index, sizes = room.number.value, room.sizes
-        text, spans = room.text[: sizes.bytes], room.spans[: sizes.spans * SPAN.size]
-    room.leave()
-    return status, index, text, spans
+        room = room.larger()
+        status = function(*arguments, *room.for_first)
+    return status, room
 
 
 def decided(*arguments: Any) -> Tuple[int, int]:

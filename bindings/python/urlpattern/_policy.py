@@ -9,7 +9,7 @@ from ._handled import Handled
 from ._library import (
     ALLOW, DECISIONS, DONE, LOCK, NO_RULE, REFUSED, PolicyHandle, calls, checked, decided,
 )
-from ._patterns import URLPattern, source_of_pattern
+from ._pattern import URLPattern, source_of_pattern
 from ._texts import Init, Source, refusal, url_texts
 
 # What a policy decides apart from its rules, as long as nothing else is said: whether it allows a

@@ -11,7 +11,7 @@ from ._library import (
     Call, RouterHandle, calls, checked, matched, written,
 )
 from ._match import Match, Written
-from ._patterns import URLPattern, source_of_pattern
+from ._pattern import URLPattern, source_of_pattern
 from ._texts import Groups, Init, Source, encoded, refusal, url_texts
 
 Value = TypeVar("Value")
@@ -192,10 +192,13 @@ class URLPatternRouter(Handled, Generic[Value]):
     ) -> Union[RouteMatch[Value], MethodNotAllowed, None]:
         """What the router has for a request."""
         while True:
-            status, index, text, spans = matched(find, "for_first", self._address, *texts)
+            status, room = matched(find, self._address, *texts)
             if status == DONE:
-                found = self._names.get(index) or self._names_of(index, spans), text, spans
-                return RouteMatch(index, found, self._values[index])
+                index = room.number.value
+                match = self._found(RouteMatch.__new__(RouteMatch), index, room)
+                match.value = self._values[index]
+                return match
+            room.leave()
             if status != NOT_ALLOWED:
                 break
             status, methods = written(allowed, self._address, *texts)

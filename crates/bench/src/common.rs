@@ -1,5 +1,6 @@
 //! Finds texts that some patterns match, and others do not.
 
+use crate::common_urls::{is_same_reach, is_same_url};
 use crate::patterns::built;
 use crate::recorded::{Answer, Fault, field, has_text, list, named};
 use crate::rules::REASONS;
@@ -15,7 +16,7 @@ use urlpattern_pattern::UrlPattern;
 use urlpattern_syntax::Error;
 
 /// Limits that no question of the rows reaches.
-const LIMITS: Limits = Limits {
+pub const LIMITS: Limits = Limits {
     sets: 10_000,
     texts: 1_000,
 };
@@ -31,6 +32,9 @@ pub fn is_same_common(case: &Case<'_>) -> Result<bool, Fault> {
     let none_of = automata(case.alloc, list(case.question, "none_of")?)?;
     let all: Vec<&PatternAutomata> = all_of.iter().collect(case.alloc)?;
     let none: Vec<&PatternAutomata> = none_of.iter().collect(case.alloc)?;
+    if case.question.get("real").is_some() {
+        return is_same_url(case, &all, &none, recorded);
+    }
     let found = find_common(case.alloc, &all, &none, LIMITS)?;
     drop(all);
     drop(none);
@@ -57,6 +61,9 @@ pub fn is_same_together(case: &Case<'_>) -> Result<bool, Fault> {
     };
     let asked = PatternAutomata::new(case.alloc, parts)?;
     let all: Vec<&PatternAutomata> = patterns.iter().collect(case.alloc)?;
+    if case.question.get("real").is_some() {
+        return is_same_reach(case, &all, &asked, field(recorded, "by")?);
+    }
     let found = reach_of(case.alloc, &all, &asked, LIMITS);
     drop(all);
     drop(asked);
@@ -71,16 +78,21 @@ pub fn is_reach(found: &Reach, recorded: &Value) -> Result<bool, Fault> {
         Reach::First(_) => Ok(recorded.as_str() == Some("reached")),
         Reach::Unknown(_) => Ok(recorded.as_str() == Some("unknown")),
         Reach::Never(by) => {
-            let Some(expected) = recorded.as_array() else {
-                return Ok(false);
-            };
-            Ok(by.len() == expected.len()
-                && by
-                    .iter()
-                    .zip(expected)
-                    .all(|(index, expected)| expected.as_u64() == Some(*index as u64)))
+            Ok(are_indices(by, recorded))
         }
     }
+}
+
+/// Whether the indices are the recorded ones.
+pub fn are_indices(by: &[usize], recorded: &Value) -> bool {
+    let Some(expected) = recorded.as_array() else {
+        return false;
+    };
+    by.len() == expected.len()
+        && by
+            .iter()
+            .zip(expected)
+            .all(|(index, expected)| expected.as_u64() == Some(*index as u64))
 }
 
 /// The automata of patterns.
@@ -117,14 +129,20 @@ fn is_length(texts: &Eight<String>, recorded: &Value) -> bool {
 
 /// Whether each pattern of `all_of` matches the texts, and no pattern of `none_of` does.
 fn are_matched(case: &Case<'_>, texts: &Eight<String>) -> Result<bool, Fault> {
-    let texts = Eight::from_fn(|name: ComponentName| -> &str { texts.get(name).as_str() });
+    are_all_matched(case, &Eight::from_fn(|name: ComponentName| -> &str {
+        texts.get(name).as_str()
+    }))
+}
+
+/// Whether each pattern of `all_of` matches the texts, and no pattern of `none_of` does.
+pub fn are_all_matched(case: &Case<'_>, texts: &Eight<&str>) -> Result<bool, Fault> {
     for fields in list(case.question, "all_of")? {
-        if !is_matched(case.alloc, fields, &texts)? {
+        if !is_matched(case.alloc, fields, texts)? {
             return Ok(false);
         }
     }
     for fields in list(case.question, "none_of")? {
-        if is_matched(case.alloc, fields, &texts)? {
+        if is_matched(case.alloc, fields, texts)? {
             return Ok(false);
         }
     }

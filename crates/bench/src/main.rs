@@ -5,6 +5,7 @@
 mod calls;
 mod case;
 mod common;
+mod common_urls;
 mod compiled;
 mod components;
 mod constructors;
@@ -23,6 +24,7 @@ mod policies;
 mod recorded;
 mod replay;
 mod report;
+mod routes;
 mod rules;
 mod texts;
 mod tokens;

@@ -108,6 +108,8 @@ pub enum Operation {
     Within,
     /// Finds the rules of a policy that never decide.
     Dead,
+    /// Adds static routes, and decides about requests.
+    Routes,
     /// Decides which components of a pattern have a meaning.
     Meaning,
     /// Writes a plain value as JSON that was parsed from JSON.
@@ -147,6 +149,7 @@ pub const OPERATIONS: &[(&str, Operation)] = &[
     ("difference", Operation::Difference),
     ("within", Operation::Within),
     ("dead", Operation::Dead),
+    ("routes", Operation::Routes),
     ("meaning", Operation::Meaning),
     ("json", Operation::Json),
     ("equal", Operation::Equal),

@@ -1,5 +1,6 @@
 //! Calls for a browser: inputs as they are given, and patterns as plain data.
 
+use crate::{line_of, text};
 use std::alloc::Global;
 use std::borrow::CowStr;
 use url::Url;
@@ -20,6 +21,13 @@ pub fn plain_line(alloc: Global) -> Result<String, Error> {
     let options = UrlPatternOptions::default();
     let users: UrlPattern = parse_pattern::<EcmaRegexp>(alloc, init, options)?;
     // docs: end
+    let line = matcher_words(alloc, &users);
+    drop(users);
+    line
+}
+
+/// The regular expression of a pattern's path, and what its matcher compares a text with, in words.
+fn matcher_words(alloc: Global, users: &UrlPattern) -> Result<String, Error> {
     // docs: plain
     let path = &users.pathname;
     let expression = path.regexp_string.as_str();
@@ -31,7 +39,7 @@ pub fn plain_line(alloc: Global) -> Result<String, Error> {
         InnerMatcher::RegExp { regexp } => regexp.as_str(),
     };
     // docs: end
-    Ok(format!(in alloc; "{expression}: {matched}")?)
+    line_of(format!(in alloc; "{expression}: {matched}"))
 }
 
 /// The path among the eight texts of a URL, or words for a URL without texts.
@@ -41,19 +49,15 @@ pub fn texts_line(alloc: Global) -> Result<String, Error> {
     let texts = parse_match_input(alloc, UrlPatternMatchInput::Url(url))?;
     // docs: end
     match texts {
-        Some(texts) => Ok(format!(in alloc; "{}", texts.pathname)?),
-        None => Ok(format!(in alloc; "no texts")?),
+        Some(texts) => line_of(format!(in alloc; "{}", texts.pathname)),
+        None => text(alloc, "no texts"),
     }
 }
 
 /// The pattern text of the path of an init as a browser passes it, compiled under options that
 /// ignore case.
 pub fn init_line(alloc: Global) -> Result<String, Error> {
-    // docs: plain_init
-    let mut init = UrlPatternInit::default();
-    init.pathname = Some(String::from_str(alloc, "/:id")?);
-    init.base_url = Some(String::from_str(alloc, "https://example.com/users/")?);
-    // docs: end
+    let init = given_init(alloc)?;
     let init = process_construct_pattern_input(alloc, StringOrInit::Init(init), None)?;
     // docs: plain_options
     let options = UrlPatternOptions {
@@ -62,5 +66,17 @@ pub fn init_line(alloc: Global) -> Result<String, Error> {
     };
     // docs: end
     let pattern: UrlPattern = parse_pattern::<EcmaRegexp>(alloc, init, options)?;
-    Ok(format!(in alloc; "{}", pattern.pathname.pattern_string)?)
+    let line = text(alloc, pattern.pathname.pattern_string.as_str());
+    drop(pattern);
+    line
+}
+
+/// Returns an init as a browser passes it: a path, and a base URL.
+fn given_init(alloc: Global) -> Result<UrlPatternInit, Error> {
+    // docs: plain_init
+    let mut init = UrlPatternInit::default();
+    init.pathname = Some(String::from_str(alloc, "/:id")?);
+    init.base_url = Some(String::from_str(alloc, "https://example.com/users/")?);
+    // docs: end
+    Ok(init)
 }

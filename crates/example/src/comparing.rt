@@ -2,7 +2,7 @@
 //! list is dead, and what a change of a rule lets in. A pattern as one text, and a hash of its
 //! parts.
 
-use crate::{parts, pattern, text};
+use crate::{line_of, parts, pattern, text};
 use std::alloc::Global;
 use std::hash::{DefaultHasher, Hasher};
 use urlpattern::rules::{
@@ -20,6 +20,13 @@ pub fn covers_line(alloc: Global) -> Result<String, Error> {
         Ok(covering) => covering,
         Err(_) => return Err(Error::OutOfMemory),
     };
+    let line = covering_words(alloc, &covering);
+    drop(covering);
+    line
+}
+
+/// Whether a pattern covers another, in words.
+fn covering_words(alloc: Global, covering: &PatternCovering) -> Result<String, Error> {
     // docs: covering
     match covering {
         PatternCovering::Covered => Ok(format!(in alloc; "covered")?),
@@ -46,6 +53,13 @@ pub fn overlaps_line(alloc: Global) -> Result<String, Error> {
         Ok(overlap) => overlap,
         Err(_) => return Err(Error::OutOfMemory),
     };
+    let line = overlap_words(alloc, &overlap);
+    drop(overlap);
+    line
+}
+
+/// Whether two patterns have a URL in common, in words.
+fn overlap_words(alloc: Global, overlap: &PatternOverlap) -> Result<String, Error> {
     // docs: overlap
     match overlap {
         PatternOverlap::Apart => Ok(format!(in alloc; "apart")?),
@@ -79,10 +93,17 @@ pub fn reach_line(alloc: Global) -> Result<String, Error> {
 
 /// A path that a rule matches after a change, and did not match before, in words.
 pub fn change_line(alloc: Global) -> Result<String, Error> {
+    let users = parts(alloc, "https://example.com/users/:id")?;
+    let pages = parts(alloc, "https://example.com/users/*")?;
     // docs: change
-    let before = PatternAutomata::new(alloc, parts(alloc, "https://example.com/users/:id")?)?;
-    let after = PatternAutomata::new(alloc, parts(alloc, "https://example.com/users/*")?)?;
-    match find_common(alloc, &[&after], &[&before], USUAL_LIMITS)? {
+    let before = PatternAutomata::new(alloc, users)?;
+    let after = PatternAutomata::new(alloc, pages)?;
+    let added = find_common(alloc, &[&after], &[&before], USUAL_LIMITS);
+    // docs: end
+    drop(before);
+    drop(after);
+    // docs: added
+    match added? {
         Common::Texts(texts) => Ok(format!(in alloc; "lets in {}", texts.pathname)?),
         Common::Nothing => text(alloc, "lets in nothing new"),
         Common::Unknown(_) => text(alloc, "not known"),
@@ -97,8 +118,8 @@ pub fn text_line(alloc: Global) -> Result<String, Error> {
     let text = users.to_constructor_string(alloc)?;
     // docs: end
     match text {
-        Some(text) => Ok(format!(in alloc; "as a text: {text}")?),
-        None => Ok(format!(in alloc; "no text")?),
+        Some(text) => line_of(format!(in alloc; "as a text: {text}")),
+        None => line_of(format!(in alloc; "no text")),
     }
 }
 
@@ -110,7 +131,7 @@ pub fn hash_line(alloc: Global) -> Result<String, Error> {
         (Some(parts), Some(others)) => hash_of(parts) == hash_of(others),
         _ => false,
     };
-    Ok(format!(in alloc; "hashed alike: {is_alike}")?)
+    line_of(format!(in alloc; "hashed alike: {is_alike}"))
 }
 
 /// A hash of the parts of a pattern.

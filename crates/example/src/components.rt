@@ -1,5 +1,6 @@
 //! A component by itself: its tokens, its options, its canonical values and its matcher.
 
+use crate::line_of;
 use std::alloc::Global;
 use urlpattern::canonicalize_and_process::Canonicalizer;
 use urlpattern::component::{Component, generate_matcher};
@@ -14,7 +15,7 @@ pub fn name_line(alloc: Global, text: &str) -> Result<String, Error> {
     // docs: names
     let component = ComponentName::from_name(text);
     // docs: end
-    Ok(format!(in alloc; "{component:?}")?)
+    line_of(format!(in alloc; "{component:?}"))
 }
 
 /// The path of an init whose texts are made component by component, in words.
@@ -29,7 +30,9 @@ pub fn init_line(alloc: Global) -> Result<String, Error> {
     let texts = Eight::try_from_fn(text_of)?;
     let init = UrlPatternInit::from_eight(texts, None);
     // docs: end
-    Ok(format!(in alloc; "{:?}", init.pathname)?)
+    let line = line_of(format!(in alloc; "{:?}", init.pathname));
+    drop(init);
+    line
 }
 
 /// How many tokens a text has, in words.
@@ -37,7 +40,7 @@ pub fn tokens_line(alloc: Global) -> Result<String, Error> {
     // docs: tokens
     let tokens = tokenize(alloc, "/users/:id", TokenizePolicy::Strict)?;
     // docs: end
-    Ok(format!(in alloc; "{} tokens", tokens.len())?)
+    line_of(format!(in alloc; "{} tokens", tokens.len()))
 }
 
 /// The pattern text of a path, compiled with ECMAScript's syntax of regular expressions, with case
@@ -56,7 +59,7 @@ pub fn path_line(alloc: Global) -> Result<String, Error> {
     let copied = |text: &str| -> Result<String, Error> { Ok(String::from_str(alloc, text)?) };
     let path: Component<PatternRegexp> = Component::compile(alloc, Some("/:id"), copied, options)?;
     // docs: end
-    Ok(format!(in alloc; "{}", path.pattern_string)?)
+    line_of(format!(in alloc; "{}", path.pattern_string))
 }
 
 /// What a matcher compares a text with, in words.
@@ -67,6 +70,13 @@ pub fn matcher_line(alloc: Global) -> Result<String, Error> {
     let parts = parse_pattern_string(alloc, "/users", &options, copied)?;
     let matcher: Matcher<PatternRegexp> = generate_matcher(alloc, &parts, &options, "")?;
     // docs: end
+    let line = matcher_words(alloc, &matcher);
+    drop(matcher);
+    line
+}
+
+/// What a matcher compares a text with, in words.
+fn matcher_words(alloc: Global, matcher: &Matcher<PatternRegexp>) -> Result<String, Error> {
     // docs: inner
     match &matcher.inner {
         InnerMatcher::Literal { literal } => Ok(format!(in alloc; "the text {literal}")?),

@@ -1,6 +1,6 @@
 //! Diagnoses: where a pattern is at fault, and why.
 
-use crate::{Pattern, text};
+use crate::{Pattern, line_of, text};
 use std::alloc::Global;
 use urlpattern::{Error, Subject, UrlPatternOptions};
 
@@ -30,5 +30,5 @@ pub fn diagnosis_line(alloc: Global, pattern: &str) -> Result<String, Error> {
     // docs: diagnosis
     let reason = &diagnosis.reason;
     // docs: end
-    Ok(format!(in alloc; "{subject} at {part:?}, earlier {earlier:?}: {reason}")?)
+    line_of(format!(in alloc; "{subject} at {part:?}, earlier {earlier:?}: {reason}"))
 }

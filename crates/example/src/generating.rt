@@ -1,6 +1,6 @@
 //! Texts of a component, links and redirects, made from groups.
 
-use crate::{Pattern, pattern, text};
+use crate::{Pattern, line_of, pattern, text};
 use std::alloc::Global;
 use url::Url;
 use urlpattern::{ComponentName, Error, GenerateError, NoLink};
@@ -55,10 +55,10 @@ fn moved(alloc: Global, before: &Pattern, after: &Pattern, url: &Url) -> Result<
 }
 
 /// A URL, or why there is none, in words.
-fn written(alloc: Global, url: Result<Url, NoLink>) -> Result<String, Error> {
+pub fn written(alloc: Global, url: Result<Url, NoLink>) -> Result<String, Error> {
     match url {
-        Ok(url) => Ok(format!(in alloc; "{url}")?),
+        Ok(url) => line_of(format!(in alloc; "{url}")),
         Err(NoLink::OutOfMemory) => Err(Error::OutOfMemory),
-        Err(error) => Ok(format!(in alloc; "no URL: {error}")?),
+        Err(error) => line_of(format!(in alloc; "no URL: {error}")),
     }
 }

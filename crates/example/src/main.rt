@@ -28,11 +28,16 @@ mod routes;
 mod server;
 mod users;
 
+use cache_keys::key_line;
+use diagnosing::diagnosis_line;
 use docs::Docs;
+use generating::redirect_line;
 use grants::Grants;
+use matching::hosts_line;
 use orders::Orders;
+use policy::decision_line;
 // docs: imports
-use std::alloc::Global;
+use std::alloc::{AllocError, Global};
 use std::io;
 use std::io::Write;
 use url::Url;
@@ -66,7 +71,7 @@ fn user_line(alloc: Global, url: &Url) -> Result<String, Error> {
     // The id is a slice of the URL, which is still there.
     drop(users);
     match id {
-        Some(id) => Ok(format!(in alloc; "user {id}")?),
+        Some(id) => line_of(format!(in alloc; "user {id}")),
         None => text(alloc, "no user"),
     }
 }
@@ -95,8 +100,8 @@ fn path_line(alloc: Global, path: &str) -> Result<String, Error> {
     let id = path::user(alloc, &users, path);
     drop(users);
     match id? {
-        Some(id) => Ok(format!(in alloc; "{path}: user {id}")?),
-        None => Ok(format!(in alloc; "{path}: no user")?),
+        Some(id) => line_of(format!(in alloc; "{path}: user {id}")),
+        None => line_of(format!(in alloc; "{path}: no user")),
     }
 }
 
@@ -106,7 +111,7 @@ fn order_line(alloc: Global, url: &Url) -> Result<String, Error> {
     let id = orders.id(alloc, url);
     drop(orders);
     match id? {
-        Some(id) => Ok(format!(in alloc; "order {id}")?),
+        Some(id) => line_of(format!(in alloc; "order {id}")),
         None => text(alloc, "no order"),
     }
 }
@@ -117,7 +122,7 @@ fn docs_line(alloc: Global, url: &Url) -> Result<String, Error> {
     let language = docs.language(alloc, url);
     drop(docs);
     match language? {
-        Some(Some(language)) => Ok(format!(in alloc; "documentation in {language}")?),
+        Some(Some(language)) => line_of(format!(in alloc; "documentation in {language}")),
         Some(None) => text(alloc, "documentation"),
         None => text(alloc, "no documentation"),
     }
@@ -156,7 +161,7 @@ fn page_line(alloc: Global, url: &Url) -> Result<String, Error> {
 
 /// A page of a user, as a sentence.
 fn written(alloc: Global, page: &str, id: &str) -> Result<String, Error> {
-    Ok(format!(in alloc; "{page} of {id}")?)
+    line_of(format!(in alloc; "{page} of {id}"))
 }
 
 /// Whether a URL is public, as a sentence.
@@ -168,7 +173,7 @@ fn permission_line(alloc: Global, url: &Url) -> Result<String, Error> {
         None => text(alloc, "public"),
         Some(component) => {
             let component = component.as_str();
-            Ok(format!(in alloc; "not public by its {component}")?)
+            line_of(format!(in alloc; "not public by its {component}"))
         }
     }
 }
@@ -192,11 +197,12 @@ fn grants_line(alloc: Global, asked: &str) -> Result<String, Error> {
     let permitted = grants.check(alloc, &asked_parts);
     drop(grants);
     drop(asked_parts);
-    if permitted? {
-        Ok(format!(in alloc; "{asked}: permitted")?)
+    let answer = if permitted? {
+        "permitted"
     } else {
-        Ok(format!(in alloc; "{asked}: not permitted")?)
-    }
+        "not permitted"
+    };
+    line_of(format!(in alloc; "{asked}: {answer}"))
 }
 
 /// For how long the page of a URL is kept, as a sentence.
@@ -212,7 +218,7 @@ fn cache_line(alloc: Global, url: &Url) -> Result<String, Error> {
     let seconds = cache::max_age(alloc, &patterns, &[60, 86_400], url);
     drop(patterns);
     match seconds? {
-        Some(seconds) => Ok(format!(in alloc; "kept for {seconds} seconds")?),
+        Some(seconds) => line_of(format!(in alloc; "kept for {seconds} seconds")),
         None => text(alloc, "not kept"),
     }
 }
@@ -234,6 +240,11 @@ fn text(alloc: Global, words: &str) -> Result<String, Error> {
     Ok(String::from_str(alloc, words)?)
 }
 // docs: end
+
+/// A line that was written, or that memory ran out.
+fn line_of(written: Result<String, AllocError>) -> Result<String, Error> {
+    Ok(written?)
+}
 
 /// Appends a pattern.
 fn add(patterns: &mut UrlPatternList<PatternRegexp>, pattern: Pattern) -> Result<(), Error>
@@ -265,30 +276,22 @@ fn lines(alloc: Global, url: &str) -> Result<String, Error> {
     let page = page_line(alloc, &url)?;
     let permission = permission_line(alloc, &url)?;
     let cached = cache_line(alloc, &url)?;
-    Ok(format!(in alloc; "{url}: {user}, {page}, {permission}, {cached}")?)
+    line_of(format!(in alloc; "{url}: {user}, {page}, {permission}, {cached}"))
 }
 
 /// Writes the lines about URLs, permissions, links and parts that were printed.
 fn urls<W: Write>(alloc: Global, out: &mut W) -> io::Result<()> {
-    for url in ["https://example.com/users/123", "https://example.com/about"] {
-        write_line(out, lines(alloc, url))?;
-    }
-    for asked in ["https://cdn.example.com/:file", "https://example.com/*"] {
-        write_line(out, grants_line(alloc, asked))?;
-    }
-    for id in ["a b", "a/b"] {
-        write_line(out, link_line(alloc, id))?;
-    }
+    write_line(out, lines(alloc, "https://example.com/users/123"))?;
+    write_line(out, lines(alloc, "https://example.com/about"))?;
+    write_line(out, grants_line(alloc, "https://cdn.example.com/:file"))?;
+    write_line(out, grants_line(alloc, "https://example.com/*"))?;
+    write_line(out, link_line(alloc, "a b"))?;
+    write_line(out, link_line(alloc, "a/b"))?;
     write_line(out, printed_line(alloc))?;
-    for url in [
-        "https://example.com/orders/17",
-        "https://example.com/orders/x",
-        "https://example.com/fr/docs",
-        "https://example.com/docs?q",
-    ] {
-        write_line(out, custom_line(alloc, url))?;
-    }
-    Ok(())
+    write_line(out, custom_line(alloc, "https://example.com/orders/17"))?;
+    write_line(out, custom_line(alloc, "https://example.com/orders/x"))?;
+    write_line(out, custom_line(alloc, "https://example.com/fr/docs"))?;
+    write_line(out, custom_line(alloc, "https://example.com/docs?q"))
 }
 
 /// Writes the lines about users, and those of the modules that show small uses of the calls.
@@ -297,13 +300,9 @@ fn calls<W: Write>(alloc: Global, out: &mut W) -> io::Result<()> {
     write_line(out, matching::test_line(alloc))?;
     write_line(out, matching::exec_line(alloc))?;
     write_line(out, matching::groups_line(alloc))?;
-    for url in [
-        "http://www.example.com/about",
-        "https://example.com:8080/about",
-        "https://example.com:81/about",
-    ] {
-        write_line(out, matching::hosts_line(alloc, url))?;
-    }
+    write_line(out, hosts_line(alloc, "http://www.example.com/about"))?;
+    write_line(out, hosts_line(alloc, "https://example.com:8080/about"))?;
+    write_line(out, hosts_line(alloc, "https://example.com:81/about"))?;
     write_line(out, matching::mismatch_line(alloc))?;
     write_line(out, matching::matches_line(alloc))?;
     write_line(out, matching::entry_line(alloc))?;
@@ -319,13 +318,11 @@ fn calls<W: Write>(alloc: Global, out: &mut W) -> io::Result<()> {
 
 /// Writes the lines about texts of components, diagnoses, components by themselves, and browsers.
 fn texts<W: Write>(alloc: Global, out: &mut W) -> io::Result<()> {
-    for id in ["a b", ""] {
-        write_line(out, generating::generate_line(alloc, id))?;
-    }
+    write_line(out, generating::generate_line(alloc, "a b"))?;
+    write_line(out, generating::generate_line(alloc, ""))?;
     write_line(out, generating::search_line(alloc, "a&b=c"))?;
-    for pattern in ["https://example.com/:id", "https://example.com/:id/:id"] {
-        write_line(out, diagnosing::diagnosis_line(alloc, pattern))?;
-    }
+    write_line(out, diagnosis_line(alloc, "https://example.com/:id"))?;
+    write_line(out, diagnosis_line(alloc, "https://example.com/:id/:id"))?;
     write_line(out, components::name_line(alloc, "search"))?;
     write_line(out, components::init_line(alloc))?;
     write_line(out, components::tokens_line(alloc))?;
@@ -339,36 +336,23 @@ fn texts<W: Write>(alloc: Global, out: &mut W) -> io::Result<()> {
 
 /// Writes the lines about the responses of a server, its redirects, its cache, and its policy.
 fn servers<W: Write>(alloc: Global, out: &mut W) -> io::Result<()> {
-    for (method, path) in [
-        ("HEAD", "/users/a%20b"),
-        ("POST", "/users/123"),
-        ("GET", "/files"),
-        ("GET", "/search?q=a"),
-    ] {
-        write_line(out, server::response_line(alloc, method, path))?;
-    }
+    write_line(out, server::response_line(alloc, "HEAD", "/users/a%20b"))?;
+    write_line(out, server::response_line(alloc, "POST", "/users/123"))?;
+    write_line(out, server::response_line(alloc, "GET", "/files"))?;
+    write_line(out, server::response_line(alloc, "GET", "/search?q=a"))?;
     write_line(out, server::link_line(alloc, "123"))?;
-    for url in [
-        "https://example.com/blog/hello?page=2",
-        "https://example.com/about",
-    ] {
-        write_line(out, generating::redirect_line(alloc, url))?;
-    }
-    for url in [
-        "https://example.com/docs/start?page=2&lang=fr&ref=mail",
-        "https://example.com/docs/start?page=2",
-    ] {
-        write_line(out, cache_keys::key_line(alloc, url))?;
-    }
-    for asked in [
-        "https://api.example.com/users",
-        "https://api.example.com/%69nternal/keys",
-        "https://user@api.example.com/",
-        "//api.example.com/",
-    ] {
-        write_line(out, policy::decision_line(alloc, asked))?;
-    }
-    Ok(())
+    let moved = "https://example.com/blog/hello?page=2";
+    write_line(out, redirect_line(alloc, moved))?;
+    write_line(out, redirect_line(alloc, "https://example.com/about"))?;
+    let french = "https://example.com/docs/start?page=2&lang=fr&ref=mail";
+    write_line(out, key_line(alloc, french))?;
+    let start = "https://example.com/docs/start?page=2";
+    write_line(out, key_line(alloc, start))?;
+    write_line(out, decision_line(alloc, "https://api.example.com/users"))?;
+    let internal = "https://api.example.com/%69nternal/keys";
+    write_line(out, decision_line(alloc, internal))?;
+    write_line(out, decision_line(alloc, "https://user@api.example.com/"))?;
+    write_line(out, decision_line(alloc, "//api.example.com/"))
 }
 
 /// A line about a URL, by patterns with custom expressions: its order, and its language.
@@ -376,7 +360,7 @@ fn custom_line(alloc: Global, url: &str) -> Result<String, Error> {
     let url = Url::parse(alloc, url)?;
     let order = order_line(alloc, &url)?;
     let docs = docs_line(alloc, &url)?;
-    Ok(format!(in alloc; "{url}: {order}, {docs}")?)
+    line_of(format!(in alloc; "{url}: {order}, {docs}"))
 }
 
 // docs: main

@@ -1,10 +1,11 @@
 //! Matching: whether a pattern matches a URL, and what its groups capture.
 
-use crate::{pattern, text};
+use crate::{line_of, pattern, text};
 use std::alloc::Global;
 use url::Url;
 use urlpattern::{
-    ComponentName, Error, UrlPatternList, UrlPatternMap, UrlPatternMatchInput, url_texts,
+    ComponentName, Error, UrlPatternList, UrlPatternMap, UrlPatternMatchInput, UrlPatternResult,
+    url_texts,
 };
 
 /// A pattern of files, with two groups in its path, of which the second may be missing.
@@ -20,7 +21,7 @@ pub fn test_line(alloc: Global) -> Result<String, Error> {
     // docs: end
     let is_user = users.test(alloc, input)?;
     // docs: end
-    Ok(format!(in alloc; "a user: {is_user}")?)
+    line_of(format!(in alloc; "a user: {is_user}"))
 }
 
 /// What a group captures of a URL, and the names of all groups of the path, sorted, in words.
@@ -30,18 +31,23 @@ pub fn exec_line(alloc: Global) -> Result<String, Error> {
     let url = Url::parse(alloc, "https://example.com/users/123")?;
     let found = users.exec(alloc, UrlPatternMatchInput::Url(url))?;
     // docs: end
-    match found {
-        Some(found) => {
-            // docs: result
-            let id = found.get(ComponentName::Pathname, "id");
-            // docs: end
-            // docs: sorted_names
-            let names = found.pathname.sorted_names(alloc)?;
-            // docs: end
-            Ok(format!(in alloc; "{id:?}, all groups: {names:?}")?)
-        }
+    let line = match &found {
+        Some(found) => groups_of(alloc, found),
         None => text(alloc, "no match"),
-    }
+    };
+    drop(found);
+    line
+}
+
+/// What a group captures, and the names of all groups of the path, sorted, in words.
+fn groups_of(alloc: Global, found: &UrlPatternResult) -> Result<String, Error> {
+    // docs: result
+    let id = found.get(ComponentName::Pathname, "id");
+    // docs: end
+    // docs: sorted_names
+    let names = found.pathname.sorted_names(alloc)?;
+    // docs: end
+    line_of(format!(in alloc; "{id:?}, all groups: {names:?}"))
 }
 
 /// The two groups of a path, and the first group of all components, each with its capture, in
@@ -61,7 +67,7 @@ pub fn groups_line(alloc: Global) -> Result<String, Error> {
     let mut all_groups = found.iter();
     let first = all_groups.next();
     // docs: end
-    Ok(format!(in alloc; "{id:?}, {file:?}, first {first:?}")?)
+    line_of(format!(in alloc; "{id:?}, {file:?}, first {first:?}"))
 }
 
 /// The first component of a URL that a pattern does not match, found by the URL and by its eight
@@ -73,7 +79,7 @@ pub fn mismatch_line(alloc: Global) -> Result<String, Error> {
     let component = users.mismatch(alloc, &url)?;
     // docs: end
     let of_texts = users.mismatch_of_texts(alloc, &url_texts(&url))?;
-    Ok(format!(in alloc; "{component:?}, {of_texts:?}")?)
+    line_of(format!(in alloc; "{component:?}, {of_texts:?}"))
 }
 
 /// The host and the port that a pattern of several hosts and ports captures, in words.
@@ -87,7 +93,7 @@ pub fn hosts_line(alloc: Global, url: &str) -> Result<String, Error> {
     };
     let sub = found.get(ComponentName::Hostname, "sub");
     let port = found.get(ComponentName::Port, "port");
-    Ok(format!(in alloc; "below {sub:?}, port {port:?}")?)
+    line_of(format!(in alloc; "below {sub:?}, port {port:?}"))
 }
 
 /// The index of the first pattern of a list that matches a URL, and the path of the URL, in words.
@@ -103,10 +109,8 @@ pub fn matches_line(alloc: Global) -> Result<String, Error> {
     };
     let (index, captures) = first?;
     // docs: end
-    Ok(format!(in alloc;
-        "pattern {index} of {}",
-        captures.input(ComponentName::Pathname)
-    )?)
+    let path = captures.input(ComponentName::Pathname);
+    line_of(format!(in alloc; "pattern {index} of {path}"))
 }
 
 /// The pattern text of the path of the first pattern of a map, and its value, in words.
@@ -118,7 +122,7 @@ pub fn entry_line(alloc: Global) -> Result<String, Error> {
     let first = entries.next();
     // docs: end
     match first {
-        Some((pattern, value)) => Ok(format!(in alloc; "{}: {value}", pattern.pathname())?),
+        Some((pattern, value)) => line_of(format!(in alloc; "{}: {value}", pattern.pathname())),
         None => text(alloc, "no entry"),
     }
 }

@@ -1,6 +1,6 @@
 //! A policy: which URLs a program may fetch.
 
-use crate::{pattern, text};
+use crate::{line_of, pattern, text};
 use std::alloc::Global;
 use url::Url;
 use urlpattern::Error;
@@ -24,7 +24,7 @@ pub fn decision_line(alloc: Global, asked: &str) -> Result<String, Error> {
     let reason = reason(alloc, &policy, asked);
     drop(policy);
     let reason = reason?;
-    Ok(format!(in alloc; "{may_fetch}, {reason}")?)
+    line_of(format!(in alloc; "{may_fetch}, {reason}"))
 }
 
 // docs: may_fetch

@@ -9,6 +9,7 @@ ghost use Rattle.urlpattern.specs.Errors.{OnlyOutOfMemory};
 ghost use Rattle.urlpattern.specs.PatternRegexps.{pattern_result};
 ghost use Rattle.urlpattern.specs.Routes.{IsRouteLink};
 
+use crate::generating::written;
 use crate::text;
 use std::alloc::AllocError;
 use url::Url;
@@ -174,9 +175,8 @@ pub fn link_line(alloc: Global, id: &str) -> Result<String, Error> {
     let url = user_url(alloc, &pages, id);
     drop(pages);
     match url {
-        Ok(Some(url)) => Ok(format!(in alloc; "{url}")?),
+        Ok(Some(url)) => written(alloc, Ok(url)),
         Ok(None) => text(alloc, "no route has this name"),
-        Err(NoLink::OutOfMemory) => Err(Error::OutOfMemory),
-        Err(error) => Ok(format!(in alloc; "{error}")?),
+        Err(error) => written(alloc, Err(error)),
     }
 }

@@ -6,20 +6,27 @@
 
 ghost use Rattle.std.specs.Prelude.{⊤};
 
-mod dispatch;
+mod forms;
+mod operands;
 mod output;
+mod parsing;
+mod printer;
+mod running;
 
-use dispatch::run;
 use output::{Output, report_output};
+use parsing::{
+    COMPONENT_USAGE, FIRST_USAGE, MATCH_USAGE, arguments_of, has_fixed_usage, misused, name_fixed,
+    parse,
+};
+use printer::Printer;
+use running::run;
 use std::alloc::AllocError;
-use std::io::{BufRead, BufReader, BufWriter, IsTerminal, Write};
+use std::io::{BufReader, BufWriter, IsTerminal};
 use std::process::ExitCode;
 use std::{env, fs, io};
-use urlpat_commands::explains_errors;
-use urlpat_explain::{explain, link};
-use urlpat_lines::{Flags, arguments_after, remove_flags};
-use urlpat_matching::{Failure, fail};
-use urlpat_rules::Tables;
+use urlpat_commands::Tables;
+use urlpat_matching::{Arguments, DONE, FAILED, fail};
+use urlpattern::Error;
 
 /// The files of the host, as a source of tables.
 #[derive(Drop)]
@@ -38,66 +45,84 @@ impl Tables for HostFiles<'_> {
 
 fn main(rt: HostRuntime) -> ExitCode {
     ExitCode::from(match words(&rt) {
-        Ok(mut words) => {
-            let mut flags = remove_flags(&mut words);
-            // At a terminal a person reads the errors.
-            if rt.stderr().is_terminal() {
-                flags.explain_errors = true;
-            }
-            match run_buffered(&rt, &words, flags) {
-                Ok(status) => status,
-                Err(_) => fail(&Failure::from(AllocError), &mut rt.stderr()),
-            }
-        }
-        Err(failure) => fail(&failure, &mut rt.stderr()),
+        Ok(words) => run_words(&rt, &words),
+        Err(error) => fail(&error, &mut rt.stderr()),
     })
 }
 
-/// Runs the command that the arguments name, with buffered input and output. Returns the exit
-/// status. If errors are explained, reports why the output cannot be written.
-fn run_buffered(rt: &HostRuntime, words: &[String], flags: Flags) -> io::Result<u8> {
+/// The words of the program, of which the first is its name. A word that is not UTF-8 counts as a
+/// wrong one.
+///
+/// The only error is that memory ran out.
+fn words(rt: &HostRuntime) -> Result<Vec<String>, Error> {
+    match env::args(rt) {
+        Ok(words) => Ok(words.collect(rt.alloc())?),
+        Err(error) if error.kind() == io::ErrorKind::OutOfMemory => Err(Error::OutOfMemory),
+        Err(_) => Ok(Vec::new(rt.alloc())),
+    }
+}
+
+/// Parses the words and runs the command that they name, or prints the help or the version that
+/// they ask for, or what is wrong with them. Returns the exit status.
+fn run_words(rt: &HostRuntime, words: &[String]) -> u8 {
+    let found = match parse(rt.alloc(), words) {
+        Ok(found) => found,
+        Err(error) => return refuse(rt, words, &error),
+    };
+    let Some(arguments) = arguments_of(&found) else {
+        return match misused(rt.alloc(), &found) {
+            Ok(error) => refuse(rt, words, &error),
+            Err(AllocError) => fail(&Error::OutOfMemory, &mut rt.stderr()),
+        };
+    };
+    match run_buffered(rt, arguments) {
+        Ok(status) => status,
+        Err(_) => fail(&Error::OutOfMemory, &mut rt.stderr()),
+    }
+}
+
+/// Prints the help or the version that the words ask for, or what is wrong with them. Returns the
+/// exit status.
+fn refuse(rt: &HostRuntime, words: &[String], error: &clap::Error) -> u8 {
+    match error.kind() {
+        clap::error::ErrorKind::OutOfMemory => fail(&Error::OutOfMemory, &mut rt.stderr()),
+        _ if !error.use_stderr() => match error.print(rt) {
+            Ok(()) => DONE,
+            Err(failure) => {
+                if !name_fixed(words) {
+                    report_output(Some(failure), &mut rt.stderr());
+                }
+                FAILED
+            }
+        },
+        _ if has_fixed_usage(words, error) => {
+            let _ = eprint!(rt; "{COMPONENT_USAGE}\n{MATCH_USAGE}\n{FIRST_USAGE}\n");
+            FAILED
+        }
+        _ => {
+            let _ = error.print(rt);
+            FAILED
+        }
+    }
+}
+
+/// Runs a command, with buffered input and output. Returns the exit status. If errors are
+/// explained, reports why the output cannot be written.
+fn run_buffered(rt: &HostRuntime, mut arguments: Arguments<'_, '_>) -> io::Result<u8> {
     let alloc = rt.alloc();
     let mut input = BufReader::new(alloc, rt.stdin())?;
     let mut out = Output::new(BufWriter::new(alloc, rt.stdout())?);
     let mut err = rt.stderr();
-    let status = run_words(rt, words, flags, &mut input, &mut out, &mut err);
-    if explains_errors(words, flags) {
+    // At a terminal a person reads the errors.
+    if err.is_terminal() {
+        arguments.flags.explain_errors = true;
+    }
+    let files = HostFiles { rt };
+    let status = run(
+        alloc, &files, &Printer, arguments, &mut input, &mut out, &mut err,
+    );
+    if arguments.flags.explain_errors {
         report_output(out.failure(), &mut err);
     }
     Ok(status)
-}
-
-/// Runs the command that the arguments name, or prints help. Returns the exit status.
-fn run_words<In: BufRead, Out: Write, Err: Write>(
-    rt: &HostRuntime,
-    words: &[String],
-    flags: Flags,
-    input: &mut In,
-    out: &mut Out,
-    err: &mut Err,
-) -> u8 {
-    let alloc = rt.alloc();
-    if let Some(rest) = arguments_after(words, "link") {
-        return link(alloc, rest, out, err);
-    }
-    if let Some(rest) = arguments_after(words, "explain") {
-        return explain(alloc, rest, flags, out, err);
-    }
-    let files = HostFiles { rt };
-    run(alloc, &files, words, flags, input, out, err)
-}
-
-/// The arguments after the program's own name. The error is that an argument is not UTF-8, or that
-/// memory ran out.
-fn words(rt: &HostRuntime) -> Result<Vec<String>, Failure> {
-    let mut words = match env::args(rt) {
-        Ok(words) => words,
-        Err(error) if error.kind() == io::ErrorKind::OutOfMemory => {
-            return Err(Failure::from(AllocError));
-        }
-        Err(_) => return Err(Failure::Usage),
-    };
-    // The first word is the program's own name.
-    let _ = words.next();
-    Ok(words.collect(rt.alloc())?)
 }

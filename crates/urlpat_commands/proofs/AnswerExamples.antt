@@ -1,6 +1,6 @@
 -- Worked examples of what the program prints.
 use Rattle.std.proofs.Common.{◌≡◌, [], ◌∷◌, codes, refl}
-use Rattle.urlpat_commands.specs.Report.{component_lines}
+use Rattle.urlpat_commands.specs.ComponentAnswers.{component_lines}
 
 -- The output of `component pathname /users/:id`.
 component_of_a_user : component_lines (codes "id" ∷ []) (codes "^/users(?:/([^/]+?))$") (codes "/users/:id")

@@ -2,8 +2,8 @@
 use Rattle.std.proofs.Common.{ℕ, List, [], append-nil, codes, inl, inr, subst, sym}
 use Rattle.std.specs.Io.KnownBytes.{Appends}
 use Rattle.std.specs.Prelude.{Err, IfSome, None, Ok, OnOk, Option, Result, Some}
-use Rattle.urlpat_commands.specs.CommandNotes.{ReportsFirst}
-use Rattle.urlpat_lines.proofs.LineAnswerLemmas.{appends-both}
+use Rattle.urlpat_commands.specs.CommandAnswers.{ReportsFirst}
+use Rattle.urlpat_matching.proofs.LineAnswerLemmas.{appends-both}
 
 -- Lines that are written alone are written first.
 pub reports-alone : {X E : Type 0} (known : Option (List ℕ)) (written : Result X E)

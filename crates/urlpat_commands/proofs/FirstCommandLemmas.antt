@@ -1,9 +1,10 @@
 -- Lemmas on the patterns of the command `first`, and on its JSON.
 use Rattle.std.proofs.Common.{◌≡◌, ℕ, Bool, ◌<◌, ◌+◌, List, [], ◌∷◌, ◌++◌, map, length, take, get_or, refl, ap, ◌∙◌, sym, subst, inl, inr, codes, false}
 use Rattle.std.proofs.lemmas.Grind.{take_at_read}
-use Rattle.std.proofs.lemmas.List.{take-map}
-use Rattle.std.proofs.lemmas.Option.{slice_get-map, slice_get_read}
-use Rattle.std.specs.List.{AllZip}
+use Rattle.std.proofs.lemmas.List.{map-append, take-map}
+use Rattle.std.proofs.lemmas.Option.{slice_get-get_or, slice_get-map}
+use Rattle.std.proofs.lemmas.Slice.Zip.{all_zipped_more}
+use Rattle.std.specs.Borrow.{Bor}
 use Rattle.std.specs.Prelude.{MatchOption, Option, None, Some, String, option_map, string_bytes}
 use Rattle.std.specs.declared.alloc.Global.{Global}
 use Rattle.urlpat_commands.specs.CommandAnswers.{ArePatterns, IsFirstMatchText, IsFirstTextBy, IsUnmatchedByAll, IsUnmatchedByEach, RejectsOneOf}
@@ -12,7 +13,8 @@ use Rattle.serde_json.specs.Data.{Data, no_members, number, put, unsigned}
 use Rattle.serde_json.specs.Written.{has_float}
 use Rattle.urlpat_commands.specs.FirstJson.{first_tree}
 use Rattle.urlpat_matching.proofs.MatchJsonLemmas.{put-none}
-use Rattle.urlpat_lines.specs.declared.flags.Flags.{Flags}
+use Rattle.urlpat_matching.specs.Texts.{texts_view}
+use Rattle.urlpat_matching.specs.declared.command.Flags.{Flags}
 use Rattle.urlpattern.specs.Errors.{MemoryOr}
 use Rattle.urlpattern.specs.Patterns.{PatternView, pattern_view}
 use Rattle.urlpattern.specs.FirstMatch.{patterns_view}
@@ -22,41 +24,29 @@ use Rattle.urlpattern_syntax.specs.declared.error.Error.{Error}
 
 -- ---- patterns in order
 
-all_zip-push : {X Y : Type 0} (R : X → Y → Type 0) (xs : List X) (ys : List Y) (x : X) (y : Y) → AllZip R xs ys → R x y → AllZip R (xs ++ x ∷ []) (ys ++ y ∷ [])
-all_zip-push R [] [] x y are is = (is, tt)
-all_zip-push R [] (z ∷ ys) x y are is = absurd are
-all_zip-push R (z ∷ xs) [] x y are is = absurd are
-all_zip-push R (z ∷ xs) (w ∷ ys) x y are is = (are.0, all_zip-push R xs ys x y are.1 is)
-
-map-push : {X Y : Type 0} (f : X → Y) (xs : List X) (x : X) → map f (xs ++ x ∷ []) ≡ map f xs ++ f x ∷ []
-map-push f [] x = refl
-map-push f (y ∷ xs) x = ap (λ rest. f y ∷ rest) (map-push f xs x)
-
-take-more : {X : Type 0} (xs : List X) (i : ℕ) (x : X) → i < length xs → x ≡ get_or xs i x → take (i + 1) xs ≡ take i xs ++ x ∷ []
-take-more xs i x within is = (take_at_read xs i x within).1 ∙ ap (λ y. take i xs ++ y ∷ []) (sym is)
-
-module _ (ignores : Bool) (base : Option (List ℕ)) (words : List (String Global)) (index : ℕ) (word : String Global) (within : index < length words) (is_word : word ≡ get_or words index word) where
+module _ (ignores : Bool) (base : Option (List ℕ)) (words : List (Bor (List ℕ))) (index : ℕ) (none : Bor (List ℕ)) (within : index < length words) where
   -- The next argument is compiled.
   pub patterns-more : (list next : List (UrlPattern PatternRegexp)) (pattern : UrlPattern PatternRegexp) → next ≡ list ++ pattern ∷ []
-      → ArePatterns ignores (map (λ w. string_bytes w) (take index words)) base (patterns_view list) → IsPatternOf ignores (string_bytes word) base (pattern_view pattern)
-      → ArePatterns ignores (map (λ w. string_bytes w) (take (index + 1) words)) base (patterns_view next)
+      → ArePatterns ignores (texts_view (take index words)) base (patterns_view list) → IsPatternOf ignores (get_or words index none).now base (pattern_view pattern)
+      → ArePatterns ignores (texts_view (take (index + 1) words)) base (patterns_view next)
   patterns-more list next pattern is_next are is =
-      let texts = ap (map (λ w. string_bytes w)) (take-more words index word within is_word) ∙ map-push (λ w. string_bytes w) (take index words) word in
-      let views = ap (λ patterns. patterns_view patterns) is_next ∙ map-push (λ p. pattern_view p) list pattern in
+      let word = get_or words index none in
+      let texts = ap (map (λ w. w.now)) (take_at_read words index none within).1 ∙ map-append (λ (w : Bor (List ℕ)). w.now) (take index words) (word ∷ []) in
+      let views = ap (λ patterns. patterns_view patterns) is_next ∙ map-append (λ (p : UrlPattern PatternRegexp). pattern_view p) list (pattern ∷ []) in
       subst (λ (ts : List (List ℕ)). ArePatterns ignores ts base (patterns_view next)) (sym texts)
-      (subst (λ (vs : List (PatternView PatternRegexp)). ArePatterns ignores (map (λ w. string_bytes w) (take index words) ++ string_bytes word ∷ []) base vs) (sym views)
-      (all_zip-push (λ text view. IsPatternOf ignores text base view) (map (λ w. string_bytes w) (take index words)) (patterns_view list) (string_bytes word) (pattern_view pattern) are is))
+      (subst (λ (vs : List (PatternView PatternRegexp)). ArePatterns ignores (texts_view (take index words) ++ word.now ∷ []) base vs) (sym views)
+      (all_zipped_more (λ text view. IsPatternOf ignores text base view) (texts_view (take index words)) (patterns_view list) word.now (pattern_view pattern) are is))
 
   -- The next argument is rejected.
-  pub refuses-one : (list : List (UrlPattern PatternRegexp)) (error : Error) → ArePatterns ignores (map (λ w. string_bytes w) (take index words)) base (patterns_view list)
-      → MemoryOr (RejectsPatternOf ignores (string_bytes word) base) error → MemoryOr (RejectsOneOf ignores (map (λ w. string_bytes w) words) base) error
+  pub refuses-one : (list : List (UrlPattern PatternRegexp)) (error : Error) → ArePatterns ignores (texts_view (take index words)) base (patterns_view list)
+      → MemoryOr (RejectsPatternOf ignores (get_or words index none).now base) error → MemoryOr (RejectsOneOf ignores (texts_view words) base) error
   refuses-one list error are (inl memory) = inl memory
   refuses-one list error are (inr refused) = inr (record {
     index = index;
-    text = string_bytes word;
+    text = (get_or words index none).now;
     earlier = patterns_view list;
-    is_there = slice_get-map (λ w. string_bytes w) words index ∙ ap (option_map (λ w. string_bytes w)) (slice_get_read words (length words) index word refl within is_word);
-    are_compiled = subst (λ (ts : List (List ℕ)). ArePatterns ignores ts base (patterns_view list)) (sym (take-map (λ w. string_bytes w) index words)) are;
+    is_there = slice_get-map (λ w. w.now) words index ∙ ap (option_map (λ w. w.now)) (slice_get-get_or words index none within);
+    are_compiled = subst (λ (ts : List (List ℕ)). ArePatterns ignores ts base (patterns_view list)) (sym (take-map (λ w. w.now) index words)) are;
     refuses = refused;
   })
 

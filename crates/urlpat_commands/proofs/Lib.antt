@@ -1,6 +1,7 @@
 pub mod AnswerExamples
 pub mod CommandAnswerLemmas
 pub mod FirstCommandLemmas
-pub mod ShortLemmas
 pub mod FilterCommandLemmas
 pub mod CommandNoteLemmas
+pub mod AutomataLemmas
+pub mod RouteLemmas

@@ -1,85 +1,35 @@
--- The output of `component`, `match`, `first`, the short form and help for the arguments of the
--- program, and the reasons why there is none. Arguments and texts are bytes. `old` and `new` are
--- the output before and after, as far as it is known.
-use Rattle.std.specs.Prelude.{◌≡◌, ◌≢◌, ◌⊎◌, All, ◌++◌, ℕ, Bool, true, false, List, [], ◌∷◌, map, codes, Option, None, Some, Result, Ok, Err, String, string_bytes, encode_utf8_all, slice_get, take, MatchOption}
+-- The output of `match` and `first` for their arguments. Texts are bytes. `old` and `new` are the
+-- output before and after, as far as it is known.
+use Rattle.std.specs.Prelude.{◌≡◌, ◌⊎◌, ◌++◌, ℕ, Bool, true, false, List, codes, decimal, Option, Some, String, string_bytes, slice_get, take, MatchOption, option_copied}
 use Rattle.std.specs.List.{AllZip}
-use Rattle.std.specs.Str.{chars}
 use Rattle.std.specs.declared.alloc.Global.{Global}
 use Rattle.std.specs.Io.KnownBytes.{Appends}
 use Rattle.url.specs.Parts.{Parts}
-use Rattle.urlpat_matching.specs.declared.exit_status.Failure.{Failure}
-use Rattle.urlpat_matching.specs.declared.exit_status.Failure.TheVariants as failures
-use Rattle.urlpat_commands.specs.declared.command.Printed.{Printed}
-use Rattle.urlpat_matching.specs.declared.exit_status.TheConstants.{DONE, NO_MATCH}
+use Rattle.urlpat_matching.specs.Texts.{texts_view}
+use Rattle.urlpat_matching.specs.declared.command.{FirstArguments.FirstArguments, Flags.Flags, MatchArguments.MatchArguments}
 use Rattle.urlpat_matching.specs.GroupLines.{AreLines, all_named_results}
-use Rattle.urlpattern_canonical.specs.BaseUrls.{IsUrlOf, base_view}
 use Rattle.urlpat_matching.specs.MatchTexts.{IsMatchText, IsUnmatched, IsUnmatchedByAllUnder}
-use Rattle.urlpat_matching.specs.PatternWords.{IsPatternOf, RejectsPatternOf, base_of}
-use Rattle.urlpat_lines.specs.Help.{IsHelp}
-use Rattle.urlpat_lines.specs.declared.flags.Flags.{Flags}
+use Rattle.urlpat_matching.specs.PatternWords.{IsPatternOf, RejectsPatternOf}
+use Rattle.urlpat_matching.specs.declared.exit_status.TheConstants.{DONE, NO_MATCH}
 use Rattle.urlpat_commands.specs.FirstJson.{IsFirstJson}
-use Rattle.urlpat_commands.specs.Kinds.{IsKind, NamesOptions}
-use Rattle.urlpat_commands.specs.Report.{component_lines, first_line, no_match_text}
-use Rattle.urlpattern.specs.Dialect.{HasMeaningOf}
-use Rattle.urlpattern.specs.Errors.{ErrorView, MemoryOr}
+use Rattle.urlpattern.specs.Errors.{ErrorView}
 use Rattle.urlpattern.specs.FirstMatch.{IsFirstMatch}
-use Rattle.urlpattern.specs.Laws.{EncodingResults, listed}
 use Rattle.urlpattern.specs.ResultViews.{ResultView}
-use Rattle.urlpattern.specs.Options.{OptionsView}
-use Rattle.urlpattern.specs.Parts.{PartView}
 use Rattle.urlpattern.specs.Patterns.{PatternView}
-use Rattle.urlpattern.specs.Printing.{Keeps, printed}
-use Rattle.urlpattern.specs.Reading.{Encoding, Reads, Rejects, encoding_of}
-use Rattle.urlpattern.specs.RegexpText.{group_names, regexp_text}
-use Rattle.urlpattern.specs.RoundTrip.{IsPrintable, ReadsBack}
+use Rattle.urlpattern_canonical.specs.BaseUrls.{IsRejectedText, IsUrlOf, base_view}
+use Rattle.urlpattern_components.specs.declared.eight.ComponentName.{ComponentName}
 use Rattle.urlpattern_engine.specs.PatternRegexps.{pattern_result}
 use Rattle.urlpattern_engine.specs.declared.pattern_regexp.PatternRegexp.{PatternRegexp}
-use Rattle.urlpattern_components.specs.declared.eight.ComponentName.{ComponentName}
 use Rattle.urlpattern_init.specs.declared.init.UrlPatternMatchInput.TheVariants as match_inputs
-use Rattle.urlpattern_syntax.specs.declared.error.Error.{Error}
-use Rattle.urlpattern_syntax.specs.declared.error.Error.TheVariants as errors
-use Rattle.urlpattern_syntax.specs.declared.parser.PartType.TheVariants.{Regexp}
 
--- ---- compiled components
+-- The line that says which pattern is the first to match, by its index.
+abbrev pub first_line : (index : ℕ) → List ℕ
+first_line index = codes "match " ++ decimal index ++ codes "\n"
 
--- The result is a copy of `bytes`, or that memory ran out.
-abbrev pub CopiesBytes : (bytes : List ℕ) → Result (String Global) Error → Type 0
-CopiesBytes bytes (Ok copy) = string_bytes copy ≡ bytes
-CopiesBytes bytes (Err error) = error ≡ errors.OutOfMemory
-
--- The encoding whose result for a text is a copy of the text.
-abbrev pub kept : Encoding
-kept = encoding_of CopiesBytes
-
--- `text` shows what the pattern is compiled to under the options named `kind`, with fixed texts not
--- encoded: the names of its groups, a regular expression, which means what the parts mean if none
--- of them is custom, and a printed pattern, which reads back as the parts if they are printable.
-pub record IsComponentText (kind pattern text : List ℕ) : Type 0 where
-  pub options : OptionsView
-  pub parts : List PartView
-  pub is_named : NamesOptions kind options
-  pub reads : Reads (chars pattern) options kept parts
-  pub means : All (λ part. part.kind ≢ Regexp) parts
-      → HasMeaningOf (regexp_text options parts) options parts
-  pub reads_back : (answers : EncodingResults) → IsPrintable options parts
-      → Keeps (listed answers) parts
-      → ReadsBack (printed options parts) options (listed answers) parts
-  pub is_text : text
-      ≡ component_lines (map encode_utf8_all (group_names parts))
-      (encode_utf8_all (regexp_text options parts)) (encode_utf8_all (printed options parts))
-
--- The pattern is rejected with this error under the options named `kind`.
-pub record RejectsComponentText (kind pattern : List ℕ) (error : ErrorView) : Type 0 where
-  pub options : OptionsView
-  pub is_named : NamesOptions kind options
-  pub refuses : Rejects (chars pattern) options kept error
-
--- The reason why `component` has no output for a pattern: no options are named `kind`, the pattern
--- is rejected, or memory ran out.
-abbrev pub FailsComponent : (kind pattern : List ℕ) → Failure → Type 0
-FailsComponent kind pattern failures.Usage = ¬ IsKind kind
-FailsComponent kind pattern (failures.Refused error) =
-    MemoryOr (RejectsComponentText kind pattern) error
+-- The text that is printed if there is no match.
+abbrev pub no_match_text : (json : Bool) → List ℕ
+no_match_text true = codes "null\n"
+no_match_text false = codes "no match\n"
 
 -- ---- the captures of the first match
 
@@ -158,20 +108,7 @@ FindsFirstBy json compiled input base found =
     MatchOption found (IsUnmatchedByAll compiled input base) (λ text.
     IsFirstTextBy json compiled input base (string_bytes text))
 
--- ---- the arguments of `component`
-
--- The output and the exit status of `component` for the arguments after it.
-abbrev pub IsComponentAnswer : (words : List (List ℕ)) → (text : List ℕ) → (status : ℕ) → Type 0
-IsComponentAnswer (kind ∷ pattern ∷ []) text status =
-    IsComponentText kind pattern text × (status ≡ 0)
-IsComponentAnswer words text status = ⊥
-
--- The reason why `component` has no output for the arguments after it.
-abbrev pub IsComponentFailure : (words : List (List ℕ)) → Failure → Type 0
-IsComponentFailure (kind ∷ pattern ∷ []) failure = FailsComponent kind pattern failure
-IsComponentFailure words failure = failure ≡ failures.Usage
-
--- ---- the arguments of `match`
+-- ---- output
 
 -- The output and the exit status of a command that looks for a match: `Matched` holds, with status
 -- 0, or `Unmatched` holds, and the output says that there is no match, with status 1.
@@ -180,113 +117,60 @@ abbrev pub AnswersMatch : (json : Bool) → (Matched Unmatched : Type 0)
 AnswersMatch json Matched Unmatched text status =
     (Matched × (status ≡ 0)) ⊎ (Unmatched × (text ≡ no_match_text json) × (status ≡ 1))
 
--- The reason for a failure is an error for which `Rejects` is true, or that memory ran out.
-abbrev pub IsRejection : (Rejects : ErrorView → Type 0) → Failure → Type 0
-IsRejection Rejects failures.Usage = ⊥
-IsRejection Rejects (failures.Refused error) = MemoryOr Rejects error
+-- The output and the exit status of `match` for its arguments.
+abbrev pub IsMatchAnswer : Flags → MatchArguments → (text : List ℕ) → (status : ℕ) → Type 0
+IsMatchAnswer flags asked text status =
+    AnswersMatch flags.json
+    (IsMatchText flags asked.pattern.now asked.input.now (option_copied asked.base) text)
+    (IsUnmatched flags.ignore_case asked.pattern.now asked.input.now (option_copied asked.base))
+    text status
 
--- The output and the exit status of `match` for the arguments after it.
-abbrev pub IsMatchAnswer : Flags → (words : List (List ℕ)) → (text : List ℕ) → (status : ℕ) → Type 0
-IsMatchAnswer flags (pattern ∷ base ∷ input ∷ []) text status =
-    AnswersMatch flags.json (IsMatchText flags pattern input (base_of base) text)
-    (IsUnmatched flags.ignore_case pattern input (base_of base)) text status
-IsMatchAnswer flags words text status = ⊥
+-- The output and the exit status of `first` for its arguments.
+abbrev pub IsFirstAnswer : Flags → FirstArguments → (text : List ℕ) → (status : ℕ) → Type 0
+IsFirstAnswer flags asked text status =
+    AnswersMatch flags.json
+    (IsFirstMatchText flags (texts_view asked.patterns.now) asked.input.now
+    (option_copied asked.base) text)
+    (IsUnmatchedByEach flags.ignore_case (texts_view asked.patterns.now) asked.input.now
+    (option_copied asked.base)) text status
 
--- The reason why `match` has no output for the arguments after it.
-abbrev pub IsMatchFailure : (ignores : Bool) → (words : List (List ℕ)) → Failure → Type 0
-IsMatchFailure ignores (pattern ∷ base ∷ input ∷ []) failure =
-    IsRejection (RejectsPatternOf ignores pattern (base_of base)) failure
-IsMatchFailure ignores words failure = failure ≡ failures.Usage
+-- The output of `match` is printed.
+abbrev pub PrintsMatch : Flags → MatchArguments → (status : ℕ) → (old new : Option (List ℕ))
+    → Type 0
+PrintsMatch flags asked status old new =
+    (text : List ℕ) × IsMatchAnswer flags asked text status × Appends old new text
 
--- ---- the arguments of `first`
+-- The output of `first` is printed.
+abbrev pub PrintsFirst : Flags → FirstArguments → (status : ℕ) → (old new : Option (List ℕ))
+    → Type 0
+PrintsFirst flags asked status old new =
+    (text : List ℕ) × IsFirstAnswer flags asked text status × Appends old new text
 
--- The output and the exit status of `first` for the arguments after it.
-abbrev pub IsFirstAnswer : Flags → (words : List (List ℕ)) → (text : List ℕ) → (status : ℕ) → Type 0
-IsFirstAnswer flags (base ∷ input ∷ pattern ∷ patterns) text status =
-    AnswersMatch flags.json (IsFirstMatchText flags (pattern ∷ patterns) input (base_of base) text)
-    (IsUnmatchedByEach flags.ignore_case (pattern ∷ patterns) input (base_of base)) text status
-IsFirstAnswer flags words text status = ⊥
+-- `match` has an output. Whether it is printed is not said.
+abbrev pub IsMatchAnswered : Flags → MatchArguments → Type 0
+IsMatchAnswered flags asked = (text : List ℕ) × (status : ℕ) × IsMatchAnswer flags asked text status
 
--- The reason why `first` has no output for the arguments after it.
-abbrev pub IsFirstFailure : (ignores : Bool) → (words : List (List ℕ)) → Failure → Type 0
-IsFirstFailure ignores (base ∷ input ∷ pattern ∷ patterns) failure =
-    IsRejection (RejectsOneOf ignores (pattern ∷ patterns) (base_of base)) failure
-IsFirstFailure ignores words failure = failure ≡ failures.Usage
+-- `first` has an output. Whether it is printed is not said.
+abbrev pub IsFirstAnswered : Flags → FirstArguments → Type 0
+IsFirstAnswered flags asked = (text : List ℕ) × (status : ℕ) × IsFirstAnswer flags asked text status
 
--- ---- the short form: a pattern and an input, without a base URL
-
--- The output and the exit status of the short form. `words` are the arguments after the pattern.
-abbrev pub IsShortAnswer : Flags → (pattern : List ℕ) → (words : List (List ℕ))
-    → (text : List ℕ) → (status : ℕ) → Type 0
-IsShortAnswer flags pattern (input ∷ []) text status =
-    AnswersMatch flags.json (IsMatchText flags pattern input None text)
-    (IsUnmatched flags.ignore_case pattern input None) text status
-IsShortAnswer flags pattern words text status = ⊥
-
--- The reason why the short form has no output. `words` are the arguments after the pattern.
-abbrev pub IsShortFailure : (ignores : Bool) → (pattern : List ℕ)
-    → (words : List (List ℕ)) → Failure → Type 0
-IsShortFailure ignores pattern (input ∷ []) failure =
-    IsRejection (RejectsPatternOf ignores pattern None) failure
-IsShortFailure ignores pattern words failure = failure ≡ failures.Usage
-
--- ---- commands
-
--- The word is a command that `answer` runs: `component`, `match` or `first`. Any other first
--- argument is the pattern of the short form; `filter` and the commands of other crates are run
--- before `answer` is called.
-abbrev pub IsCommand : List ℕ → Type 0
-IsCommand word = (word ≡ codes "component") ⊎ (word ≡ codes "match") ⊎ (word ≡ codes "first")
-
--- The output of `component`, `match`, `first` or the short form for the arguments, and the exit
--- status: 0, or 1 if the input does not match.
-abbrev pub IsCommandAnswer : Flags → (words : List (List ℕ)) → (text : List ℕ)
-    → (status : ℕ) → Type 0
-IsCommandAnswer flags [] text status = ⊥
-IsCommandAnswer flags (command ∷ words) text status =
-    ((command ≡ codes "component") × IsComponentAnswer words text status)
-    ⊎ ((command ≡ codes "match") × IsMatchAnswer flags words text status)
-    ⊎ ((command ≡ codes "first") × IsFirstAnswer flags words text status)
-    ⊎ ((¬ IsCommand command) × IsShortAnswer flags command words text status)
-
--- The reason why `component`, `match`, `first` or the short form has no output for the arguments:
--- the arguments are invalid, a text is rejected, or memory ran out.
-abbrev pub IsFailure : Flags → (words : List (List ℕ)) → Failure → Type 0
-IsFailure flags [] failure = failure ≡ failures.Usage
-IsFailure flags (command ∷ words) failure =
-    ((command ≡ codes "component") × IsComponentFailure words failure)
-    ⊎ ((command ≡ codes "match") × IsMatchFailure flags.ignore_case words failure)
-    ⊎ ((command ≡ codes "first") × IsFirstFailure flags.ignore_case words failure)
-    ⊎ ((¬ IsCommand command) × IsShortFailure flags.ignore_case command words failure)
-
--- ---- runs of the program
-
--- The output for the arguments, with this exit status: the help text or the version that they ask
--- for, or the output of `component`, `match`, `first` or the short form.
-abbrev pub IsProgramAnswer : Flags → (words : List (List ℕ)) → (text : List ℕ)
-    → (status : ℕ) → Type 0
-IsProgramAnswer flags words text status =
-    (IsHelp words text × (status ≡ 0)) ⊎ IsCommandAnswer flags words text status
-
--- The output for the arguments is printed, with this exit status.
-abbrev pub Prints : Flags → (words : List (List ℕ)) → (status : ℕ)
+-- What was found is printed, with status 0, or, if there is no match (`None`), the text that says
+-- so, with status 1.
+abbrev pub PrintsFound : (json : Bool) → Option (String Global) → (status : ℕ)
     → (old new : Option (List ℕ)) → Type 0
-Prints flags words status old new =
-    (text : List ℕ) × IsProgramAnswer flags words text status × Appends old new text
+PrintsFound json found status old new =
+    MatchOption found ((status ≡ NO_MATCH) × Appends old new (no_match_text json))
+    (λ text. (status ≡ DONE) × Appends old new (string_bytes text))
 
--- The arguments have an output. Whether it was printed is not said.
-abbrev pub AreAnswered : Flags → (words : List (List ℕ)) → Type 0
-AreAnswered flags words = (text : List ℕ) × (status : ℕ) × IsProgramAnswer flags words text status
+-- ---- errors that are explained
 
--- The arguments have no output, for some reason, and `IsSo` holds, which says what else is known of
--- the run, such as that the output is unchanged.
-abbrev pub FailsWhere : Flags → (words : List (List ℕ)) → (IsSo : Type 0) → Type 0
-FailsWhere flags words IsSo = (failure : Failure) × IsFailure flags words failure × IsSo
+-- A run may print a note: errors are explained, and `url` rejects the input, or the input may be
+-- too long.
+abbrev pub HasNote : Flags → (input : List ℕ) → (base : Option (List ℕ)) → Type 0
+HasNote flags input base = (flags.explain_errors ≡ true) × IsRejectedText input base
 
--- The output and the exit status of a command that looks for a match: `found` with status 0, or, if
--- there is no match (`None`), the text that says so with status 1.
-abbrev pub IsPrintedOf : (json : Bool) → Option (String Global) → Printed → Type 0
-IsPrintedOf json found printed =
-    MatchOption found
-    ((string_bytes printed.text ≡ no_match_text json) × (printed.status ≡ NO_MATCH))
-    (λ text. (printed.text ≡ text) × (printed.status ≡ DONE))
+-- What is written of a run without output if errors are explained: `line`, the error, and possibly
+-- a diagnosis after it; or only that memory ran out.
+abbrev pub ReportsFirst : (line : List ℕ) → (old new : Option (List ℕ)) → Type 0
+ReportsFirst line old new =
+    ((more : List ℕ) × Appends old new (line ++ more)) ⊎ Appends old new (codes "out of memory\n")

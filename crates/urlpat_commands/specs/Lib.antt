@@ -1,6 +1,7 @@
 pub mod CommandAnswers
+pub mod ComponentAnswers
 pub mod FilterLines
 pub mod FirstJson
-pub mod Kinds
-pub mod CommandNotes
-pub mod Report
+pub mod Coverings
+pub mod TableRoutes
+pub mod Unreached

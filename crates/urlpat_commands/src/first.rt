@@ -2,40 +2,35 @@
 
 ghost use Rattle.std.specs.Prelude.{option_copied, string_bytes, IfErr, IfOk};
 ghost use Rattle.urlpat_commands.specs.CommandAnswers.{ArePatterns, FindsFirst, FindsFirstBy, RejectsOneOf, ShowsFirst};
-ghost use Rattle.urlpat_matching.specs.PatternWords.{base_of};
-ghost use Rattle.urlpat_lines.specs.Words.{words_view};
+ghost use Rattle.urlpat_matching.specs.Texts.{texts_view};
 ghost use Rattle.urlpattern.specs.BorrowedMatches.{pattern_captures_view};
 ghost use Rattle.urlpattern.specs.Errors.{MemoryOr, OnlyOutOfMemory};
 ghost use Rattle.urlpattern.specs.FirstMatch.{patterns_view};
 
 use crate::first_json::first_json;
 use std::alloc::{AllocError, Global};
-use urlpat_lines::Flags;
-use urlpat_matching::{base_of, compiled, push_match};
+use urlpat_matching::{FirstArguments, Flags, compiled, push_match};
 use urlpattern::regexp::PatternRegexp;
 use urlpattern::{Error, UrlPatternCaptures, UrlPatternList};
 use urlpattern_canonical::find_url;
 
-/// Returns the first match of an input, a URL under the base URL that the argument `base` names: a
-/// line with the index of its pattern and a line for each group, or JSON. `None`: no pattern
-/// matches, or the input is not a URL.
+/// Returns the first match of an input, a URL under a base URL if there is one: a line with the
+/// index of its pattern and a line for each group, or JSON. `None`: no pattern matches, or the
+/// input is not a URL.
 ///
 /// The error is that of the first pattern that is rejected, or of the base, or that memory ran out.
 pub fn first_groups(
     alloc: Global,
-    base: &str,
+    asked: FirstArguments<'_, '_>,
     flags: Flags,
-    input: &str,
-    patterns: &[String],
 ) -> Result<Option<String>, Error>
-    ensures found { IfOk result
-        (FindsFirst flags (words_view patterns.now) input.now (base_of base.now)) }
-    ensures refused { IfErr result
-        (MemoryOr (RejectsOneOf flags.ignore_case (words_view patterns.now) (base_of base.now))) }
+    ensures found { IfOk result (FindsFirst flags (texts_view asked.entry.patterns.now)
+        asked.entry.input.now (option_copied asked.entry.base)) }
+    ensures refused { IfErr result (MemoryOr (RejectsOneOf flags.ignore_case
+        (texts_view asked.entry.patterns.now) (option_copied asked.entry.base))) }
 {
-    let base = base_of(base);
-    let list = compiled_list(alloc, patterns, base, flags.ignore_case)?;
-    let answer = groups_of_first(alloc, &list, base, flags.json, input);
+    let list = compiled_list(alloc, asked.patterns, asked.base, flags.ignore_case)?;
+    let answer = groups_of_first(alloc, &list, asked.base, flags.json, asked.input);
     drop(list);
     Ok(answer?)
 }
@@ -45,19 +40,19 @@ pub fn first_groups(
 /// The error is that of the first pattern that is rejected, or of the base, or that memory ran out.
 fn compiled_list(
     alloc: Global,
-    patterns: &[String],
+    patterns: &[&str],
     base: Option<&str>,
     ignore_case: bool,
 ) -> Result<UrlPatternList<PatternRegexp>, Error>
     ensures compiled { IfOk result (λ list.
-        ArePatterns ignore_case (words_view patterns.now) (option_copied base.entry)
+        ArePatterns ignore_case (texts_view patterns.now) (option_copied base.entry)
         (patterns_view list)) }
     ensures refused { IfErr result
-        (MemoryOr (RejectsOneOf ignore_case (words_view patterns.now) (option_copied base.entry))) }
+        (MemoryOr (RejectsOneOf ignore_case (texts_view patterns.now) (option_copied base.entry))) }
 {
     let mut list = UrlPatternList::new(alloc);
     for pattern in patterns {
-        let pattern = compiled(alloc, pattern, base, ignore_case)?;
+        let pattern = compiled(alloc, *pattern, base, ignore_case)?;
         if let Err(refused) = list.push(pattern) {
             drop(refused);
             return Err(Error::OutOfMemory);

@@ -1,45 +1,45 @@
 -- Lemmas on arguments that give texts for groups.
-use Rattle.std.proofs.Common.{◌≡◌, ◌+◌, ◌<◌, ◌≤◌, ℕ, List, [], ◌∷◌, ◌++◌, ◌∙◌, ap, get_or, length, subst, sym, take, take_all, String, string_bytes}
+use Rattle.std.proofs.Common.{◌≡◌, ◌+◌, ◌<◌, ◌≤◌, ℕ, List, [], ◌∷◌, ◌++◌, get_or, length, subst, sym, take, take_all}
 use Rattle.std.proofs.lemmas.List.{get_or-map, length-map, take_more}
 use Rattle.std.proofs.lemmas.Slice.Zip.{all_zipped_more}
+use Rattle.std.specs.Borrow.{Bor}
 use Rattle.std.specs.List.{AllZip, before_first}
 use Rattle.std.specs.Prelude.{Any}
-use Rattle.std.specs.declared.alloc.Global.{Global}
-use Rattle.urlpat_explain.specs.GivenWords.{AreGiven, Given, WordGivesGroup, WordGivesNothing, IsGroupNamed, NamesNoGroup, is_equals_sign}
-use Rattle.urlpat_lines.specs.Words.{words_view}
+use Rattle.urlpat_explain.specs.GivenWords.{AreGiven, Given, WordGivesGroup, WordGivesNothing, is_equals_sign}
+use Rattle.urlpat_matching.specs.Groups.{IsGroupNamed, NamesNoGroup}
+use Rattle.urlpat_matching.specs.Texts.{texts_view}
 use Rattle.urlpattern_pattern.specs.Patterns.{PatternView}
 
 module _ {E : Type 0} (pattern : PatternView E) where
   -- `WordGivesGroup` for an argument as a string.
-  abbrev pub WordGives : String Global → Given → Type 0
-  WordGives word given = WordGivesGroup pattern (string_bytes word) given
+  abbrev pub WordGives : Bor (List ℕ) → Given → Type 0
+  WordGives word given = WordGivesGroup pattern word.now given
 
-  viewed : (words : List (String Global)) (groups : List Given) → AllZip WordGives words groups → AreGiven pattern (words_view words) groups
+  viewed : (words : List (Bor (List ℕ))) (groups : List Given) → AllZip WordGives words groups → AreGiven pattern (texts_view words) groups
   viewed [] [] all = tt
   viewed [] (group ∷ groups) all = absurd all
   viewed (word ∷ words) [] all = absurd all
   viewed (word ∷ words) (group ∷ groups) all = (all.0, viewed words groups all.1)
 
   -- An argument that gives a group is appended.
-  pub given_more : (words : List (String Global)) (i : ℕ) (word : String Global) (text : List ℕ) (old new : List Given) (given : Given) → i < length words → word ≡ get_or words i word → text ≡ string_bytes word →
-      new ≡ old ++ given ∷ [] → WordGivesGroup pattern text given → AllZip WordGives (take i words) old → AllZip WordGives (take (i + 1) words) new
-  given_more words i word text old new given within is is_text is_new gives was =
-      subst (λ (taken : List (String Global)). AllZip WordGives taken new) (sym (take_more words i word within))
-      (subst (λ (all : List Given). AllZip WordGives (take i words ++ get_or words i word ∷ []) all) (sym is_new)
-      (all_zipped_more WordGives (take i words) old (get_or words i word) given was
-      (subst (λ (w : String Global). WordGives w given) is (subst (λ t. WordGivesGroup pattern t given) is_text gives))))
+  pub given_more : (words : List (Bor (List ℕ))) (i : ℕ) (none : Bor (List ℕ)) (old new : List Given) (given : Given) → i < length words →
+      new ≡ old ++ given ∷ [] → WordGivesGroup pattern (get_or words i none).now given → AllZip WordGives (take i words) old → AllZip WordGives (take (i + 1) words) new
+  given_more words i none old new given within is_new gives was =
+      subst (λ (taken : List (Bor (List ℕ))). AllZip WordGives taken new) (sym (take_more words i none within))
+      (subst (λ (all : List Given). AllZip WordGives (take i words ++ get_or words i none ∷ []) all) (sym is_new)
+      (all_zipped_more WordGives (take i words) old (get_or words i none) given was gives))
 
-  pub given_all : (words : List (String Global)) (i : ℕ) (groups : List Given) → length words ≤ i → AllZip WordGives (take i words) groups → AreGiven pattern (words_view words) groups
-  given_all words i groups past was = viewed words groups (subst (λ (taken : List (String Global)). AllZip WordGives taken groups) (take_all i words past) was)
+  pub given_all : (words : List (Bor (List ℕ))) (i : ℕ) (groups : List Given) → length words ≤ i → AllZip WordGives (take i words) groups → AreGiven pattern (texts_view words) groups
+  given_all words i groups past was = viewed words groups (subst (λ (taken : List (Bor (List ℕ))). AllZip WordGives taken groups) (take_all i words past) was)
 
   -- An argument that gives no group is an element.
-  pub nothing_given : (words : List (String Global)) (i : ℕ) (word : String Global) (text : List ℕ) → i < length words → word ≡ get_or words i word → text ≡ string_bytes word → WordGivesNothing pattern text →
-      Any (WordGivesNothing pattern) (words_view words)
-  nothing_given words i word text within is is_text nothing = (
+  pub nothing_given : (words : List (Bor (List ℕ))) (i : ℕ) (none : Bor (List ℕ)) → i < length words → WordGivesNothing pattern (get_or words i none).now →
+      Any (WordGivesNothing pattern) (texts_view words)
+  nothing_given words i none within nothing = (
     i,
-    text,
-    subst (λ n. i < n) (sym (length-map words (λ word. string_bytes word))) within,
-    get_or-map (λ word. string_bytes word) words i word text within ∙ ap (λ (w : String Global). string_bytes w) (sym is) ∙ sym is_text,
+    (get_or words i none).now,
+    subst (λ n. i < n) (sym (length-map words (λ word. word.now))) within,
+    get_or-map (λ word. word.now) words i none (get_or words i none).now within,
     nothing,
   )
 

@@ -1,50 +1,48 @@
--- What `explain` explains: the pattern of a constructor string.
-use Rattle.std.specs.Prelude.{◌≡◌, ◌++◌, ℕ, List, Option, String, map, option_map, string_bytes, zip}
-use Rattle.std.specs.Borrow.{Bor}
-use Rattle.std.specs.declared.alloc.Global.{Global}
-use Rattle.urlpat_explain.specs.ComponentPlaces.{Places}
+-- What `explain` explains: the pattern of a constructor string. Texts are bytes.
+use Rattle.std.specs.Prelude.{◌≡◌, ℕ, Bool, List, Ok, Option, None, Some, codes, option_map, string_bytes}
+use Rattle.std.specs.Str.{chars}
+use Rattle.urlpat_explain.specs.ComponentPlaces.{Places, text_places}
+use Rattle.urlpat_explain.specs.Noted.{AreNoted}
 use Rattle.urlpat_explain.specs.declared.explained.Explained.{Explained}
-use Rattle.urlpat_explain.specs.declared.noted.Noted.{Noted}
-use Rattle.urlpattern_components.specs.Eight.{Texts, Values}
-use Rattle.urlpattern_components.specs.declared.eight.Eight.{Eight}
+use Rattle.urlpat_matching.specs.PatternWords.{IsPatternOf, KeepsPartsOfWord}
+use Rattle.urlpattern_compile.specs.Compiled.{pattern_values}
+use Rattle.urlpattern_compile.specs.FromString.{IsInitOfText}
+use Rattle.urlpattern_constructor.specs.Splitting.{Starts}
+use Rattle.urlpattern_engine.specs.PatternRegexps.{pattern_engine}
 use Rattle.urlpattern_engine.specs.declared.pattern_regexp.PatternRegexp.{PatternRegexp}
+use Rattle.urlpattern_init.specs.{ConstructorString.SplitsAt, SpecialProtocol.IsSpecialTo}
 use Rattle.urlpattern_init.specs.Inheritance.{values_view}
-use Rattle.urlpattern_matches.specs.GroupTexts.{borrowed_texts, texts_of}
-use Rattle.urlpattern_pattern.specs.Patterns.{PatternView, pattern_view}
-use Rattle.urlpattern_syntax.specs.Text.{option_text}
+use Rattle.urlpattern_init.specs.declared.init.UrlPatternInit.{UrlPatternInit}
+use Rattle.urlpattern_pattern.specs.Patterns.{pattern_view}
+use Rattle.urlpattern_pattern.specs.ReadBack.{IsConstructorString}
+use Rattle.urlpattern_pattern.specs.UrlPatterns.{UrlPattern}
 
--- The compiled pattern of a constructor string; the texts that the string itself has for components
--- (`given`), and their places in it; the values of the components, inherited ones included; what is
--- noted of each component; and the pattern as a constructor string (`text`), if there is one.
-pub record ExplainedView : Type 0 where
-  pub pattern : PatternView PatternRegexp
-  pub given : Values
-  pub places : Places
-  pub values : Values
-  pub noted : Eight Noted
-  pub text : Option (List ℕ)
+-- The origin of a component's value: `given` in the constructor string, `inherited` from the base
+-- URL, or `left out`. `given` is the text in the constructor string.
+abbrev pub origin : (given value : Option (List ℕ)) → List ℕ
+origin (Some given) value = codes "given"
+origin None (Some value) = codes "inherited"
+origin None None = codes "left out"
 
--- The view of an `Explained`.
-abbrev pub explained_view : Explained → ExplainedView
-explained_view explained = record {
-  pattern = pattern_view explained.pattern.now;
-  given = values_view explained.init.now;
-  places = explained.places.now;
-  values = values_view explained.values.now;
-  noted = explained.noted.now;
-  text = option_map string_bytes explained.text.now;
-}
+-- The constructor string `text` with the base URL `base` is compiled to `pattern`, which keeps its
+-- parts, and parsed to `init`, whose texts have these places in the string.
+pub record IsRead (ignores : Bool) (text : List ℕ) (base : Option (List ℕ))
+    (pattern : UrlPattern PatternRegexp) (init : UrlPatternInit) (places : Places) : Type 0 where
+  pub starts : Starts
+  pub is_compiled : IsPatternOf ignores text base (pattern_view pattern)
+  pub keeps_parts : KeepsPartsOfWord ignores text base pattern
+  pub is_parsed : IsInitOfText pattern_engine (chars text) base init
+  pub is_split : SplitsAt (IsSpecialTo pattern_engine) (chars text) (values_view init) starts
+  pub has_places : places ≡ text_places (values_view init) starts
 
--- The eight texts of an input, which are borrowed. `None`: there are no texts.
-abbrev pub lent_texts : Option (Bor (Eight (Bor (List ℕ)))) → Option Texts
-lent_texts texts = option_map (λ lent. borrowed_texts lent.now) texts
-
--- The names of groups, each with its capture.
-abbrev pub named_captures : (names : List (String Global))
-    → (captures : List (Option (Bor (List ℕ))))
-    → List (List ℕ × Option (List ℕ))
-named_captures names captures = zip (texts_of names) (map option_text captures)
-
--- `new` is `old` with `text` appended.
-abbrev pub AppendsBytes : (old new : String Global) → List ℕ → Type 0
-AppendsBytes old new text = string_bytes new ≡ string_bytes old ++ text
+-- `explained` has what the constructor string `text` with the base URL `base` is read as; the
+-- values of the components, inherited ones included; what is noted of each component; and the
+-- pattern as a constructor string, if there is one.
+pub record IsExplained (ignores : Bool) (text : List ℕ) (base : Option (List ℕ))
+    (explained : Explained) : Type 0 where
+  pub is_read : IsRead ignores text base explained.pattern.now explained.init.now
+      explained.places.now
+  pub has_values : pattern_values explained.init.now ≡ Ok (values_view explained.values.now)
+  pub are_noted : AreNoted explained.pattern.now explained.noted.now
+  pub has_text : IsConstructorString pattern_engine explained.pattern.now
+      (option_map string_bytes explained.text.now)

@@ -1,143 +1,64 @@
 -- The output of `explain` for its arguments. Arguments and texts are bytes. `found` has the output
--- and the exit status.
-use Rattle.std.specs.Prelude.{◌≡◌, ◌⊎◌, ℕ, Bool, true, false, List, [], ◌∷◌, ◌++◌, Ok, Option, None, Some, option_copied, string_bytes}
+-- and the exit status. `Prints` says how an explanation is printed, with the outcome for an input,
+-- if there is one that is a URL.
+use Rattle.std.specs.Prelude.{◌≡◌, ◌⊎◌, ℕ, Bool, IsSomeAnd, List, Option, None, Some, option_copied, string_bytes}
 use Rattle.std.specs.Io.KnownBytes.{Appends}
-use Rattle.std.specs.Str.{chars}
 use Rattle.url.specs.Parts.{Parts}
-use Rattle.urlpat_matching.specs.PatternWords.{IsPatternOf, KeepsPartsOfWord, base_of}
-use Rattle.urlpattern_canonical.specs.BaseUrls.{IsRejectedText, IsUrlOf}
+use Rattle.urlpat_explain.specs.Explained.{IsExplained}
+use Rattle.urlpat_explain.specs.Outcomes.{IsOutcome}
+use Rattle.urlpat_explain.specs.declared.explained.Explained.{Explained}
+use Rattle.urlpat_explain.specs.declared.explaining.Explanation.{Explanation}
+use Rattle.urlpat_explain.specs.declared.outcome.Outcome.{Outcome}
 use Rattle.urlpat_matching.specs.Status.{status_of}
-use Rattle.urlpat_explain.specs.ComponentPlaces.{Places, text_places}
-use Rattle.urlpat_explain.specs.Explained.{ExplainedView}
-use Rattle.urlpat_explain.specs.declared.explaining.{Asked.Asked, Explanation.Explanation}
-use Rattle.urlpat_explain.specs.declared.noted.Noted.{Noted}
-use Rattle.urlpat_explain.specs.ExplainedJson.{IsExplanationJson}
-use Rattle.urlpat_explain.specs.Noted.{AreNoted}
-use Rattle.urlpat_explain.specs.OriginNotes.{all_notes}
-use Rattle.urlpat_explain.specs.Rows.{IsMatchTable, pattern_table}
-use Rattle.urlpat_lines.specs.declared.flags.Flags.{Flags}
-use Rattle.urlpattern_compile.specs.Compiled.{pattern_values}
-use Rattle.urlpattern_compile.specs.FromString.{IsInitOfText}
-use Rattle.urlpattern_components.specs.Eight.{Texts, Values}
-use Rattle.urlpattern_components.specs.declared.eight.Eight.{Eight}
-use Rattle.urlpattern_engine.specs.PatternRegexps.{pattern_result, pattern_engine}
-use Rattle.urlpattern_engine.specs.declared.pattern_regexp.PatternRegexp.{PatternRegexp}
-use Rattle.urlpattern_constructor.specs.Splitting.{Starts}
-use Rattle.urlpattern_init.specs.{ConstructorString.SplitsAt, SpecialProtocol.IsSpecialTo}
-use Rattle.urlpattern_init.specs.Inheritance.{texts_of_url, values_view}
-use Rattle.urlpattern_init.specs.declared.init.UrlPatternInit.{UrlPatternInit}
+use Rattle.urlpat_matching.specs.declared.command.{ExplainArguments.ExplainArguments, Flags.Flags}
+use Rattle.urlpattern_canonical.specs.BaseUrls.{IsRejectedText, IsUrlOf}
+use Rattle.urlpattern_engine.specs.PatternRegexps.{pattern_result}
+use Rattle.urlpattern_init.specs.Inheritance.{texts_of_url}
 use Rattle.urlpattern_init.specs.declared.init.UrlPatternMatchInput.TheVariants as match_inputs
 use Rattle.urlpattern_pattern.specs.Match.{TestsInput}
-use Rattle.urlpattern_pattern.specs.Patterns.{PatternView, pattern_view}
-use Rattle.urlpattern_pattern.specs.ReadBack.{IsConstructorString}
-use Rattle.urlpattern_pattern.specs.UrlPatterns.{UrlPattern}
+use Rattle.urlpattern_pattern.specs.Patterns.{pattern_view}
 
--- ---- arguments
-
--- The arguments of `explain`: a constructor string, and a base URL and an input if there are any.
-pub record AskedView : Type 0 where
-  pub string : List ℕ
-  pub base : Option (List ℕ)
-  pub input : Option (List ℕ)
-
--- The view of the arguments of `explain`.
-abbrev pub asked_view : Asked → AskedView
-asked_view asked = record {
-  string = asked.string.now;
-  base = option_copied asked.base;
-  input = option_copied asked.input;
-}
-
--- The words are the arguments of `explain`: a constructor string, a base URL or `-`, and an input,
--- which may be missing.
-abbrev pub AskToExplain : (words : List (List ℕ)) → AskedView → Type 0
-AskToExplain (string ∷ word ∷ []) asked =
-    asked ≡ record { string = string; base = base_of word; input = None }
-AskToExplain (string ∷ word ∷ last ∷ []) asked =
-    asked ≡ record { string = string; base = base_of word; input = Some last }
-AskToExplain words asked = ⊥
-
--- ---- explanations
-
--- `table` is a line for each component: its name and its pattern, and, if there are texts, its
--- text, whether the text matches, and the captures.
-abbrev pub IsTable : PatternView PatternRegexp → (texts : Option Texts) → (table : List ℕ) → Type 0
-IsTable pattern None table = table ≡ pattern_table pattern
-IsTable pattern (Some texts) table = IsMatchTable pattern texts table
-
--- `text` is the output for a constructor string, with or without the texts of an input: JSON, or a
--- line for each component and the notes.
-abbrev pub IsShown : (json : Bool) → ExplainedView → (texts : Option Texts) → (text : List ℕ)
-    → Type 0
-IsShown true explained texts text = IsExplanationJson explained texts text
-IsShown false explained texts text =
-    (table : List ℕ) × IsTable explained.pattern texts table
-    × (text ≡ table ++ all_notes explained)
-
--- `found` is the output for a constructor string, with or without the texts of an input, and the
--- exit status `status`.
-abbrev pub IsShownBy : (json : Bool) → ExplainedView → (texts : Option Texts) → (status : ℕ)
+-- The output is printed with this outcome, and the exit status is `status`.
+abbrev pub IsPrinted : (Prints : Option Outcome → List ℕ → Type 0) → Option Outcome → (status : ℕ)
     → Explanation → Type 0
-IsShownBy json explained texts status found =
-    IsShown json explained texts (string_bytes found.text) × (found.status ≡ status)
+IsPrinted Prints outcome status found =
+    Prints outcome (string_bytes found.text) × (found.status ≡ status)
 
--- `found` is the output for a constructor string and a URL. The exit status says whether the
--- pattern matches the URL.
-abbrev pub IsShownOf : (json : Bool) → ExplainedView → Parts → Explanation → Type 0
-IsShownOf json explained url found =
-    (matched : Bool) × TestsInput pattern_result explained.pattern (match_inputs.Url url) matched
-    × IsShownBy json explained (Some (texts_of_url url)) (status_of matched) found
+-- The output is printed with the outcome for a URL, and the exit status says whether the pattern
+-- matches the URL.
+abbrev pub IsPrintedFor : (Prints : Option Outcome → List ℕ → Type 0) → Explained → Parts
+    → Explanation → Type 0
+IsPrintedFor Prints explained url found =
+    (outcome : Outcome) × (matched : Bool)
+    × IsOutcome (pattern_view explained.pattern.now) (texts_of_url url) outcome
+    × TestsInput pattern_result (pattern_view explained.pattern.now) (match_inputs.Url url) matched
+    × IsPrinted Prints (Some outcome) (status_of matched) found
 
--- `found` is the output for a constructor string and an input, if there is one. If the input is a
--- URL, its texts are shown. If it is not a URL, or may be too long for `url`, the exit status is 1.
-abbrev pub IsExplained : (json : Bool) → ExplainedView
+-- `found` is the output for an explanation and an input, if there is one. If the input is not a
+-- URL, or may be too long for `url`, there is no outcome, and the exit status is 1.
+abbrev pub IsAnswer : (Prints : Explained → Option Outcome → List ℕ → Type 0) → Explained
     → (base input : Option (List ℕ)) → Explanation → Type 0
-IsExplained json explained base None found = IsShownBy json explained None 0 found
-IsExplained json explained base (Some input) found =
-    (IsRejectedText input base × IsShownBy json explained None 1 found)
-    ⊎ ((url : Parts) × IsUrlOf input base url × IsShownOf json explained url found)
+IsAnswer Prints explained base None found = IsPrinted (Prints explained) None 0 found
+IsAnswer Prints explained base (Some input) found =
+    (IsRejectedText input base × IsPrinted (Prints explained) None 1 found)
+    ⊎ ((url : Parts) × IsUrlOf input base url
+    × IsPrintedFor (Prints explained) explained url found)
 
--- `found` is the output for the arguments, given the compiled pattern, the init of the constructor
--- string, and the places of its texts in the string.
-abbrev pub IsExplanationOf : (json : Bool) → UrlPattern PatternRegexp → UrlPatternInit → Places
-    → AskedView → Explanation → Type 0
-IsExplanationOf json compiled init places asked found =
-    (values : Values) × (noted : Eight Noted) × (text : Option (List ℕ))
-    × (pattern_values init ≡ Ok values) × AreNoted compiled noted
-    × IsConstructorString pattern_engine compiled text
-    × IsExplained json (record {
-      pattern = pattern_view compiled;
-      given = values_view init;
-      places = places;
-      values = values;
-      noted = noted;
-      text = text;
-    }) asked.base asked.input found
+-- An input is there, and it is not a URL, or may be too long for `url`.
+abbrev pub HasNoUrl : (base input : Option (List ℕ)) → Type 0
+HasNoUrl base input = IsSomeAnd input (λ text. IsRejectedText text base)
 
--- `found` is the output for the arguments, given the compiled pattern. The texts of the init have
--- their places where the split found them in the constructor string.
-abbrev pub IsExplanationBy : (json : Bool) → UrlPattern PatternRegexp → AskedView → Explanation
-    → Type 0
-IsExplanationBy json compiled asked found =
-    (init : UrlPatternInit) × (starts : Starts)
-    × IsInitOfText pattern_engine (chars asked.string) asked.base init
-    × SplitsAt (IsSpecialTo pattern_engine) (chars asked.string) (values_view init) starts
-    × IsExplanationOf json compiled init (text_places (values_view init) starts) asked found
-
--- `found` is the output for the arguments. The compiled pattern keeps its parts, by which a
--- component has a meaning or has none.
-abbrev pub IsExplanation : Flags → AskedView → Explanation → Type 0
-IsExplanation flags asked found =
-    (compiled : UrlPattern PatternRegexp)
-    × IsPatternOf flags.ignore_case asked.string asked.base (pattern_view compiled)
-    × KeepsPartsOfWord flags.ignore_case asked.string asked.base compiled
-    × IsExplanationBy flags.json compiled asked found
+-- `found` is the output for the arguments.
+abbrev pub IsExplanation : (Prints : Explained → Option Outcome → List ℕ → Type 0) → Flags
+    → ExplainArguments → Explanation → Type 0
+IsExplanation Prints flags asked found =
+    (explained : Explained)
+    × IsExplained flags.ignore_case asked.pattern.now (option_copied asked.base) explained
+    × IsAnswer Prints explained (option_copied asked.base) (option_copied asked.input) found
 
 -- The output for the arguments of `explain` is appended to `old`. `status` is the exit status.
-abbrev pub Explains : Flags → (words : List (List ℕ)) → (status : ℕ)
-    → (old new : Option (List ℕ)) → Type 0
-Explains flags words status old new =
-    (asked : AskedView) × (found : Explanation)
-    × AskToExplain words asked
-    × IsExplanation flags asked found
+abbrev pub Explains : (Prints : Explained → Option Outcome → List ℕ → Type 0) → Flags
+    → ExplainArguments → (status : ℕ) → (old new : Option (List ℕ)) → Type 0
+Explains Prints flags asked status old new =
+    (found : Explanation) × IsExplanation Prints flags asked found
     × (status ≡ found.status) × Appends old new (string_bytes found.text)

@@ -1,9 +1,7 @@
 pub mod Explained
 pub mod Noted
 pub mod Explanations
-pub mod ExplainedJson
-pub mod OriginNotes
+pub mod Outcomes
 pub mod ComponentPlaces
-pub mod Rows
 pub mod GivenWords
 pub mod LinkAnswers

@@ -1,8 +1,10 @@
 -- The output of `link` for its arguments. Arguments and texts are bytes.
-use Rattle.std.specs.Prelude.{◌≢◌, ◌++◌, ℕ, false, Any, List, ◌∷◌, codes, Option}
+use Rattle.std.specs.Prelude.{◌≢◌, ◌++◌, ℕ, Any, Bool, List, codes, Option, option_copied}
 use Rattle.std.specs.Io.KnownBytes.{Appends}
 use Rattle.url.specs.Parts.{Parts, serialize}
-use Rattle.urlpat_matching.specs.PatternWords.{IsPatternOf, KeepsPartsOfWord, base_of}
+use Rattle.urlpat_matching.specs.Texts.{texts_view}
+use Rattle.urlpat_matching.specs.declared.command.LinkArguments.{LinkArguments}
+use Rattle.urlpat_matching.specs.PatternWords.{IsPatternOf, KeepsPartsOfWord}
 use Rattle.urlpat_explain.specs.GivenWords.{AreGiven, Given, WordGivesNothing}
 use Rattle.urlpat_explain.specs.declared.link_command.LinkError.{LinkError}
 use Rattle.urlpat_explain.specs.declared.link_command.LinkError.TheVariants as unlinked
@@ -38,27 +40,26 @@ LacksUrl pattern words unlinked.OutOfMemory = Unit {0}
 
 -- ---- output
 
--- The arguments of `link` are a pattern, a base URL and more. `Is` is true of the compiled pattern,
--- which keeps its parts, and of the arguments after the base URL.
-abbrev pub OfPattern : (Is : UrlPattern PatternRegexp → List (List ℕ) → Type 0)
-    → (words : List (List ℕ))
+-- `Is` is true of the pattern to which the text that is asked is compiled, which keeps its parts.
+-- `ignores` says whether the pattern ignores case.
+abbrev pub OfPattern : (Is : UrlPattern PatternRegexp → Type 0) → (ignores : Bool) → LinkArguments
     → Type 0
-OfPattern Is (pattern ∷ base ∷ words) =
+OfPattern Is ignores asked =
     (compiled : UrlPattern PatternRegexp)
-    × IsPatternOf false pattern (base_of base) (pattern_view compiled)
-    × KeepsPartsOfWord false pattern (base_of base) compiled × Is compiled words
-OfPattern Is words = ⊥
+    × IsPatternOf ignores asked.pattern.now (option_copied asked.base) (pattern_view compiled)
+    × KeepsPartsOfWord ignores asked.pattern.now (option_copied asked.base) compiled × Is compiled
 
--- The URL that the arguments of `link` ask for and a line end are appended to the output `old`.
-abbrev pub WritesLink : (words : List (List ℕ)) → (old new : Option (List ℕ)) → Type 0
-WritesLink words old new =
-    OfPattern (λ pattern given.
-    (url : Parts) × IsLinkBy pattern given url × Appends old new (serialize url ++ codes "\n"))
-    words
+-- The URL that is asked for and a line end are appended to the output `old`.
+abbrev pub WritesLink : (ignores : Bool) → LinkArguments → (old new : Option (List ℕ)) → Type 0
+WritesLink ignores asked old new =
+    OfPattern (λ pattern.
+    (url : Parts) × IsLinkBy pattern (texts_view asked.groups.now) url
+    × Appends old new (serialize url ++ codes "\n")) ignores asked
 
--- The pattern among the arguments of `link` has no URL with the texts that are given for its
--- groups, or an argument gives no group a text.
-abbrev pub HasNoLink : (words : List (List ℕ)) → Type 0
-HasNoLink words =
-    OfPattern (λ pattern given.
-    (reason : LinkError) × (reason ≢ unlinked.OutOfMemory) × LacksUrl pattern given reason) words
+-- The pattern has no URL with the texts that are given for its groups, or an argument gives no
+-- group a text.
+abbrev pub HasNoLink : (ignores : Bool) → LinkArguments → Type 0
+HasNoLink ignores asked =
+    OfPattern (λ pattern.
+    (reason : LinkError) × (reason ≢ unlinked.OutOfMemory)
+    × LacksUrl pattern (texts_view asked.groups.now) reason) ignores asked

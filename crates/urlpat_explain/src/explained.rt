@@ -2,8 +2,7 @@
 
 ghost use Rattle.std.specs.Prelude.{◌≡◌};
 ghost use Rattle.std.specs.Str.{chars};
-ghost use Rattle.urlpat_explain.specs.Explained.{explained_view};
-ghost use Rattle.urlpat_explain.specs.ExplainedJson.{origin};
+ghost use Rattle.urlpat_explain.specs.Explained.{origin};
 ghost use Rattle.urlpat_explain.specs.ComponentPlaces.{text_place, text_places};
 ghost use Rattle.urlpattern_components.specs.Eight.{at};
 ghost use Rattle.urlpattern_constructor.specs.Splitting.{HasComponentsAt};
@@ -39,23 +38,22 @@ impl Explained<'_> {
     /// The origin of a component's value: `given` in the constructor string, `inherited` from the
     /// base URL, or `left out`.
     pub fn origin(&self, name: ComponentName) -> &'static str
-        ensures { result.now
-            ≡ origin (at (explained_view self.now).given name)
-            (at (explained_view self.now).values name) }
+        ensures { result.now ≡ origin (at (values_view self.now.init.now) name)
+            (at (values_view self.now.values.now) name) }
     {
         origin_of(self.init.get(name), self.values.get(name))
     }
 
     /// What is noted of a component.
     pub fn noted(&self, name: ComponentName) -> Noted
-        ensures { result ≡ at (explained_view self.now).noted name }
+        ensures { result ≡ at self.now.noted.now name }
     {
         *self.noted.get(name)
     }
 
     /// The place of a component's text in the constructor string, if it has one.
     pub fn place(&self, name: ComponentName) -> Option<Span>
-        ensures { result ≡ at (explained_view self.now).places name }
+        ensures { result ≡ at self.now.places.now name }
     {
         *self.places.get(name)
     }

@@ -1,23 +1,19 @@
-//! The command `explain`: prints a line for each component of a pattern and notes on where the
-//! components come from; or, as JSON, an object with a key for each component.
+//! The command `explain`: what each component of a pattern is, and how it matches an input.
 
-ghost use Rattle.std.specs.Prelude.{◌≡◌, ◌≢◌, ◌⊎◌, length, option_copied, string_bytes, IfNone, IfOk, IfSome};
-ghost use Rattle.urlpat_matching.specs.Status.{status_of};
-ghost use Rattle.urlpat_explain.specs.Explained.{explained_view, lent_texts};
-ghost use Rattle.urlpat_explain.specs.Explanations.{AskToExplain, Explains, IsExplained, IsExplanation, IsExplanationOf, IsShown, IsTable, asked_view};
-ghost use Rattle.urlpat_lines.specs.Words.{words_view};
-ghost use Rattle.urlpattern_pattern.specs.Patterns.{pattern_view};
+ghost use Rattle.std.specs.Prelude.{◌≡◌, ◌≢◌, ◌⊎◌, ℕ, Bool, List, Option, option_copied, string_bytes, IfOk, IfSome};
+ghost use Rattle.urlpat_explain.specs.Explained.{IsRead};
+ghost use Rattle.urlpat_explain.specs.Explanations.{Explains, HasNoUrl, IsAnswer, IsExplanation};
+ghost use Rattle.urlpat_explain.specs.declared.explained.Explained.{Explained};
+ghost use Rattle.urlpat_explain.specs.declared.outcome.Outcome.{Outcome};
 
-use crate::columns::{match_table, pattern_table};
 use crate::explained::{Explained, text_places};
-use crate::explained_json::explanation_json;
 use crate::noted::noted_of;
-use crate::origin_notes::push_notes;
-use std::alloc::Global;
+use crate::outcome::{Outcome, outcome_of};
+use std::alloc::{AllocError, Global};
 use std::io::Write;
-use urlpat_lines::Flags;
 use urlpat_matching::{
-    DONE, FAILED, Failure, NO_MATCH, base_of, compiled, fail, note_of, print, write_refusal,
+    DONE, ExplainArguments, FAILED, Flags, NO_MATCH, compiled, fail, note_of, print, status_of,
+    write_refusal,
 };
 use urlpattern_canonical::{find_url, parse_base};
 use urlpattern_compile::pattern_values;
@@ -25,22 +21,26 @@ use urlpattern_components::Eight;
 use urlpattern_diagnosis::Span;
 use urlpattern_engine::PatternRegexp;
 use urlpattern_init::UrlPatternInit;
-use urlpattern_matches::url_texts;
 use urlpattern_pattern::UrlPattern;
 use urlpattern_syntax::Error;
 
-/// The usage of `explain`.
-const EXPLAIN_USAGE: &str = "\
-usage: urlpat explain PATTERN BASE [INPUT]
-       add --ignore-case for patterns that ignore case, --json for JSON
-";
+/// A printer of explanations.
+pub trait ExplanationPrinter {
+    // `text` is how an explanation is printed, as JSON or not, with the outcome for an input, if
+    // there is one that is a URL.
+    ghost Prints: { Self → (json : Bool) → Explained → Option Outcome → (text : List ℕ) → Type 0 };
 
-/// The arguments of `explain`: a constructor string, and a base URL and an input if there are any.
-#[derive(Clone, Copy)]
-struct Asked<'a> {
-    string: &'a str,
-    base: Option<&'a str>,
-    input: Option<&'a str>,
+    /// Returns an explanation as it is printed, as JSON or not. `outcome` is that for an input, if
+    /// there is one that is a URL.
+    fn print_explanation(
+        &self,
+        alloc: Global,
+        json: bool,
+        explained: &Explained<'_>,
+        outcome: Option<&Outcome<'_>>,
+    ) -> Result<String, AllocError>
+        ensures { IfOk result (λ text. Prints self.now json explained.now
+            (option_copied outcome.entry) (string_bytes text)) };
 }
 
 /// The output of `explain`, and the exit status, which says whether the pattern matches the input,
@@ -51,62 +51,39 @@ struct Explanation {
     status: u8,
 }
 
-/// Runs `explain` with the arguments after it. Returns the exit status: `NO_MATCH` if there is an
-/// input that the pattern does not match. An input that is not a URL is not matched, and is
-/// reported to `err`.
-pub fn explain<Out: Write, Err: Write>(
+/// Runs `explain`. Returns the exit status: `NO_MATCH` if there is an input that the pattern does
+/// not match. An input that is not a URL is not matched, and is reported to `err`.
+pub fn explain<P: ExplanationPrinter, Out: Write, Err: Write>(
     alloc: Global,
-    words: &[String],
+    printer: &P,
+    asked: ExplainArguments<'_>,
     flags: Flags,
     out: &mut Out,
     err: &mut Err,
 ) -> u8
     ensures status { (result ≡ DONE) ⊎ (result ≡ NO_MATCH) ⊎ (result ≡ FAILED) }
     ensures answers { result ≢ FAILED
-        → Explains flags (words_view words.now) result (Out.contents out.old)
+        → Explains (P.Prints printer.now flags.json) flags asked.entry result (Out.contents out.old)
         (Out.contents out.new) }
+    ensures quiet { result ≢ FAILED → (err.new ≡ err.old)
+        ⊎ HasNoUrl (option_copied asked.entry.base) (option_copied asked.entry.input) }
 {
-    let Some(asked) = asked_by(words) else {
-        let _ = err.write_all(EXPLAIN_USAGE.as_bytes());
-        return FAILED;
-    };
-    let found = match explanation_for(alloc, asked, flags) {
+    let found = match explanation_for(alloc, printer, asked, flags) {
         Ok(found) => found,
-        Err(error) => return write_refusal(alloc, asked.string, asked.base, error, err),
+        Err(error) => return write_refusal(alloc, None, asked.pattern, asked.base, error, err),
     };
     let note = match input_note(alloc, asked.base, asked.input) {
         Ok(note) => note,
-        Err(error) => return fail(&Failure::from(error), err),
+        Err(error) => return fail(&error, err),
     };
     match print(found.text.as_bytes(), out) {
         Ok(()) => {
             if let Some(note) = &note {
-                let _ = err.write_all(note.as_bytes());
+                let _ = write!(err, "urlpat: {note}");
             }
             found.status
         }
         Err(_) => FAILED,
-    }
-}
-
-/// Parses the arguments of `explain`. `None`: the arguments are invalid.
-fn asked_by(words: &[String]) -> Option<Asked<'_>>
-    ensures asked { IfSome result (λ asked.
-        AskToExplain (words_view words.now) (asked_view asked)) }
-    ensures other { IfNone result ((length words.now ≢ 2) × (length words.now ≢ 3)) }
-{
-    match words {
-        [string, base] => Some(Asked {
-            string,
-            base: base_of(base),
-            input: None,
-        }),
-        [string, base, input] => Some(Asked {
-            string,
-            base: base_of(base),
-            input: Some(input.as_str()),
-        }),
-        _ => None,
     }
 }
 
@@ -116,7 +93,10 @@ fn input_note(
     alloc: Global,
     base: Option<&str>,
     input: Option<&str>,
-) -> Result<Option<String>, Error> {
+) -> Result<Option<String>, Error>
+    ensures { IfOk result (λ note. IfSome note (λ text.
+        HasNoUrl (option_copied base.entry) (option_copied input.entry))) }
+{
     match input {
         Some(input) => note_of(alloc, base, input),
         None => Ok(None),
@@ -126,35 +106,42 @@ fn input_note(
 /// The output of `explain` for its arguments.
 ///
 /// The error is the one with which the pattern or its base is rejected, or that memory ran out.
-fn explanation_for(alloc: Global, asked: Asked<'_>, flags: Flags) -> Result<Explanation, Error>
-    ensures text { IfOk result (IsExplanation flags (asked_view asked.entry)) }
+fn explanation_for<P: ExplanationPrinter>(
+    alloc: Global,
+    printer: &P,
+    asked: ExplainArguments<'_>,
+    flags: Flags,
+) -> Result<Explanation, Error>
+    ensures text { IfOk result (IsExplanation (P.Prints printer.now flags.json) flags asked.entry) }
     ensures status { IfOk result (λ found. (found.status ≡ DONE) ⊎ (found.status ≡ NO_MATCH)) }
 {
-    let pattern = compiled(alloc, asked.string, asked.base, flags.ignore_case)?;
+    let pattern = compiled(alloc, asked.pattern, asked.base, flags.ignore_case)?;
     let base = parse_base(alloc, asked.base)?;
     let (init, starts) = UrlPatternInit::parse_constructor_string_with_starts::<PatternRegexp>(
         alloc,
-        asked.string,
+        asked.pattern,
         base,
     )?;
-    let places = text_places(asked.string, &init, &starts);
-    let found = explanation_of(alloc, asked, flags.json, &pattern, &init, &places);
+    let places = text_places(asked.pattern, &init, &starts);
+    let found = explanation_of(alloc, printer, asked, flags, &pattern, &init, &places);
     drop(init);
     found
 }
 
 /// The output of `explain` for its arguments, given the compiled pattern, the init of the
 /// constructor string, and the places of its texts in the string.
-fn explanation_of(
+fn explanation_of<P: ExplanationPrinter>(
     alloc: Global,
-    asked: Asked<'_>,
-    json: bool,
+    printer: &P,
+    asked: ExplainArguments<'_>,
+    flags: Flags,
     pattern: &UrlPattern<PatternRegexp>,
     init: &UrlPatternInit,
     places: &Eight<Option<Span>>,
 ) -> Result<Explanation, Error>
-    ensures text { IfOk result (IsExplanationOf json pattern.now init.now places.now
-        (asked_view asked.entry)) }
+    requires { IsRead flags.ignore_case asked.pattern.now (option_copied asked.base)
+        pattern.now init.now places.now }
+    ensures text { IfOk result (IsExplanation (P.Prints printer.now flags.json) flags asked.entry) }
     ensures status { IfOk result (λ found. (found.status ≡ DONE) ⊎ (found.status ≡ NO_MATCH)) }
 {
     let noted = noted_of(alloc, pattern)?;
@@ -168,83 +155,48 @@ fn explanation_of(
         noted: &noted,
         text: &text,
     };
-    let found = answer(alloc, &explained, json, asked.base, asked.input);
+    let found = answer(
+        alloc,
+        printer,
+        &explained,
+        flags.json,
+        asked.base,
+        asked.input,
+    );
     drop(values);
     found
 }
 
-/// The output for a constructor string, with the texts of the input if there is one that is a URL,
-/// and the exit status: `NO_MATCH` if the pattern does not match the input, or the input is not a
-/// URL.
-fn answer(
+/// The output for a pattern and an input, if there is one, and the exit status: `NO_MATCH` if the
+/// pattern does not match the input, or the input is not a URL.
+fn answer<P: ExplanationPrinter>(
     alloc: Global,
+    printer: &P,
     explained: &Explained<'_>,
     json: bool,
     base: Option<&str>,
     input: Option<&str>,
 ) -> Result<Explanation, Error>
-    ensures text { IfOk result (IsExplained json (explained_view explained.now)
+    ensures text { IfOk result (IsAnswer (P.Prints printer.now json) explained.now
         (option_copied base.entry) (option_copied input.entry)) }
     ensures status { IfOk result (λ found. (found.status ≡ DONE) ⊎ (found.status ≡ NO_MATCH)) }
 {
     let Some(input) = input else {
-        let text = shown(alloc, explained, json, None)?;
+        let text = printer.print_explanation(alloc, json, explained, None)?;
         return Ok(Explanation { text, status: DONE });
     };
     let Some(url) = find_url(alloc, input, base)? else {
-        let text = shown(alloc, explained, json, None)?;
+        let text = printer.print_explanation(alloc, json, explained, None)?;
         return Ok(Explanation {
             text,
             status: NO_MATCH,
         });
     };
-    let text = shown(alloc, explained, json, Some(&url_texts(&url)))?;
     let matched = explained.pattern.test_url(alloc, &url)?;
+    let outcome = outcome_of(alloc, explained.pattern, &url)?;
+    let text = printer.print_explanation(alloc, json, explained, Some(&outcome))?;
     Ok(Explanation {
         text,
         status: status_of(matched),
     })
-}
-
-/// The output for a constructor string: JSON, or a line for each component and the notes. `texts`
-/// are the texts of the input, if there is one that is a URL.
-fn shown(
-    alloc: Global,
-    explained: &Explained<'_>,
-    json: bool,
-    texts: Option<&Eight<&str>>,
-) -> Result<String, Error>
-    ensures { IfOk result (λ text.
-        IsShown json (explained_view explained.now) (lent_texts texts.entry) (string_bytes text)) }
-{
-    if json {
-        return explanation_json(alloc, explained, texts);
-    }
-    let mut text = table(alloc, explained.pattern, texts)?;
-    push_notes(alloc, &mut text, explained)?;
-    Ok(text)
-}
-
-/// A line for each component: its name and its pattern, and, if there are texts, its text, whether
-/// the text matches, and the captures.
-fn table(
-    alloc: Global,
-    pattern: &UrlPattern<PatternRegexp>,
-    texts: Option<&Eight<&str>>,
-) -> Result<String, Error>
-    ensures { IfOk result (λ table.
-        IsTable (pattern_view pattern.now) (lent_texts texts.entry) (string_bytes table)) }
-{
-    match texts {
-        Some(texts) => match_table(alloc, pattern, texts),
-        None => Ok(pattern_table(alloc, pattern)?),
-    }
-}
-
-/// The exit status of a run, by whether the input matches.
-fn status_of(matched: bool) -> u8
-    ensures either { (result ≡ DONE) ⊎ (result ≡ NO_MATCH) }
-    ensures is { result ≡ status_of matched }
-{
-    if matched { DONE } else { NO_MATCH }
 }

@@ -1,15 +1,13 @@
 //! Parses the arguments of `link` that give texts for groups.
 
 ghost use Rattle.std.specs.Prelude.{◌≡◌, IfErr, IfNone, IfOk, IfSome};
-ghost use Rattle.std.specs.Str.{chars};
-ghost use Rattle.urlpat_explain.specs.GivenWords.{AreGiven, WordGivesNothing, IsOnlyOwner, WordGivesGroup, HasNoSingleOwner, IsGroupNamed, NamesNoGroup, RejectsWords};
+ghost use Rattle.urlpat_explain.specs.GivenWords.{AreGiven, WordGivesNothing, WordGivesGroup, RejectsWords};
 ghost use Rattle.urlpat_explain.specs.declared.given_words.ArgumentError.TheVariants as all_misgiven;
-ghost use Rattle.urlpat_lines.specs.Words.{words_view};
+ghost use Rattle.urlpat_matching.specs.Texts.{texts_view};
 ghost use Rattle.urlpattern_pattern.specs.Patterns.{pattern_view};
 
 use std::alloc::{AllocError, Global};
-use urlpat_matching::has_group;
-use urlpattern_components::ComponentName;
+use urlpat_matching::named_group;
 use urlpattern_engine::PatternRegexp;
 use urlpattern_generate::GivenGroup;
 use urlpattern_pattern::UrlPattern;
@@ -39,22 +37,22 @@ impl From<AllocError> for ArgumentError<'_> {
 pub fn given_by<'w>(
     alloc: Global,
     pattern: &UrlPattern<PatternRegexp>,
-    words: &'w [String],
+    words: &[&'w str],
 ) -> Result<Vec<GivenGroup<'w>>, ArgumentError<'w>>
     ensures given { IfOk result (λ groups.
-        AreGiven (pattern_view pattern.now) (words_view words.now) groups.items) }
+        AreGiven (pattern_view pattern.now) (texts_view words.now) groups.items) }
     ensures refused { IfErr result
-        (RejectsWords (pattern_view pattern.now) (words_view words.now)) }
+        (RejectsWords (pattern_view pattern.now) (texts_view words.now)) }
 {
     let mut groups = Vec::with_capacity(alloc, words.len())?;
     for word in words {
-        match word_group(pattern, word) {
+        match word_group(pattern, *word) {
             Some(group) => {
                 if groups.push(group).is_err() {
                     return Err(ArgumentError::OutOfMemory);
                 }
             }
-            None => return Err(ArgumentError::Word(word)),
+            None => return Err(ArgumentError::Word(*word)),
         }
     }
     Ok(groups)
@@ -69,39 +67,4 @@ fn word_group<'w>(pattern: &UrlPattern<PatternRegexp>, word: &'w str) -> Option<
     let (name, text) = word.split_once('=')?;
     let (component, group) = named_group(pattern, name)?;
     Some((component, group, text))
-}
-
-/// The group that `name` names: a component, a dot and the group, or the group alone if a single
-/// component has it. After a dot, any name of a group is accepted. `None`: no component has the
-/// name before the dot; or, without a dot, no component has the group, or several have it.
-fn named_group<'w>(
-    pattern: &UrlPattern<PatternRegexp>,
-    name: &'w str,
-) -> Option<(ComponentName, &'w str)>
-    ensures named { IfSome result (λ group.
-        IsGroupNamed (pattern_view pattern.now) name.now group.0 group.1.now) }
-    ensures nothing { IfNone result (NamesNoGroup (pattern_view pattern.now) name.now) }
-{
-    match name.split_once('.') {
-        Some((component, group)) => Some((ComponentName::from_name(component)?, group)),
-        None => Some((owner(pattern, name)?, name)),
-    }
-}
-
-/// The only component that has a group with this name. `None`: no component has one, or several
-/// have.
-fn owner(pattern: &UrlPattern<PatternRegexp>, name: &str) -> Option<ComponentName>
-    ensures alone { IfSome result (IsOnlyOwner (pattern_view pattern.now) (chars name.now)) }
-    ensures none { IfNone result (HasNoSingleOwner (pattern_view pattern.now) (chars name.now)) }
-{
-    let mut found = None;
-    for component in ComponentName::all() {
-        if has_group(pattern.get(component), name) {
-            if found.is_some() {
-                return None;
-            }
-            found = Some(component);
-        }
-    }
-    found
 }

@@ -5,7 +5,7 @@ ghost use Rattle.std.specs.Io.KnownBytes.{Appends};
 ghost use Rattle.url.specs.Parts.{serialize};
 ghost use Rattle.urlpat_explain.specs.LinkAnswers.{HasNoLink, IsLinkBy, LacksUrl, WritesLink};
 ghost use Rattle.urlpat_explain.specs.declared.link_command.LinkError.TheVariants as all_unlinked;
-ghost use Rattle.urlpat_lines.specs.Words.{words_view};
+ghost use Rattle.urlpat_matching.specs.Texts.{texts_view};
 
 use crate::given_words::{ArgumentError, given_by};
 use crate::link_reason::write_reason;
@@ -13,13 +13,10 @@ use std::alloc::Global;
 use std::io;
 use std::io::Write;
 use url::Url;
-use urlpat_matching::{DONE, FAILED, NO_MATCH, base_of, compiled, write_refusal};
+use urlpat_matching::{DONE, FAILED, Flags, LinkArguments, NO_MATCH, compiled, write_refusal};
 use urlpattern_engine::PatternRegexp;
 use urlpattern_generate::NoLink;
 use urlpattern_pattern::UrlPattern;
-
-/// The usage of `link`.
-const LINK_USAGE: &str = "usage: urlpat link PATTERN BASE NAME=VALUE..\n";
 
 /// The reason why `link` has no URL.
 #[derive(Drop)]
@@ -32,29 +29,26 @@ pub enum LinkError<'w> {
     OutOfMemory,
 }
 
-/// Runs `link` with the arguments after it. Returns the exit status: `NO_MATCH` if there is no URL
-/// or an argument gives no group a text, which is reported to `err` with the reason.
+/// Runs `link`. Returns the exit status: `NO_MATCH` if there is no URL or an argument gives no
+/// group a text, which is reported to `err` with the reason.
 pub fn link<Out: Write, Err: Write>(
     alloc: Global,
-    words: &[String],
+    asked: LinkArguments<'_, '_>,
+    flags: Flags,
     out: &mut Out,
     err: &mut Err,
 ) -> u8
     ensures status { (result ≡ DONE) ⊎ (result ≡ NO_MATCH) ⊎ (result ≡ FAILED) }
     ensures written { result ≡ DONE
-        → WritesLink (words_view words.now) (Out.contents out.old) (Out.contents out.new) }
-    ensures refused { result ≡ NO_MATCH → HasNoLink (words_view words.now) × (out.new ≡ out.old) }
+        → WritesLink flags.ignore_case asked.entry (Out.contents out.old) (Out.contents out.new) }
+    ensures refused { result ≡ NO_MATCH
+        → HasNoLink flags.ignore_case asked.entry × (out.new ≡ out.old) }
 {
-    let [pattern_word, base_word, given @ ..] = words else {
-        let _ = err.write_all(LINK_USAGE.as_bytes());
-        return FAILED;
-    };
-    let base = base_of(base_word);
-    let pattern = match compiled(alloc, pattern_word, base, false) {
+    let pattern = match compiled(alloc, asked.pattern, asked.base, flags.ignore_case) {
         Ok(pattern) => pattern,
-        Err(error) => return write_refusal(alloc, pattern_word, base, error, err),
+        Err(error) => return write_refusal(alloc, None, asked.pattern, asked.base, error, err),
     };
-    let found = linked(alloc, &pattern, given);
+    let found = linked(alloc, &pattern, asked.groups);
     drop(pattern);
     match found {
         Ok(url) => match print_url(&url, out) {
@@ -84,10 +78,10 @@ fn report<Err: Write>(reason: &LinkError<'_>, err: &mut Err) -> u8
 fn linked<'w>(
     alloc: Global,
     pattern: &UrlPattern<PatternRegexp>,
-    words: &'w [String],
+    words: &[&'w str],
 ) -> Result<Url, LinkError<'w>>
-    ensures linked { IfOk result (IsLinkBy pattern.now (words_view words.now)) }
-    ensures refused { IfErr result (LacksUrl pattern.now (words_view words.now)) }
+    ensures linked { IfOk result (IsLinkBy pattern.now (texts_view words.now)) }
+    ensures refused { IfErr result (LacksUrl pattern.now (texts_view words.now)) }
 {
     let groups = match given_by(alloc, pattern, words) {
         Ok(groups) => groups,

@@ -10,7 +10,7 @@ pub(crate) fn write_reason<Err: Write>(reason: &LinkError<'_>, err: &mut Err) ->
     match reason {
         LinkError::Word(word) => writeln!(
             err,
-            "`{word}` gives nothing: write COMPONENT.NAME=VALUE, or NAME=VALUE where one component alone has that group"
+            "urlpat: `{word}` gives nothing: write COMPONENT.NAME=VALUE, or NAME=VALUE where one component alone has that group"
         ),
         LinkError::NoLink(error) => write_refusal(error, err),
         LinkError::OutOfMemory => err.write_all(b"out of memory\n"),
@@ -23,9 +23,9 @@ fn write_refusal<Err: Write>(refusal: &NoLink, err: &mut Err) -> io::Result<()> 
         NoLink::Component(GenerateError::Missing(component, name)) => {
             writeln!(
                 err,
-                "the group `{component}.{name}` is missing: give {component}.{name}=VALUE"
+                "urlpat: the group `{component}.{name}` is missing: give {component}.{name}=VALUE"
             )
         }
-        _ => writeln!(err, "{refusal}"),
+        _ => writeln!(err, "urlpat: {refusal}"),
     }
 }

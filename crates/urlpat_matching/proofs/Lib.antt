@@ -3,3 +3,7 @@ pub mod GroupNames
 pub mod MatchLemmas
 pub mod MatchJsonLemmas
 pub mod GroupNameLemmas
+pub mod LineReadingLemmas
+pub mod LineAnswerLemmas
+pub mod EntryLemmas
+mod TableExamples

@@ -7,7 +7,7 @@ use Rattle.std.specs.declared.alloc.Global.{Global}
 use Rattle.urlpat_matching.specs.GroupLines.{AreGroupLines, AreLines, named_results}
 use Rattle.urlpat_matching.specs.MatchTexts.{IsMatchText, IsMatchTextBy, IsUnmatched, IsUnmatchedBy}
 use Rattle.urlpat_matching.specs.PatternWords.{IsPatternOf}
-use Rattle.urlpat_lines.specs.declared.flags.Flags.{Flags}
+use Rattle.urlpat_matching.specs.declared.command.Flags.{Flags}
 use Rattle.urlpattern_components.specs.Eight.{name_text}
 use Rattle.urlpattern_components.specs.declared.eight.ComponentName.{ComponentName}
 use Rattle.urlpattern_components.specs.declared.eight.ComponentName.TheVariants.{Protocol}
@@ -51,14 +51,6 @@ bytes_of_each (string ∷ strings) = ap₂ (λ first rest. first ∷ rest) (byte
 
 pub bytes_of_texts : (strings : List (String Global)) (texts : List (List ℕ)) → map (λ string. text_of string) strings ≡ texts → map (λ string. string_bytes string) strings ≡ map encode_utf8_all texts
 bytes_of_texts strings texts same = bytes_of_each strings ∙ ap (map encode_utf8_all) same
-
--- ---- words
-
-pub two_words_and_more : (words : List (String Global)) (a b : String Global) (rest : List (String Global)) → 2 ≤ length words
-    → a ≡ get_or words 0 a → b ≡ get_or words 1 b → rest ≡ drop 2 words → words ≡ a ∷ b ∷ rest
-two_words_and_more [] a b rest least is_a is_b is_rest = absurd (omega (arith, least))
-two_words_and_more (x ∷ []) a b rest least is_a is_b is_rest = absurd (omega (arith, least))
-two_words_and_more (x ∷ y ∷ others) a b rest least is_a is_b is_rest = rw (is_a, is_b, is_rest) refl
 
 -- ---- matches
 

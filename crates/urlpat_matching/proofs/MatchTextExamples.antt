@@ -1,7 +1,6 @@
--- Worked examples of printed captures, and of arguments for base URLs.
+-- Worked examples of printed captures.
 use Rattle.std.proofs.Common.{◌≡◌, [], Some, None, codes, refl}
 use Rattle.urlpat_matching.specs.GroupLines.{group_bytes, group_line}
-use Rattle.urlpat_matching.specs.PatternWords.{base_of}
 
 -- The line of a group that took no part ends after the name.
 optional_group_that_took_no_part : group_line (codes "pathname") (codes "lang") (group_bytes (Some None)) ≡ codes "pathname lang\n"
@@ -10,9 +9,3 @@ optional_group_that_took_no_part = refl
 -- The line of a group that captured the empty text has an equals sign.
 group_that_captured_nothing : group_line (codes "search") (codes "0") (Some []) ≡ codes "search 0=\n"
 group_that_captured_nothing = refl
-
-minus_is_no_base : base_of (codes "-") ≡ None
-minus_is_no_base = refl
-
-other_words_are_base_urls : base_of (codes "--") ≡ Some (codes "--")
-other_words_are_base_urls = refl

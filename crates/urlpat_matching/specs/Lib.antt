@@ -4,3 +4,8 @@ pub mod MatchJson
 pub mod MatchTexts
 pub mod PatternWords
 pub mod Status
+pub mod LineAnswers
+pub mod Lines
+pub mod Filters
+pub mod Tables
+pub mod Texts

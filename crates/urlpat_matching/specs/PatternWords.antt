@@ -1,6 +1,6 @@
--- Patterns and base URLs that arguments name. Arguments are bytes. `ignores` says whether patterns
--- ignore case.
-use Rattle.std.specs.Prelude.{ℕ, Bool, false, if◌then◌else◌, List, bytes_eq, codes, Option, None, Some}
+-- The patterns to which the constructor strings among the arguments are compiled. Texts are bytes.
+-- `ignores` says whether patterns ignore case.
+use Rattle.std.specs.Prelude.{ℕ, Bool, List, Option}
 use Rattle.std.specs.Str.{chars}
 use Rattle.urlpattern_compile.specs.FromString.{IsPatternOfText, RejectsPatternOfText}
 use Rattle.urlpattern_engine.specs.PatternRegexps.{pattern_engine}
@@ -12,17 +12,9 @@ use Rattle.urlpattern_pattern.specs.UrlPatterns.{UrlPattern}
 use Rattle.urlpattern_syntax.specs.Errors.{ErrorView}
 use Rattle.urlpattern_syntax.specs.declared.parser.RegexSyntax.TheVariants.{Rust}
 
--- The base URL that an argument names. `None`: the argument is `-`.
-abbrev pub base_of : List ℕ → Option (List ℕ)
-base_of word = if bytes_eq word (codes "-") then None else Some word
-
 -- The options for patterns: the syntax of `regex`, and case ignored or not.
 abbrev pub pattern_options : (ignores : Bool) → UrlPatternOptions
 pattern_options ignores = record { regex_syntax = Rust; ignore_case = ignores }
-
--- The default options for patterns, which keep case.
-abbrev pub default_pattern_options : UrlPatternOptions
-default_pattern_options = pattern_options false
 
 -- The constructor string `text` with the base URL `base` is compiled to the pattern, with the
 -- engine `PatternRegexp`.

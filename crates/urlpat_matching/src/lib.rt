@@ -1,16 +1,33 @@
-//! What the commands of the program share: patterns and URLs from arguments, groups and their
-//! captures, as lines or as JSON, exit statuses, and the reasons why a pattern or an input is
-//! rejected.
+//! What the commands of the program share: their arguments, the lines and the tables of patterns
+//! that they read, patterns and URLs, groups and their captures, as lines or as JSON, exit
+//! statuses, and the reasons why a pattern or an input is rejected.
+//!
+//! Of the lines that a command reads, only one at a time is in memory, and of a line that is too
+//! long only a part.
 #![tactic(auto)]
 
+mod answers;
+mod command;
 mod exit_status;
 mod group_names;
 mod json_output;
+mod lines;
 mod notes;
 mod pattern_matching;
+mod table;
+mod writing;
 
-pub use exit_status::{DONE, FAILED, Failure, NO_MATCH, fail, print, report};
-pub use group_names::has_group;
+pub use answers::{LinesError, Rule, Tally, Verdict, answer_lines};
+pub use command::{
+    Arguments, AskedShape, Command, ComponentArguments, CoversArguments, ExplainArguments,
+    FilterArguments, FirstArguments, Flags, Kind, LinkArguments, MatchArguments, Shape,
+    TableArguments,
+};
+pub use exit_status::{DONE, FAILED, NO_MATCH, fail, print, report, status_of};
+pub use group_names::{has_group, named_group};
 pub use json_output::{json_line, match_json, match_tree};
+pub use lines::{LONGEST, read_line, without_end};
 pub use notes::{first_diagnosis, match_diagnosis, note_of, write_refusal};
-pub use pattern_matching::{NO_BASE, base_of, capture_of, compiled, matched_groups, push_match};
+pub use pattern_matching::{capture_of, compiled, matched_groups, push_match};
+pub use table::{Entry, NoTable, entries_of};
+pub use writing::write_answers;

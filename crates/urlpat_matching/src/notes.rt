@@ -6,6 +6,7 @@ ghost use Rattle.urlpattern_canonical.specs.BaseUrls.{IsRejectedText};
 
 use crate::exit_status::FAILED;
 use std::alloc::Global;
+use std::fmt;
 use std::io::Write;
 use url::{ParseError, Url};
 use urlpattern_canonical::find_url;
@@ -51,10 +52,25 @@ fn parsed(alloc: Global, base: Option<&str>, input: &str) -> Result<Url, ParseEr
     url
 }
 
-/// Reports the error with which a constructor string or its base is rejected, and after it a
-/// diagnosis. If memory runs out, only that is reported. Returns the exit status, `FAILED`.
+/// A line of a table, as it is written before an error.
+#[derive(Clone, Copy)]
+struct Place(Option<u64>);
+
+impl fmt::Display for Place {
+    fn fmt<W: fmt::Write>(&self, f: &mut fmt::Formatter<W>) -> fmt::Result {
+        match self.0 {
+            Some(number) => write!(f, "line {number}: "),
+            None => Ok(()),
+        }
+    }
+}
+
+/// Reports the error with which a constructor string or its base is rejected, with the number of
+/// the line that has the string, if it is that of a table, and after it a diagnosis. If memory runs
+/// out, only that is reported. Returns the exit status, `FAILED`.
 pub fn write_refusal<Err: Write>(
     alloc: Global,
+    line: Option<u64>,
     pattern: &str,
     base: Option<&str>,
     error: Error,
@@ -63,15 +79,14 @@ pub fn write_refusal<Err: Write>(
     ensures { result ≡ FAILED }
 {
     let note = match error {
-        Error::OutOfMemory => Ok(None),
+        Error::OutOfMemory => Err(OutOfMemory),
         _ => match_diagnosis(alloc, pattern, base),
     };
     match note {
-        Ok(Some(note)) => {
-            let _ = write!(err, "{error}\n{note}");
-        }
-        Ok(None) => {
-            let _ = writeln!(err, "{error}");
+        Ok(note) => {
+            let place = Place(line);
+            let note = note.as_deref().unwrap_or("");
+            let _ = write!(err, "urlpat: {place}{error}\n{note}");
         }
         Err(_) => {
             let _ = err.write_all(b"out of memory\n");
@@ -103,7 +118,7 @@ pub fn match_diagnosis(
 pub fn first_diagnosis(
     alloc: Global,
     base: Option<&str>,
-    patterns: &[String],
+    patterns: &[&str],
 ) -> Result<Option<String>, OutOfMemory> {
     for (index, pattern) in patterns.iter().enumerate() {
         if let Some(diagnosis) = diagnosed(alloc, pattern, base)? {

@@ -6,16 +6,16 @@ ghost use Rattle.std.specs.Prelude.{◌≡◌, ◌++◌, ◌∷◌, [], map, opt
 ghost use Rattle.std.specs.Str.{chars};
 ghost use Rattle.urlpat_matching.specs.GroupLines.{AreGroupLines, AreLines, AreNames, AppendsLines, group_bytes, all_named_results, group_line};
 ghost use Rattle.urlpat_matching.specs.MatchTexts.{FindsMatch, FindsMatchBy, ShowsMatch};
-ghost use Rattle.urlpat_matching.specs.PatternWords.{IsPatternOf, KeepsPartsOfWord, RejectsPatternOf, base_of};
+ghost use Rattle.urlpat_matching.specs.PatternWords.{IsPatternOf, KeepsPartsOfWord, RejectsPatternOf};
 ghost use Rattle.urlpattern_matches.specs.BorrowedMatches.{pattern_captures_view, groups_view};
 ghost use Rattle.urlpattern_components.specs.Eight.{name_text};
 ghost use Rattle.urlpattern_syntax.specs.Errors.{MemoryOr, OnlyOutOfMemory};
 ghost use Rattle.urlpattern_pattern.specs.Patterns.{pattern_view};
 ghost use Rattle.urlpattern_syntax.specs.Text.{text_of};
 
+use crate::command::{Flags, MatchArguments};
 use crate::json_output::match_json;
 use std::alloc::{AllocError, Global};
-use urlpat_lines::Flags;
 use urlpattern_canonical::find_url;
 use urlpattern_components::ComponentName;
 use urlpattern_engine::PatternRegexp;
@@ -24,37 +24,27 @@ use urlpattern_matches::UrlPatternCaptures;
 use urlpattern_pattern::UrlPattern;
 use urlpattern_syntax::{Error, RegexSyntax};
 
-/// The argument for no base URL.
-pub const NO_BASE: &str = "-";
-
-/// Returns what the groups of a pattern capture of an input, a URL under the base URL that the
-/// argument `base` names: a line for each group, or JSON, as `flags` say. `None`: the input does
-/// not match, or is not a URL.
+/// Returns what the groups of a pattern capture of an input, a URL under a base URL if there is
+/// one: a line for each group, or JSON, as `flags` say. `None`: the input does not match, or is not
+/// a URL.
 ///
 /// The error is the one with which the pattern or its base is rejected, or that memory ran out.
 pub fn matched_groups(
     alloc: Global,
-    pattern: &str,
-    base: &str,
+    asked: MatchArguments<'_>,
     flags: Flags,
-    input: &str,
 ) -> Result<Option<String>, Error>
-    ensures found { IfOk result (FindsMatch flags pattern.now input.now (base_of base.now)) }
-    ensures refused { IfErr result
-        (MemoryOr (RejectsPatternOf flags.ignore_case pattern.now (base_of base.now))) }
+    ensures found { IfOk result
+        (FindsMatch flags asked.entry.pattern.now asked.entry.input.now
+        (option_copied asked.entry.base)) }
+    ensures refused { IfErr result (MemoryOr
+        (RejectsPatternOf flags.ignore_case asked.entry.pattern.now
+        (option_copied asked.entry.base))) }
 {
-    let base = base_of(base);
-    let pattern = compiled(alloc, pattern, base, flags.ignore_case)?;
-    let answer = groups_of_match(alloc, &pattern, base, flags.json, input);
+    let pattern = compiled(alloc, asked.pattern, asked.base, flags.ignore_case)?;
+    let answer = groups_of_match(alloc, &pattern, asked.base, flags.json, asked.input);
     drop(pattern);
     Ok(answer?)
-}
-
-/// The base URL that an argument names. `None`: the argument is `-`.
-pub fn base_of(word: &str) -> Option<&str>
-    ensures { option_copied result ≡ base_of word.now }
-{
-    if word == NO_BASE { None } else { Some(word) }
 }
 
 /// Compiles a constructor string, under a base URL if there is one, with the engine

@@ -19,7 +19,7 @@ pub enum Excess {
     Texts(ExcessTexts),
     /// No such texts without line feeds exist.
     Nothing,
-    /// Not known, for this reason. No other two rules are known to decide such texts.
+    /// Not known, for this reason.
     Unknown(PairDoubt),
 }
 

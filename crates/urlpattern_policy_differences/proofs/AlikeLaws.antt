@@ -1,24 +1,9 @@
 -- Policies without a difference decide alike.
-use Rattle.std.proofs.Common.{◌≡◌, ◌≢◌, ◌∙◌, ◌⊎◌, ◌<◌, ◌&&◌, ◌||◌, ℕ, zero, suc, All, Bool, true, false, true≢false, List, [], ◌∷◌, ◌++◌, MatchBool, None, Option, Some, Ok, Err, ap, arith, inl, inr, length, map, not, refl, slice_get, subst, sym, take}
-use Rattle.std.proofs.lemmas.List.{map-append}
-use Rattle.std.proofs.lemmas.List.Elements.{All-append, All-cons, All-head, All-nil, All-tail}
-use Rattle.std.specs.Map.{keys_of, values_of}
-use Rattle.std.specs.Prelude.{IsTrue, unwrap_or, if◌then◌else◌}
-use Rattle.url.specs.Parser.{Parsed}
-use Rattle.urlpattern_canonical.specs.Canonical.{canonical_hostname}
-use Rattle.urlpattern_compare.proofs.CandidateLemmas.{name_cases}
-use Rattle.urlpattern_compare.proofs.ComponentLemmas.{wildcard_means}
-use Rattle.urlpattern_compare.specs.Candidates.{AreLines, TextAt}
-use Rattle.urlpattern_compare.specs.CommonTexts.{MeansEach, PatternMeaning, parts_of}
-use Rattle.urlpattern_compare.specs.Comparing.{IsKnown, MeansIn}
+use Rattle.std.proofs.Common.{◌≡◌, ◌≢◌, ◌∙◌, ◌⊎◌, ◌&&◌, ℕ, Bool, true, false, true≢false, [], MatchBool, Option, ap, inl, inr, not, refl, subst, sym}
+use Rattle.std.specs.Prelude.{IsTrue, if◌then◌else◌}
 use Rattle.urlpattern_compare.specs.TextSearch.{IsLine}
-use Rattle.urlpattern_compare.specs.declared.common_texts.PatternAutomata.{PatternAutomata}
-use Rattle.urlpattern_compare.specs.declared.pattern_parts.PatternParts.{PatternParts}
 use Rattle.urlpattern_components.specs.Eight.{Texts, at}
 use Rattle.urlpattern_components.specs.declared.eight.ComponentName.{ComponentName}
-use Rattle.urlpattern_components.specs.declared.eight.ComponentName.TheVariants.{Hash, Hostname, Password, Pathname, Port, Protocol, Search, Username}
-use Rattle.urlpattern_differences.proofs.WrittenLemmas.{full_not_custom, known_wildcard, means_in, means_out, segment_means, segment_not_custom, segment_some, written_match}
-use Rattle.urlpattern_differences.specs.Credentials.{DeniesCredentials, IsWritten}
 use Rattle.urlpattern_differences.specs.Deciding.{IsFirst, effect_of}
 use Rattle.urlpattern_differences.specs.Excess.{AllowsAllOf, IsExcess}
 use Rattle.urlpattern_differences.specs.declared.excess.Excess.{Excess}
@@ -31,13 +16,12 @@ use Rattle.urlpattern_init.specs.Inheritance.{texts_of_url}
 use Rattle.urlpattern_laws.specs.PartReadings.{OwnPartsMean}
 use Rattle.urlpattern_matcher.specs.declared.regexp.RegExp.{Ghosts as Engine}
 use Rattle.urlpattern_policy_differences.proofs.ComparingLemmas.{more_appended, none_appended}
-use Rattle.urlpattern_policy_differences.proofs.HostLines.{canonical_line}
 use Rattle.urlpattern_policy_differences.proofs.LineLemmas.{matched_credentials, matched_lines}
-use Rattle.urlpattern_policy_differences.proofs.MeantLemmas.{IsMeant, IsTold, SameMatch, are_meanings, meant_are, meant_at, meant_by, meant_parts, none_meant, none_meant_at_all}
+use Rattle.urlpattern_policy_differences.proofs.MeantLemmas.{SameMatch, are_meanings}
 use Rattle.urlpattern_policy_differences.specs.AlikeDecisions.{NoDifferenceAllows, WithinAllows, only_allows}
-use Rattle.urlpattern_policy_differences.specs.Comparing.{AppendsRules, IsEmpty, difference_of, is_spelled_alike}
+use Rattle.urlpattern_policy_differences.specs.Comparing.{AppendsRules, difference_of, is_spelled_alike}
 use Rattle.urlpattern_policy.specs.DecisionWords.{is_allow}
-use Rattle.urlpattern_policy.specs.Decisions.{DecidesHost, DecidesParsed, DecidesSpelled, DecidesTexts, DecidesUrl, IsDefault, IsFirstRule, has_credentials, has_opaque_host, is_host_read, matched_texts}
+use Rattle.urlpattern_policy.specs.Decisions.{DecidesUrl, has_credentials, has_opaque_host, matched_texts}
 use Rattle.urlpattern_policy.specs.PolicyWords.{strict_options}
 use Rattle.urlpattern_policy.specs.Spellings.{plain_texts}
 use Rattle.urlpattern_policy_differences.specs.declared.comparing.PolicyExcess.TheVariants as differences
@@ -46,255 +30,8 @@ use Rattle.urlpattern_policy.specs.declared.decision.Decision.TheVariants.{Allow
 use Rattle.urlpattern_policy.specs.declared.decision.DenyReason.TheVariants as reasons
 use Rattle.urlpattern_policy.specs.declared.policy.PolicyOptions.{PolicyOptions}
 use Rattle.urlpattern_policy.specs.declared.policy.UrlPolicy.{UrlPolicy}
-use Rattle.urlpattern_syntax.specs.RegexpText.{is_empty}
-
-empty_is : (text : List ℕ) → is_empty text ≡ true → text ≡ []
-empty_is [] is = refl
-empty_is (c ∷ text) is = absurd (true≢false (sym is))
-
-some_is : (text : List ℕ) → is_empty text ≡ false → text ≢ []
-some_is [] is none = true≢false is
-some_is (c ∷ text) is none = absurd cc
-
--- ---- a pattern of which one component is written
-
-abbrev means_by : (written name : ComponentName) → ((name ≡ written) ⊎ ¬ (name ≡ written)) → List ℕ → Bool
-means_by written name (inl same) text = not (is_empty text)
-means_by written name (inr other) text = true
-
-module _ (written : ComponentName) (parts : PatternParts) (is : IsWritten written parts) where
-  abbrev pub written_meaning : PatternMeaning
-  written_meaning = record { parts = parts; means = λ name text. means_by written name (name_cases name written) text }
-
-  known_at : (name : ComponentName) → ((name ≡ written) ⊎ ¬ (name ≡ written)) → IsKnown (at parts.components name)
-  known_at name (inl same) = known_wildcard _ (at parts.components name) ((is name).itself same) segment_not_custom
-  known_at name (inr other) = known_wildcard _ (at parts.components name) ((is name).others other) full_not_custom
-
-  segment_in : (name : ComponentName) → name ≡ written → (text : List ℕ) → IsLine text → (empty : Bool) → is_empty text ≡ empty → not empty ≡ true → MeansIn (at parts.components name) text
-  segment_in name same text line true e never = absurd (true≢false (sym never))
-  segment_in name same text line false e some = means_in _ (at parts.components name) ((is name).itself same) text (segment_means text (some_is text e) line.plain)
-
-  segment_out : (name : ComponentName) → name ≡ written → (text : List ℕ) → MeansIn (at parts.components name) text → (empty : Bool) → is_empty text ≡ empty → not empty ≡ true
-  segment_out name same text means false e = refl
-  segment_out name same text means true e =
-      absurd (segment_some (means_out _ (at parts.components name) ((is name).itself same) [] (subst (MeansIn (at parts.components name)) (empty_is text e) means)))
-
-  means_at : (name : ComponentName) (case : (name ≡ written) ⊎ ¬ (name ≡ written)) (text : List ℕ) → IsLine text
-      → (IsTrue (means_by written name case text) → MeansIn (at parts.components name) text) × (MeansIn (at parts.components name) text → IsTrue (means_by written name case text))
-  means_at name (inl same) text line = (λ some. segment_in name same text line (is_empty text) refl some, λ means. segment_out name same text means (is_empty text) refl)
-  means_at name (inr other) text line =
-      (λ on_both. means_in _ (at parts.components name) ((is name).others other) text (wildcard_means _ text line.plain), λ means. refl)
-
-  pub written_told : IsTold written_meaning
-  written_told = record {
-    known = λ name. known_at name (name_cases name written);
-    by_parts = λ name known text line. means_at name (name_cases name written) text line;
-  }
-
--- ---- the rules before those of a policy
-
--- Rules that deny credentials, if the options say so.
-pub record AreFronts {E : Type 0} (engine : Engine E) (options : PolicyOptions) (opening : PolicyAutomata) : Type 0 where
-  pub fronts : List PatternMeaning
-  pub are : All (IsMeant engine) fronts
-  pub own_parts : map (λ it. it.parts) fronts ≡ parts_of opening.patterns.items
-  pub denied : opening.effects.items ≡ map (λ it. effects.Deny) fronts
-  pub default : opening.default ≡ options.default
-  pub count : length fronts ≡ (if options.denies_credentials then 2 else 0)
-  pub fail : (texts : Texts) → AreLines (λ name. at texts name) → (options.denies_credentials && has_credentials texts) ≡ false → All (λ it. ¬ MeansEach it (λ name. at texts name)) fronts
-  pub deny : (texts : Texts) → AreLines (λ name. at texts name) → (options.denies_credentials && has_credentials texts) ≡ true
-      → (i : ℕ) × (i < length fronts) × IsFirst fronts (λ name. at texts name) (Some i)
-
-module _ {E : Type 0} (engine : Engine E) (options : PolicyOptions) (empty opening : PolicyAutomata) (is_empty_policy : IsEmpty options.default empty) where
-  no_fronts : options.denies_credentials ≡ false → opening ≡ empty → AreFronts engine options opening
-  no_fronts off same = record {
-    fronts = [];
-    are = All-nil (IsMeant engine);
-    own_parts = sym (ap parts_of (ap (λ (it : PolicyAutomata). it.patterns.items) same ∙ is_empty_policy.patterns));
-    denied = ap (λ (it : PolicyAutomata). it.effects.items) same ∙ is_empty_policy.effects;
-    default = ap (λ (it : PolicyAutomata). it.default) same ∙ is_empty_policy.default;
-    count = sym (ap (λ (denies : Bool). if denies then 2 else 0) off);
-    fail = λ texts lines without. All-nil (λ it. ¬ MeansEach it (λ name. at texts name));
-    deny = λ texts lines on_both. absurd (true≢false (sym on_both ∙ ap (λ (denies : Bool). denies && has_credentials texts) off));
-  }
-
-  module _ (on : options.denies_credentials ≡ true) (username password : PatternAutomata) (user : IsWritten Username username.parts) (pass : IsWritten Password password.parts) where
-    abbrev users : PatternMeaning
-    users = written_meaning Username username.parts user
-
-    abbrev passwords : PatternMeaning
-    passwords = written_meaning Password password.parts pass
-
-    user_meant : (texts : Texts) → AreLines (λ name. at texts name) → is_empty texts.username ≡ false → MeansEach users (λ name. at texts name)
-    user_meant texts lines some = (written_match Username users user (written_told Username username.parts user).by_parts (λ name. at texts name) lines).1 (some_is texts.username some)
-
-    user_fails : (texts : Texts) → AreLines (λ name. at texts name) → is_empty texts.username ≡ true → ¬ MeansEach users (λ name. at texts name)
-    user_fails texts lines none each = (written_match Username users user (written_told Username username.parts user).by_parts (λ name. at texts name) lines).0 each (empty_is texts.username none)
-
-    pass_meant : (texts : Texts) → AreLines (λ name. at texts name) → is_empty texts.password ≡ false → MeansEach passwords (λ name. at texts name)
-    pass_meant texts lines some = (written_match Password passwords pass (written_told Password password.parts pass).by_parts (λ name. at texts name) lines).1 (some_is texts.password some)
-
-    pass_fails : (texts : Texts) → AreLines (λ name. at texts name) → is_empty texts.password ≡ true → ¬ MeansEach passwords (λ name. at texts name)
-    pass_fails texts lines none each = (written_match Password passwords pass (written_told Password password.parts pass).by_parts (λ name. at texts name) lines).0 each (empty_is texts.password none)
-
-    both_fail : (texts : Texts) → AreLines (λ name. at texts name) → has_credentials texts ≡ false → All (λ it. ¬ MeansEach it (λ name. at texts name)) (users ∷ passwords ∷ [])
-    both_fail texts lines without = by (is_empty texts.username) refl (is_empty texts.password) refl without
-      where
-        by : (user_empty : Bool) → is_empty texts.username ≡ user_empty → (pass_empty : Bool) → is_empty texts.password ≡ pass_empty → (not user_empty || not pass_empty) ≡ false
-            → All (λ it. ¬ MeansEach it (λ name. at texts name)) (users ∷ passwords ∷ [])
-        by true e true f none =
-            All-cons (λ it. ¬ MeansEach it (λ name. at texts name)) users (passwords ∷ []) (user_fails texts lines e)
-            (All-cons (λ it. ¬ MeansEach it (λ name. at texts name)) passwords [] (pass_fails texts lines f) (All-nil (λ it. ¬ MeansEach it (λ name. at texts name))))
-        by true e false f none = absurd (true≢false none)
-        by false e pass_empty f none = absurd (true≢false none)
-
-    one_denies : (texts : Texts) → AreLines (λ name. at texts name) → has_credentials texts ≡ true
-        → (i : ℕ) × (i < length (users ∷ passwords ∷ [])) × IsFirst (users ∷ passwords ∷ []) (λ name. at texts name) (Some i)
-    one_denies texts lines on_both = by (is_empty texts.username) refl (is_empty texts.password) refl on_both
-      where
-        by : (user_empty : Bool) → is_empty texts.username ≡ user_empty → (pass_empty : Bool) → is_empty texts.password ≡ pass_empty → (not user_empty || not pass_empty) ≡ true
-            → (i : ℕ) × (i < length (users ∷ passwords ∷ [])) × IsFirst (users ∷ passwords ∷ []) (λ name. at texts name) (Some i)
-        by false e pass_empty f some = (0, omega arith, ((users, refl, user_meant texts lines e), All-nil (λ it. ¬ MeansEach it (λ name. at texts name))))
-        by true e false f some = (
-          1,
-          omega arith,
-          (
-            (passwords, refl, pass_meant texts lines f),
-            All-cons (λ it. ¬ MeansEach it (λ name. at texts name)) users [] (user_fails texts lines e) (All-nil (λ it. ¬ MeansEach it (λ name. at texts name))),
-          ),
-        )
-        by true e true f some = absurd (true≢false (sym some))
-
-    two_fronts : opening.patterns.items ≡ username ∷ password ∷ [] → opening.effects.items ≡ effects.Deny ∷ effects.Deny ∷ [] → opening.default ≡ options.default → AreFronts engine options opening
-    two_fronts patterns own default = record {
-      fronts = users ∷ passwords ∷ [];
-      are = All-cons (IsMeant engine) users (passwords ∷ []) (inr (written_told Username username.parts user))
-          (All-cons (IsMeant engine) passwords [] (inr (written_told Password password.parts pass)) (All-nil (IsMeant engine)));
-      own_parts = sym (ap parts_of patterns);
-      denied = own;
-      default = default;
-      count = sym (ap (λ (denies : Bool). if denies then 2 else 0) on);
-      fail = λ texts lines without. both_fail texts lines (sym (ap (λ (denies : Bool). denies && has_credentials texts) on) ∙ without);
-      deny = λ texts lines on_both. one_denies texts lines (sym (ap (λ (denies : Bool). denies && has_credentials texts) on) ∙ on_both);
-    }
-
-  pub fronts_of : MatchBool options.denies_credentials (DeniesCredentials empty opening) (opening ≡ empty) → AreFronts engine options opening
-  fronts_of by_option = by options.denies_credentials refl by_option
-    where
-      by : (denies : Bool) → options.denies_credentials ≡ denies → MatchBool denies (DeniesCredentials empty opening) (opening ≡ empty) → AreFronts engine options opening
-      by false off same = no_fronts off same
-      by true on (username, password, between, user, a, pass, b, first, second) =
-          two_fronts on username password user pass
-          (second.patterns ∙ ap (λ l. l ++ password ∷ []) (first.patterns ∙ ap (λ l. l ++ username ∷ []) is_empty_policy.patterns))
-          (second.effects ∙ ap (λ l. l ++ effects.Deny ∷ []) (first.effects ∙ ap (λ l. l ++ effects.Deny ∷ []) is_empty_policy.effects))
-          (second.default ∙ first.default ∙ is_empty_policy.default)
-
--- ---- rules after others
-
--- The index, after those of other rules.
-abbrev pub shifted : {X : Type 0} → List X → ℕ → ℕ
-shifted [] i = i
-shifted (it ∷ front) i = suc (shifted front i)
-
-module _ (texts : TextAt) where
-  abbrev Fails : PatternMeaning → Type 0
-  Fails it = ¬ MeansEach it texts
-
-  pub within_front : (front rest : List PatternMeaning) (i : ℕ) → IsFirst front texts (Some i) → IsFirst (front ++ rest) texts (Some i)
-  within_front [] rest i first = absurd (let there = first.0.1 in cc)
-  within_front (it ∷ front) rest zero first = (first.0, All-nil Fails)
-  within_front (it ∷ front) rest (suc i) first =
-      let later = within_front front rest i ((first.0), All-tail Fails it (take i front) first.1) in
-      (later.0, All-cons Fails it (take i (front ++ rest)) (All-head Fails it (take i front) first.1) later.1)
-
-  after_front : (front rest : List PatternMeaning) (i : ℕ) → All Fails front → IsFirst rest texts (Some i) → IsFirst (front ++ rest) texts (Some (shifted front i))
-  after_front [] rest i fails first = first
-  after_front (it ∷ front) rest i fails first =
-      let later = after_front front rest i (All-tail Fails it front fails) first in
-      (later.0, All-cons Fails it (take (shifted front i) (front ++ rest)) (All-head Fails it front fails) later.1)
-
-pub front_effect : (front : List PatternMeaning) (own : List Effect) (default : Effect) (i : ℕ) → i < length front → unwrap_or (slice_get (map (λ it. effects.Deny) front ++ own) i) default ≡ effects.Deny
-front_effect [] own default i lt = absurd (omega (arith, lt))
-front_effect (it ∷ front) own default zero lt = refl
-front_effect (it ∷ front) own default (suc i) lt = front_effect front own default i (omega (arith, lt))
-
-pub after_effect : (front : List PatternMeaning) (own : List Effect) (default : Effect) (i : ℕ) → unwrap_or (slice_get (map (λ it. effects.Deny) front ++ own) (shifted front i)) default ≡ unwrap_or (slice_get own i) default
-after_effect [] own default i = refl
-after_effect (it ∷ front) own default i = after_effect front own default i
-
--- ---- what a policy decides, by its automata
-
--- What a decision on a URL is.
-abbrev effect_by : Decision → Effect
-effect_by (Allow rule) = effects.Allow
-effect_by (Deny reason) = effects.Deny
-
-abbrev IsRuled : Decision → Type 0
-IsRuled (Deny reasons.OutOfMemory) = ⊥
-IsRuled decision = Unit {0}
-
-module _ {E : Type 0} (engine : Engine E) (policy : UrlPolicy E) (automata : PolicyAutomata) (opening : PolicyAutomata) (fronts : AreFronts engine policy.options opening) (appended : AppendsRules engine policy.rules opening automata) where
-  abbrev pub all : List PatternMeaning
-  all = fronts.fronts ++ meant_by engine (keys_of policy.rules) appended.own
-
-  pub all_parts : map (λ it. it.parts) all ≡ parts_of automata.patterns.items
-  all_parts =
-      map-append (λ (it : PatternMeaning). it.parts) fronts.fronts (meant_by engine (keys_of policy.rules) appended.own)
-      ∙ ap (λ l. l ++ map (λ (it : PatternMeaning). it.parts) (meant_by engine (keys_of policy.rules) appended.own)) fronts.own_parts
-      ∙ ap (λ l. parts_of opening.patterns.items ++ l) (meant_parts engine (keys_of policy.rules) appended.own appended.have)
-      ∙ sym (ap parts_of appended.patterns ∙ map-append (λ (it : PatternAutomata). it.parts) opening.patterns.items appended.own)
-
-  pub all_are : All (IsMeant engine) all
-  all_are = All-append (IsMeant engine) fronts.fronts (meant_by engine (keys_of policy.rules) appended.own) fronts.are (meant_are engine (keys_of policy.rules) appended.own appended.have)
-
-  pub all_effects : automata.effects.items ≡ map (λ it. effects.Deny) fronts.fronts ++ values_of policy.rules
-  all_effects = appended.effects ∙ ap (λ l. l ++ values_of policy.rules) fronts.denied
-
-  module _ (texts : Texts) (lines : AreLines (λ name. at texts name)) where
-    abbrev Decided : Effect → Type 0
-    Decided effect = (first : Option ℕ) × IsFirst all (λ name. at texts name) first × (effect_of automata first ≡ effect)
-
-    by_rule : (index : ℕ) (effect : Effect) → (policy.options.denies_credentials && has_credentials texts) ≡ false → IsFirstRule engine.answer policy.rules texts index effect → Decided effect
-    by_rule index effect none is =
-        let (view, there, matched) = is.matches in
-        let own = meant_by engine (keys_of policy.rules) appended.own in
-        let first : IsFirst own (λ name. at texts name) (Some index) = (
-          meant_at engine (λ name. at texts name) (keys_of policy.rules) appended.own appended.have index view there matched,
-          none_meant engine (λ name. at texts name) (keys_of policy.rules) appended.own appended.have index is.first,
-        ) in (
-          Some (shifted fronts.fronts index),
-          after_front (λ name. at texts name) fronts.fronts own index (fronts.fail texts lines none) first,
-          ap (λ (them : List Effect). unwrap_or (slice_get them (shifted fronts.fronts index)) automata.default) all_effects
-              ∙ after_effect fronts.fronts (values_of policy.rules) automata.default index ∙ ap (λ (found : Option Effect). unwrap_or found automata.default) is.decides,
-        )
-
-    by_default : (effect : Effect) → (policy.options.denies_credentials && has_credentials texts) ≡ false → IsDefault engine.answer policy texts effect → Decided effect
-    by_default effect none is = (
-      None,
-      All-append (λ it. ¬ MeansEach it (λ name. at texts name)) fronts.fronts (meant_by engine (keys_of policy.rules) appended.own) (fronts.fail texts lines none)
-          (none_meant_at_all engine (λ name. at texts name) (keys_of policy.rules) appended.own appended.have is.none),
-      appended.default ∙ fronts.default ∙ is.decides,
-    )
-
-    pub by_texts : (decision : Decision) → IsRuled decision → (policy.options.denies_credentials && has_credentials texts) ≡ false → DecidesTexts engine.answer policy texts decision → Decided (effect_by decision)
-    by_texts (Allow (Some index)) ruled none is = by_rule index effects.Allow none is
-    by_texts (Allow None) ruled none is = by_default effects.Allow none is
-    by_texts (Deny (reasons.Rule index)) ruled none is = by_rule index effects.Deny none is
-    by_texts (Deny reasons.NoRule) ruled none is = by_default effects.Deny none is
-    by_texts (Deny (reasons.NotAUrl error)) ruled none is = absurd is
-    by_texts (Deny reasons.TooLong) ruled none is = absurd is
-    by_texts (Deny reasons.Credentials) ruled none is = absurd is
-    by_texts (Deny reasons.OutOfMemory) ruled none is = absurd ruled
-
-    pub by_credentials : (policy.options.denies_credentials && has_credentials texts) ≡ true → Decided effects.Deny
-    by_credentials on_both =
-        let (i, within, first) = fronts.deny texts lines on_both in (
-          Some i,
-          within_front (λ name. at texts name) fronts.fronts (meant_by engine (keys_of policy.rules) appended.own) i first,
-          ap (λ (them : List Effect). unwrap_or (slice_get them i) automata.default) all_effects ∙ front_effect fronts.fronts (values_of policy.rules) automata.default i within,
-        )
-
--- ---- two policies
+use Rattle.urlpattern_policy_differences.proofs.DecidedLemmas.{AreFronts, IsRuled, all, all_are, all_parts, by_credentials, by_texts, effect_by, fronts_of}
+use Rattle.urlpattern_policy_differences.proofs.AskedTexts.{AreAsked, AreFit, IsAnswered, IsRead, IsRuledBy, answered_url, asked_of, fit, ruled_of}
 
 nothing_is : (options others : PolicyOptions) (excess : Excess) → differences.Nothing ≡ difference_of options others excess → excess ≡ excesses.Nothing
 nothing_is options others (excesses.Texts found) is = absurd cc
@@ -323,84 +60,10 @@ not_memory (Deny reasons.OutOfMemory) = inl (inr refl)
 deny_is_not_allow : effects.Deny ≢ effects.Allow
 deny_is_not_allow e = absurd cc
 
--- ---- the texts of a URL, with the host that is read
-
--- The texts are those of the URL, with the host that `url` reads if `reads` is true.
-abbrev IsRead : (reads : Bool) → Texts → Texts → Type 0
-IsRead reads texts asked =
-    MatchBool reads ((host : List ℕ) × (canonical_hostname texts.hostname ≡ Ok host) × (asked ≡ record texts { hostname = host })) (asked ≡ texts)
-
--- The texts of which the rules are asked.
-abbrev AreAsked : PolicyOptions → Texts → Texts → Type 0
-AreAsked options texts asked = IsRead (is_host_read options texts) texts asked
-
-hosted_line : (texts : Texts) (host : List ℕ) → ((name : ComponentName) → IsLine (at texts name)) → IsLine host → (name : ComponentName) → IsLine (at (record texts { hostname = host }) name)
-hosted_line texts host lines line Protocol = lines Protocol
-hosted_line texts host lines line Username = lines Username
-hosted_line texts host lines line Password = lines Password
-hosted_line texts host lines line Hostname = line
-hosted_line texts host lines line Port = lines Port
-hosted_line texts host lines line Pathname = lines Pathname
-hosted_line texts host lines line Search = lines Search
-hosted_line texts host lines line Hash = lines Hash
-
--- The asked texts are lines, and have a user name or a password if the URL does.
-record AreFit (texts asked : Texts) : Type 0 where
-  lines : (name : ComponentName) → IsLine (at asked name)
-  credentials : has_credentials asked ≡ has_credentials texts
-
-fit : (options : PolicyOptions) (texts asked : Texts) → ((name : ComponentName) → IsLine (at texts name)) → AreAsked options texts asked → AreFit texts asked
-fit options texts asked lines are = by (is_host_read options texts) are
-  where
-    by : (reads : Bool) → IsRead reads texts asked → AreFit texts asked
-    by true (host, is, same) = subst (AreFit texts) (sym same) (record { lines = hosted_line texts host lines (canonical_line texts.hostname host is); credentials = refl })
-    by false same = subst (AreFit texts) (sym same) (record { lines = lines; credentials = refl })
-
 asked_alike : (options others : PolicyOptions) (texts asked : Texts) → IsTrue (is_spelled_alike options others) → AreAsked options texts asked → AreAsked others texts asked
 asked_alike options others texts asked alike are =
     subst (λ (is : Bool). IsRead (is && has_opaque_host texts) texts asked)
     (same_option options.plain_spelling others.plain_spelling alike) are
-
-module _ {E : Type 0} (engine : Engine E) (policy : UrlPolicy E) (texts : Texts) where
-  -- What is decided of a URL that is not denied for its user name or its password.
-  abbrev IsAnswered : Decision → Type 0
-  IsAnswered decision = MatchBool (is_host_read policy.options texts) (DecidesHost engine.answer policy texts decision) (DecidesSpelled engine.answer policy texts decision)
-
-  abbrev IsRuledBy : Texts → Decision → Type 0
-  IsRuledBy asked decision = DecidesTexts engine.answer policy (matched_texts policy.options asked) decision
-
-  spelled_out : (asked : Texts) (decision : Decision) → IsRuled decision → DecidesSpelled engine.answer policy asked decision → IsRuledBy asked decision
-  spelled_out asked decision ruled (inl is) = is
-  spelled_out asked decision ruled (inr memory) = absurd (subst IsRuled memory.0 ruled)
-
-  -- What is allowed is allowed by rules that are asked of some texts.
-  asked_of : (rule : Option ℕ) → IsAnswered (Allow rule) → (asked : Texts) × AreAsked policy.options texts asked × IsRuledBy asked (Allow rule)
-  asked_of rule answered = by (is_host_read policy.options texts) answered
-    where
-      read : (parsed : Parsed (List ℕ)) → canonical_hostname texts.hostname ≡ parsed
-          → DecidesParsed (λ host. DecidesSpelled engine.answer policy (record texts { hostname = host })) parsed (Allow rule) → (asked : Texts) × IsRead true texts asked × IsRuledBy asked (Allow rule)
-      read (Ok host) e (inl is) = (record texts { hostname = host }, (host, e, refl), spelled_out (record texts { hostname = host }) (Allow rule) tt is)
-      read (Ok host) e (inr memory) = absurd cc
-      read (Err reason) e (inl rejected) = absurd cc
-      read (Err reason) e (inr memory) = absurd cc
-
-      by : (reads : Bool) → MatchBool reads (DecidesHost engine.answer policy texts (Allow rule)) (DecidesSpelled engine.answer policy texts (Allow rule)) → (asked : Texts) × IsRead reads texts asked × IsRuledBy asked (Allow rule)
-      by true host = read (canonical_hostname texts.hostname) refl host
-      by false spelled = (texts, refl, spelled_out texts (Allow rule) tt spelled)
-
-  -- What is decided is decided by rules that are asked of these texts.
-  ruled_of : (asked : Texts) (decision : Decision) → IsRuled decision → AreAsked policy.options texts asked → IsAnswered decision → IsRuledBy asked decision
-  ruled_of asked decision ruled are answered = by (is_host_read policy.options texts) are answered
-    where
-      by : (reads : Bool) → IsRead reads texts asked
-          → MatchBool reads (DecidesHost engine.answer policy texts decision) (DecidesSpelled engine.answer policy texts decision) → IsRuledBy asked decision
-      by true (host, is, same) parsed =
-          subst (λ (t : Texts). IsRuledBy t decision) (sym same)
-          (elim (subst (λ (it : Parsed (List ℕ)). DecidesParsed (λ one. DecidesSpelled engine.answer policy (record texts { hostname = one })) it decision) is parsed) [
-            | inl spelled ↦ spelled_out (record texts { hostname = host }) decision ruled spelled
-            | inr memory ↦ absurd (subst IsRuled memory ruled)
-          ])
-      by false same spelled = subst (λ (t : Texts). IsRuledBy t decision) (sym same) (spelled_out texts decision ruled spelled)
 
 -- ---- two policies decide
 
@@ -431,15 +94,6 @@ module _ {E : Type 0} (engine : Engine E) (mean : OwnPartsMean engine) (same_mat
         by true e credentials = denied e
         by false e answered = subst DecidedAs denies (ruled decision is e (ruled_of engine policy texts asked decision is are answered))
 
-  -- What a policy allows has no user name and no password that it denies.
-  answered_url : (policy : UrlPolicy E) (texts : Texts) (rule : Option ℕ) → DecidesUrl engine.answer policy texts (Allow rule)
-      → ((policy.options.denies_credentials && has_credentials texts) ≡ false) × IsAnswered engine policy texts (Allow rule)
-  answered_url policy texts rule decides = by (policy.options.denies_credentials && has_credentials texts) decides
-    where
-      by : (has : Bool) → MatchBool has (Allow rule ≡ Deny reasons.Credentials) (IsAnswered engine policy texts (Allow rule)) → (has ≡ false) × IsAnswered engine policy texts (Allow rule)
-      by true never = absurd cc
-      by false answered = (refl, answered)
-
   pub no_difference : NoDifferenceAllows engine
   no_difference one other limits (ones, others, (opening, (empty, is_empty_one, option), appended), (also, (nothing, is_empty_other, also_option), also_appended), (excess, is, found)) alike url valid rule decision allows decides =
       elim (not_memory decision) [
@@ -449,8 +103,8 @@ module _ {E : Type 0} (engine : Engine E) (mean : OwnPartsMean engine) (same_mat
             let lines : (name : ComponentName) → IsLine (at texts name) = λ name. record { scalars = (texts_of_urls url valid name).characters; plain = (texts_of_urls url valid name).no_line_feed } in
             let fronts = fronts_of engine one.options empty opening is_empty_one option in
             let also_fronts = fronts_of engine other.options nothing also is_empty_other also_option in
-            let (none_denied, answered) = answered_url one texts rule allows in
-            let (asked, are, by_rules) = asked_of engine one texts rule answered in
+            let (none_denied, answered) = answered_url engine one texts (Allow rule) tt allows in
+            let (asked, are, by_rules) = asked_of engine one texts (Allow rule) tt answered in
             let are_fit = fit one.options texts asked lines are in
             let here = ruled one ones opening fronts appended texts asked are_fit (Allow rule) tt none_denied by_rules in
             let there = denied_url other others also also_fronts also_appended texts asked are_fit decision is_ruled denies (asked_alike one.options other.options texts asked alike are) decides in

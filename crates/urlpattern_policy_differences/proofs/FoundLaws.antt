@@ -33,7 +33,7 @@ use Rattle.urlpattern_policy.specs.declared.decision.Decision.TheVariants.{Allow
 use Rattle.urlpattern_policy.specs.declared.decision.DenyReason.TheVariants as reasons
 use Rattle.urlpattern_policy.specs.declared.policy.PolicyOptions.{PolicyOptions}
 use Rattle.urlpattern_policy.specs.declared.policy.UrlPolicy.{UrlPolicy}
-use Rattle.urlpattern_policy_differences.proofs.AlikeLaws.{AreFronts, after_effect, all, all_are, all_effects, all_parts, front_effect, fronts_of, shifted}
+use Rattle.urlpattern_policy_differences.proofs.DecidedLemmas.{AreFronts, after_effect, all, all_are, all_effects, all_parts, front_effect, fronts_of, shifted}
 use Rattle.urlpattern_policy_differences.proofs.MeantLemmas.{SameMatch, are_meanings, matches, matches_are, meant_by}
 use Rattle.urlpattern_policy_differences.specs.AlikeDecisions.{DecidesMatched, FoundAreDecided, found_texts}
 use Rattle.urlpattern_policy_differences.specs.Comparing.{AppendsRules, deny_reason, difference_of, rule_of}

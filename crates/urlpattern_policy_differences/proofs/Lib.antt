@@ -1,5 +1,8 @@
 pub mod AlikeLaws
+pub mod AskedTexts
 pub mod ComparingLemmas
+pub mod DeadLaws
+pub mod DecidedLemmas
 pub mod FoundLaws
 pub mod HostLines
 pub mod LineLemmas

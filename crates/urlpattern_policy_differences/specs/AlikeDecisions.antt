@@ -1,5 +1,5 @@
 -- What follows for decisions of what comparing two policies finds.
-use Rattle.std.specs.Prelude.{◌≡◌, ◌⊎◌, ◌&&◌, ◌∷◌, [], ℕ, Bool, IsTrue, List, MatchBool, Option}
+use Rattle.std.specs.Prelude.{◌≡◌, ◌≢◌, ◌⊎◌, ◌&&◌, ◌∷◌, [], ℕ, Bool, Contains, IsTrue, List, MatchBool, Option, Some}
 use Rattle.url.specs.Parts.{IsValid, Parts}
 use Rattle.urlpattern_compare.specs.CommonTexts.{string_at}
 use Rattle.urlpattern_compare.specs.declared.candidates.Limits.{Limits}
@@ -8,7 +8,7 @@ use Rattle.urlpattern_differences.specs.declared.rules.Effect.TheVariants as eff
 use Rattle.urlpattern_init.specs.Inheritance.{texts_of_url}
 use Rattle.urlpattern_matcher.specs.declared.regexp.RegExp.{Ghosts as Engine}
 use Rattle.urlpattern_meaning.specs.PartMeaning.{Captures}
-use Rattle.urlpattern_policy_differences.specs.Comparing.{IsDifference, IsWithin, is_spelled_alike}
+use Rattle.urlpattern_policy_differences.specs.Comparing.{AreDead, IsDifference, IsWithin, is_spelled_alike}
 use Rattle.urlpattern_pattern.specs.UrlPatterns.{UrlPattern}
 use Rattle.urlpattern_policy.specs.DecisionWords.{is_allow}
 use Rattle.urlpattern_policy.specs.Decisions.{DecidesTexts, DecidesUrl, has_credentials}
@@ -55,6 +55,17 @@ WithinAllows {E} engine =
     (policy : UrlPolicy E) (pattern : UrlPattern E) (limits : Limits)
     → IsWithin engine limits policy pattern differences.Nothing
     → AllowsUrlsOf engine.answer (only_allows policy.options.plain_spelling pattern) policy
+
+-- ---- dead rules
+
+-- No rule that is dead, by `dead`, the result of `dead_rules`, decides about a URL.
+abbrev pub DeadDecideNone : {E : Type 0} → Engine E → Type 0
+DeadDecideNone {E} engine =
+    (policy : UrlPolicy E) (limits : Limits) (dead : List ℕ) → AreDead engine limits policy dead
+    → (index : ℕ) → Contains dead index
+    → (url : Parts) → IsValid url → (decision : Decision)
+    → DecidesUrl engine.answer policy (texts_of_url url) decision
+    → (decision ≢ Allow (Some index)) × (decision ≢ Deny (reasons.Rule index))
 
 -- ---- texts that are found
 

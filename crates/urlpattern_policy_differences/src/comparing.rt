@@ -38,7 +38,7 @@ pub enum PolicyExcess {
     Texts(DifferentTexts),
     /// No such texts without line feeds exist.
     Nothing,
-    /// Not known, for this reason. No other two rules are known to decide such texts.
+    /// Not known, for this reason.
     Unknown(DifferenceDoubt),
 }
 
@@ -110,7 +110,7 @@ pub fn is_within<R: RegExp>(
 }
 
 /// Returns the indices of the rules of a policy that are dead, in order: earlier rules cover them
-/// together, so that they decide about no texts.
+/// together, so that they decide about no URL, as `laws::dead_rules_decide_about_no_url` says.
 ///
 /// The error is `NoParts` if a pattern has no parts, else `OutOfMemory`.
 pub fn dead_rules<R: RegExp>(

@@ -1,7 +1,7 @@
 //! Laws of policies compared.
 ghost use Rattle.urlpattern_engine.specs.PatternRegexps.{pattern_engine};
 ghost use Rattle.urlpattern_matcher.specs.Regexes.{regex_engine};
-ghost use Rattle.urlpattern_policy_differences.specs.AlikeDecisions.{FoundAreDecided, NoDifferenceAllows, WithinAllows};
+ghost use Rattle.urlpattern_policy_differences.specs.AlikeDecisions.{DeadDecideNone, FoundAreDecided, NoDifferenceAllows, WithinAllows};
 
 /// Over `PatternRegexp` and `regex::Regex`, a policy allows each URL that another one allows, if
 /// `difference` finds no texts that the other one allows and it denies, and both bring URLs to
@@ -23,4 +23,10 @@ pub fn texts_of_a_difference_are_decided()
 pub fn policies_within_a_pattern_allow_what_it_matches()
     ensures pattern_regexp { WithinAllows pattern_engine }
     ensures regex { WithinAllows regex_engine }
+{}
+
+/// Over `PatternRegexp` and `regex::Regex`, no rule that `dead_rules` names decides about a URL.
+pub fn dead_rules_decide_about_no_url()
+    ensures pattern_regexp { DeadDecideNone pattern_engine }
+    ensures regex { DeadDecideNone regex_engine }
 {}

@@ -36,6 +36,8 @@ mod requests;
 #[cfg(test)]
 mod results;
 #[cfg(test)]
+mod route_rules;
+#[cfg(test)]
 mod route_tables;
 #[cfg(test)]
 mod routers;

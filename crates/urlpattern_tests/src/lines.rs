@@ -3,7 +3,7 @@ ghost use Rattle.std.specs.Prelude.{⊤};
 
 use std::alloc::AllocError;
 use std::test::Fail;
-use urlpat_lines::{LONGEST, Rule, Verdict, answer_lines};
+use urlpat_matching::{LONGEST, Rule, Verdict, answer_lines};
 
 /// A rule that selects the lines of fewer than four characters, and writes them as they are.
 #[derive(Drop)]

@@ -1,19 +1,7 @@
 use Rattle.std.proofs.lemmas.Result.{IfOk-weaker}
-use Rattle.std.specs.Prelude.{option_map, string_bytes}
-use Rattle.urlpat_explain.specs.Explanations.{IsExplained, IsExplanationOf, asked_view}
-use Rattle.urlpattern_init.specs.Inheritance.{values_view}
-use Rattle.urlpattern_pattern.specs.Patterns.{pattern_view}
 use Rattle.urlpat_explain.proofs.explaining.explanation_of.Goals as goal
 
 pub returns-clause-text : goal.returns-clause-text
-returns-clause-text c =
-    let asked = asked_view c.args.asked in
-    let pattern = pattern_view c.args.pattern.now in
-    let noted = c.in_ok-noted.noted in
-    let init = c.args.init.now in
-    let values = values_view c.in_ok-values.values in
-    let text = option_map string_bytes c.in_ok-text.text in
-    IfOk-weaker c.answer-found.result
-    (IsExplained c.args.json (record { pattern = pattern; given = values_view init; places = c.args.places.now; values = values; noted = noted; text = text }) asked.base asked.input)
-    (IsExplanationOf c.args.json c.args.pattern.now init c.args.places.now asked)
-    (λ found is. (values, noted, text, c.in_ok-values.ensures.ok, c.in_ok-noted.ensures, c.in_ok-text.ensures.text, is)) c.answer-found.ensures.text
+returns-clause-text g c =
+    IfOk-weaker c.answer-found.result _ _
+    (λ found is. (_, record { is_read = c.requires; has_values = c.in_ok-values.ensures.ok; are_noted = c.in_ok-noted.ensures; has_text = c.in_ok-text.ensures.text }, is)) c.answer-found.ensures.text

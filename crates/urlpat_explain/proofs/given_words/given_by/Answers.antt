@@ -5,11 +5,11 @@ use Rattle.urlpat_explain.proofs.given_words.given_by.Goals as goal
 
 pub returns-in-None-clause-refused : goal.returns-in-None-clause-refused
 returns-in-None-clause-refused c =
-    nothing_given (pattern_view c.args.pattern.now) c.args.words.now c.loop-word.word-index c.word-item.result _ (omega arith) c.word-item.is (search rules) c.in-None.ensures.nothing
+    nothing_given (pattern_view c.args.pattern.now) c.args.words.now c.loop-word.word-index _ (omega arith) c.in-None.ensures.nothing
 
 pub loop-word-preserved : goal.loop-word-preserved
 loop-word-preserved c =
-    given_more (pattern_view c.args.pattern.now) c.args.words.now c.loop-word.word-index c.word-item.result _ c.loop-word.groups.items _ c.in-Some.group (omega arith) c.word-item.is (search rules)
+    given_more (pattern_view c.args.pattern.now) c.args.words.now c.loop-word.word-index _ c.loop-word.groups.items _ c.in-Some.group (omega arith)
     (search rules) c.in-Some.ensures.given c.loop-word.invariant
 
 pub returns-clause-given : goal.returns-clause-given

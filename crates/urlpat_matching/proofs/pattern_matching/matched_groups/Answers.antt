@@ -5,6 +5,5 @@ use Rattle.urlpat_matching.proofs.pattern_matching.matched_groups.Goals as goal
 
 pub returns-clause-found : goal.returns-clause-found
 returns-clause-found c =
-    rw (← c.base_of-base.ensures)
-    (found_by c.args.flags c.args.pattern.now c.args.input.now (option_copied c.base_of-base.result) (pattern_view c.in_ok-pattern.pattern) c.in_ok-answer.field-0
-    c.in_ok-pattern.ensures.compiled c.in_ok-answer.ensures.found)
+    found_by c.args.flags c.args.asked.pattern.now c.args.asked.input.now (option_copied c.args.asked.base) (pattern_view c.in_ok-pattern.pattern) c.in_ok-answer.field-0
+    c.in_ok-pattern.ensures.compiled c.in_ok-answer.ensures.found

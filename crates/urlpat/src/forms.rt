@@ -1,0 +1,270 @@
+//! The texts and options of each command, as `clap` has them.
+
+use clap::{Arg, ArgAction, Command as Parser};
+use std::alloc::{AllocError, Global};
+
+/// The id of the operands.
+pub(crate) const OPERANDS: &str = "operands";
+
+/// The version of this port, and that of the crate which it ports.
+const VERSION: &str = "2.0.0 (urlpattern 0.6.0)";
+
+/// The texts and options of a command.
+#[derive(Clone, Copy)]
+pub(crate) struct Form {
+    /// The name.
+    pub name: &'static str,
+    /// The usage, without a title.
+    pub usage: &'static str,
+    /// What the command does, in a line.
+    pub about: &'static str,
+    /// What help says after the options.
+    pub more: &'static str,
+    /// The ids of the options.
+    pub options: &'static [&'static str],
+    /// The least number of operands.
+    pub least: usize,
+    /// The most operands. Ignored for the commands whose usage is fixed.
+    pub most: usize,
+    /// Whether what the command prints is fixed: for wrong words, the usage of these commands.
+    pub is_fixed: bool,
+}
+
+/// The options of commands that match URLs.
+const MATCHING: &[&str] = &["base", "ignore-case", "json", "explain-errors"];
+
+/// The options of the program, which stand before a command or among the arguments of the short
+/// form.
+const PROGRAM: &[&str] = MATCHING;
+
+/// The commands, in the order of the help.
+pub(crate) const FORMS: [Form; 9] = [
+    Form {
+        name: "match",
+        usage: "urlpat match [OPTIONS] PATTERN BASE INPUT",
+        about: "Print what the groups of a pattern capture of a URL",
+        more: "\
+BASE is a URL for the pattern and the input, or - for none. Each line has a
+component, the name of a group, and after = what it captured. If the URL does
+not match, `no match` is printed, and the status is 1.
+
+Example: urlpat match /users/:id https://example.com/ /users/7",
+        options: MATCHING,
+        least: 3,
+        most: 3,
+        is_fixed: true,
+    },
+    Form {
+        name: "first",
+        usage: "urlpat first [OPTIONS] BASE INPUT PATTERN..",
+        about: "Find the first of several patterns that matches a URL",
+        more: "\
+BASE is a URL for the patterns and the input, or - for none. `match` and the
+index of the pattern are printed, counted from 0, and then a line for each
+group. If none matches, `no match` is printed, and the status is 1.
+
+Example: urlpat first https://example.com/ /users/7 /about /users/:id",
+        options: MATCHING,
+        least: 3,
+        most: 3,
+        is_fixed: true,
+    },
+    Form {
+        name: "filter",
+        usage: "urlpat filter [OPTIONS] PATTERN [BASE]",
+        about: "Print the lines of standard input whose URLs match",
+        more: "\
+BASE is a URL for the pattern and the lines, or - for none. A line that is no
+URL does not match. If no line is selected, the status is 1.
+
+Example: urlpat filter https://example.com/users/:id --group pathname.id",
+        options: &["base", "ignore-case", "json", "not", "count", "group"],
+        least: 1,
+        most: 2,
+        is_fixed: false,
+    },
+    Form {
+        name: "route",
+        usage: "urlpat route [OPTIONS] TABLE [BASE]",
+        about: "Find the pattern of a table that matches the URL of each line",
+        more: "\
+TABLE is a file with a pattern a line, and its name after a tab, if it has one.
+Lines that are empty or begin with # are skipped. BASE is a URL for the patterns
+and the lines, or - for none. For each line of standard input the number of the
+pattern's line, its name and its groups are printed with tabs between, or - if
+no pattern matches. If none matches any line, the status is 1.
+
+Example: urlpat route routes.txt https://example.com/ <urls.txt",
+        options: &["base", "ignore-case", "json"],
+        least: 1,
+        most: 2,
+        is_fixed: false,
+    },
+    Form {
+        name: "explain",
+        usage: "urlpat explain [OPTIONS] PATTERN [BASE] [INPUT]",
+        about: "Show the components of a pattern, and whether each matches",
+        more: "\
+BASE is a URL for the pattern and the input, or - for none. If the input does
+not match, the status is 1.
+
+Example: urlpat explain https://example.com/:id https://example.com/7",
+        options: &["base", "ignore-case", "json"],
+        least: 1,
+        most: 3,
+        is_fixed: false,
+    },
+    Form {
+        name: "link",
+        usage: "urlpat link [OPTIONS] PATTERN [BASE] GROUP=VALUE..",
+        about: "Print the URL that a pattern matches with given groups",
+        more: "\
+A group is named by its component, a dot and its name, or by its name alone if
+no other component has it. BASE is a URL for the pattern, or - for none. If
+there is no such URL, the status is 1.
+
+Example: urlpat link https://example.com/users/:id id=7",
+        options: &["base", "ignore-case"],
+        least: 1,
+        most: usize::MAX,
+        is_fixed: false,
+    },
+    Form {
+        name: "covers",
+        usage: "urlpat covers [OPTIONS] PATTERN ASKED",
+        about: "Tell whether a pattern matches whatever another one does",
+        more: "\
+If not, the component in which they differ is printed, and a text for each
+component that ASKED matches and PATTERN does not, if one is known; the status
+is 1. If it is not known, the status is 2.
+
+Example: urlpat covers 'https://example.com/*' https://example.com/users/:id",
+        options: &["base", "ignore-case", "json"],
+        least: 2,
+        most: 2,
+        is_fixed: false,
+    },
+    Form {
+        name: "unreachable",
+        usage: "urlpat unreachable [OPTIONS] TABLE [BASE]",
+        about: "Find the patterns of a table that are never the first match",
+        more: "\
+For each such pattern the number of its line is printed, and those of the
+patterns that cover it together, with tabs between. If there is none, the status
+is 1. TABLE and BASE are as those of `route`.
+
+Example: urlpat unreachable routes.txt https://example.com/",
+        options: &["base", "ignore-case", "json"],
+        least: 1,
+        most: 2,
+        is_fixed: false,
+    },
+    Form {
+        name: "component",
+        usage: "urlpat component [OPTIONS] default|hostname|pathname PATTERN",
+        about: "Show what the pattern of one component is compiled to",
+        more: "\
+The names of its groups, its regular expression and the printed pattern. A name
+stands for a segment, which ends at a dot in a hostname and at a slash in a
+pathname. By default there are no segments.
+
+Example: urlpat component pathname /users/:id",
+        options: &["explain-errors"],
+        least: 2,
+        most: 2,
+        is_fixed: true,
+    },
+];
+
+/// The option with this id.
+fn option<'a>(alloc: Global, id: &'a str) -> Result<Arg<'a>, AllocError> {
+    let arg = Arg::new(alloc, id).long(id);
+    Ok(match id {
+        "base" => arg
+            .value_name("URL")
+            .help("Base URL; then there is no BASE among the operands"),
+        "group" => arg
+            .value_name("GROUP")
+            .help("Print what a group captured, such as pathname.id, or id")
+            .conflicts_with_all(&["not", "count", "json"])?,
+        "ignore-case" => flag(arg, "Ignore case in patterns").short('i'),
+        "json" => flag(arg, "Print results as JSON"),
+        "explain-errors" => flag(arg, "Print the reason and the place of an error"),
+        "not" => flag(arg, "Select the lines that do not match")
+            .short('v')
+            .conflicts_with("json")?,
+        _ => flag(arg, "Print how many lines are selected, and no line")
+            .short('c')
+            .conflicts_with("json")?,
+    })
+}
+
+/// An option without a value.
+fn flag<'a>(arg: Arg<'a>, help: &'a str) -> Arg<'a> {
+    arg.action(ArgAction::SetTrue).help(help)
+}
+
+/// Adds options and operands to a command.
+fn with_arguments<'a>(
+    alloc: Global,
+    parser: Parser<'a>,
+    options: &[&'a str],
+    takes_hyphens: bool,
+) -> Result<Parser<'a>, AllocError> {
+    let mut parser = parser.args_override_self(true);
+    for id in options {
+        parser = parser.arg(option(alloc, id)?)?;
+    }
+    let operands = Arg::new(alloc, OPERANDS)
+        .action(ArgAction::Append)
+        .num_args(0..)
+        .hide(true)
+        .allow_hyphen_values(takes_hyphens);
+    parser.arg(operands)
+}
+
+/// The command of a form. `takes_hyphens` says whether a word that begins with a hyphen and is no
+/// option is an operand.
+pub(crate) fn command<'a>(
+    alloc: Global,
+    form: &Form,
+    takes_hyphens: bool,
+) -> Result<Parser<'a>, AllocError> {
+    let parser = Parser::new(alloc, form.name)
+        .about(form.about)
+        .override_usage(form.usage)
+        .after_help(form.more)
+        .display_name("urlpat")?;
+    with_arguments(alloc, parser, form.options, takes_hyphens)
+}
+
+/// The program with its commands. `accepts_any` says whether the first operand may be another word
+/// than the name of a command, and `takes_hyphens` whether a word that begins with a hyphen and is
+/// no option is an operand of the commands whose output is fixed.
+pub(crate) fn program<'a>(
+    alloc: Global,
+    accepts_any: bool,
+    takes_hyphens: bool,
+) -> Result<Parser<'a>, AllocError> {
+    let mut parser = Parser::new(alloc, "urlpat")
+        .version(VERSION)
+        .propagate_version(true)
+        .about("urlpat matches URLs against patterns, such as https://example.com/users/:id")
+        .override_usage("urlpat [OPTIONS] PATTERN URL\n       urlpat COMMAND ..")
+        .after_help("Example: urlpat 'https://example.com/users/:id' https://example.com/users/7")
+        .args_override_self(true)
+        .allow_external_subcommands(accepts_any);
+    for id in PROGRAM {
+        parser = parser.arg(option(alloc, id)?)?;
+    }
+    for form in &FORMS {
+        parser = parser.subcommand(command(alloc, form, takes_hyphens & form.is_fixed)?)?;
+    }
+    Ok(parser)
+}
+
+/// The short form, a pattern and a URL.
+pub(crate) fn short_form<'a>(alloc: Global) -> Result<Parser<'a>, AllocError> {
+    let parser = Parser::new(alloc, "urlpat").override_usage("urlpat [OPTIONS] PATTERN URL");
+    with_arguments(alloc, parser, PROGRAM, false)
+}

@@ -1,0 +1,233 @@
+//! The operands of a command, which are its arguments without the options.
+
+use crate::forms::OPERANDS;
+use clap::ArgMatches;
+use urlpat_matching::{
+    AskedShape, Command, ComponentArguments, CoversArguments, ExplainArguments, FilterArguments,
+    FirstArguments, Kind, LinkArguments, MatchArguments, TableArguments,
+};
+
+/// The operand for no base URL.
+const NO_BASE: &str = "-";
+
+/// The command with this name, with its arguments, which are those in `found`. `given` is the value
+/// of `--base`. `None`: the operands are not those of the command.
+pub(crate) fn command_of<'m, 'w>(
+    name: &str,
+    found: &'m ArgMatches<'w>,
+    given: Option<&'w str>,
+) -> Option<Command<'m, 'w>> {
+    let words = found.get_strs(OPERANDS)?;
+    match name {
+        "component" => component_of(words),
+        "match" => match_of(words, given),
+        "first" => first_of(words, given),
+        "filter" => filter_of(found, words, given),
+        "route" => Some(Command::Route(table_of(words, given)?)),
+        "explain" => explain_of(words, given),
+        "link" => link_of(words, given),
+        "covers" => covers_of(words, given),
+        "unreachable" => Some(Command::Unreachable(table_of(words, given)?)),
+        _ => None,
+    }
+}
+
+/// The base URL that a word names. `None`: the word is `-`.
+fn base_of(word: &str) -> Option<&str> {
+    if word == NO_BASE { None } else { Some(word) }
+}
+
+/// The base URL, and the operands after it: the one that is given, or else the first word. `None`:
+/// there is neither.
+fn with_base<'m, 'w>(
+    words: &'m [&'w str],
+    given: Option<&'w str>,
+) -> Option<(Option<&'w str>, &'m [&'w str])> {
+    match (given, words) {
+        (Some(base), _) => Some((base_of(base), words)),
+        (None, [base, rest @ ..]) => Some((base_of(base), rest)),
+        (None, []) => None,
+    }
+}
+
+/// The base URL, and the operands after it: the one that is given, or else the first word if it has
+/// the form of one.
+fn with_some_base<'m, 'w>(
+    words: &'m [&'w str],
+    given: Option<&'w str>,
+) -> (Option<&'w str>, &'m [&'w str]) {
+    match (given, words) {
+        (Some(base), _) => (base_of(base), words),
+        (None, [base, rest @ ..]) if is_base(base) => (base_of(base), rest),
+        _ => (None, words),
+    }
+}
+
+/// Whether a word has the form of a base URL: it is `-`, or begins with a protocol.
+fn is_base(word: &str) -> bool {
+    match word.split_once(':') {
+        Some((protocol, _)) => protocol.bytes().all(|byte| byte.is_ascii_alphanumeric()),
+        None => word == NO_BASE,
+    }
+}
+
+/// Whether a pattern has the form of one that needs no base URL.
+fn is_absolute(pattern: &str) -> bool {
+    pattern.contains("://") && !pattern.starts_with(['/', '?', '#'])
+}
+
+/// The arguments of `component`: the name of its options, and a pattern.
+fn component_of<'m, 'w>(words: &'m [&'w str]) -> Option<Command<'m, 'w>> {
+    let [kind, pattern] = words else {
+        return None;
+    };
+    let kind = match *kind {
+        "default" => Kind::Default,
+        "hostname" => Kind::Hostname,
+        "pathname" => Kind::Pathname,
+        _ => return None,
+    };
+    Some(Command::Component(ComponentArguments { kind, pattern }))
+}
+
+/// The arguments of `match`: a pattern, a base URL and an input.
+fn match_of<'m, 'w>(words: &'m [&'w str], given: Option<&'w str>) -> Option<Command<'m, 'w>> {
+    let [pattern, rest @ ..] = words else {
+        return None;
+    };
+    let (base, rest) = with_base(rest, given)?;
+    let [input] = rest else {
+        return None;
+    };
+    Some(Command::Match(MatchArguments {
+        pattern,
+        base,
+        input,
+    }))
+}
+
+/// The arguments of the short form: a pattern and an input. `given` is the value of `--base`.
+pub(crate) fn short_of<'m, 'w>(
+    found: &'m ArgMatches<'w>,
+    given: Option<&'w str>,
+) -> Option<Command<'m, 'w>> {
+    let [pattern, input] = found.get_strs(OPERANDS)? else {
+        return None;
+    };
+    let base = base_of(given.unwrap_or(NO_BASE));
+    Some(Command::Match(MatchArguments {
+        pattern,
+        base,
+        input,
+    }))
+}
+
+/// The arguments of `first`: a base URL, an input, and patterns.
+fn first_of<'m, 'w>(words: &'m [&'w str], given: Option<&'w str>) -> Option<Command<'m, 'w>> {
+    let (base, rest) = with_base(words, given)?;
+    match rest {
+        [_] | [] => None,
+        [input, patterns @ ..] => Some(Command::First(FirstArguments {
+            base,
+            input,
+            patterns,
+        })),
+    }
+}
+
+/// The arguments of `filter`: a pattern and a base URL.
+fn filter_of<'m, 'w>(
+    found: &'m ArgMatches<'w>,
+    words: &'m [&'w str],
+    given: Option<&'w str>,
+) -> Option<Command<'m, 'w>> {
+    let [pattern, rest @ ..] = words else {
+        return None;
+    };
+    let (base, rest) = with_some_base(rest, given);
+    if !rest.is_empty() {
+        return None;
+    }
+    let inverted = found.get_flag("not");
+    Some(Command::Filter(FilterArguments {
+        pattern,
+        base,
+        inverted,
+        shape: shape_of(found, inverted)?,
+    }))
+}
+
+/// What `filter` prints. `None`: the options exclude each other.
+fn shape_of<'w>(found: &ArgMatches<'w>, inverted: bool) -> Option<AskedShape<'w>> {
+    match (
+        found.get_flag("count"),
+        found.get_flag("json"),
+        found.get_str("group"),
+    ) {
+        (false, false, None) => Some(AskedShape::Line),
+        (true, false, None) => Some(AskedShape::Count),
+        (false, true, None) if !inverted => Some(AskedShape::Json),
+        (false, false, Some(group)) if !inverted => { Some(AskedShape::Group(group)) }
+        _ => None,
+    }
+}
+
+/// The arguments of `route` and of `unreachable`: a file, and a base URL.
+fn table_of<'w>(words: &[&'w str], given: Option<&'w str>) -> Option<TableArguments<'w>> {
+    let [file, rest @ ..] = words else {
+        return None;
+    };
+    let (base, rest) = with_some_base(rest, given);
+    if rest.is_empty() {
+        Some(TableArguments { file, base })
+    } else {
+        None
+    }
+}
+
+/// The arguments of `explain`: a pattern, a base URL and an input. A single word after a pattern
+/// that needs no base URL is the input.
+fn explain_of<'m, 'w>(words: &'m [&'w str], given: Option<&'w str>) -> Option<Command<'m, 'w>> {
+    let [pattern, rest @ ..] = words else {
+        return None;
+    };
+    let (base, rest) = match rest {
+        [word] if *word != NO_BASE && is_absolute(pattern) && given.is_none() => { (None, rest) }
+        _ => with_some_base(rest, given),
+    };
+    let input = match rest {
+        [] => None,
+        [input] => Some(*input),
+        _ => return None,
+    };
+    Some(Command::Explain(ExplainArguments {
+        pattern,
+        base,
+        input,
+    }))
+}
+
+/// The arguments of `link`: a pattern, a base URL, and texts for groups.
+fn link_of<'m, 'w>(words: &'m [&'w str], given: Option<&'w str>) -> Option<Command<'m, 'w>> {
+    let [pattern, rest @ ..] = words else {
+        return None;
+    };
+    let (base, groups) = with_some_base(rest, given);
+    Some(Command::Link(LinkArguments {
+        pattern,
+        base,
+        groups,
+    }))
+}
+
+/// The arguments of `covers`: two patterns, and a base URL.
+fn covers_of<'m, 'w>(words: &'m [&'w str], given: Option<&'w str>) -> Option<Command<'m, 'w>> {
+    let [pattern, asked] = words else {
+        return None;
+    };
+    Some(Command::Covers(CoversArguments {
+        pattern,
+        asked,
+        base: base_of(given.unwrap_or(NO_BASE)),
+    }))
+}

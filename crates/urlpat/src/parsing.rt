@@ -1,0 +1,178 @@
+//! Parses the words of the program.
+
+use crate::forms::{FORMS, Form, OPERANDS, command, program, short_form};
+use crate::operands::{command_of, short_of};
+use clap::error::ErrorKind;
+use clap::{ArgMatches, Command as Parser, Error};
+use std::alloc::{AllocError, Global};
+use urlpat_matching::{Arguments, Flags};
+
+/// The usage of `component`, the first line that is printed if the words of the commands whose
+/// output is fixed are wrong.
+pub const COMPONENT_USAGE: &str = "usage: urlpat component default|hostname|pathname PATTERN";
+
+/// The usage of `match`, the line after that of `component`.
+pub const MATCH_USAGE: &str = "       urlpat match PATTERN BASE INPUT";
+
+/// The usage of `first`, the last of the lines.
+pub const FIRST_USAGE: &str = "       urlpat first BASE INPUT PATTERN..";
+
+/// Parses the words of the program, of which the first is its name.
+///
+/// The error says what is wrong with the words, or is the help or the version that they ask for, or
+/// says that memory ran out.
+pub fn parse<'w>(alloc: Global, words: &'w [String]) -> Result<ArgMatches<'w>, Error> {
+    let found = match program(alloc, true, false)?.try_get_matches_from(words) {
+        Ok(found) => found,
+        Err(error) => {
+            return if error.kind() == ErrorKind::UnknownArgument && name_fixed(words) {
+                program(alloc, false, true)?.try_get_matches_from(words)
+            } else {
+                Err(error)
+            };
+        }
+    };
+    match found.subcommand_name() {
+        Some(name) if form_of(name).is_none() => {
+            if is_word(name) {
+                program(alloc, false, false)?.try_get_matches_from(words)
+            } else {
+                short_form(alloc)?.try_get_matches_from(words)
+            }
+        }
+        _ => Ok(found),
+    }
+}
+
+/// The form of the command with this name.
+fn form_of(name: &str) -> Option<&'static Form> {
+    FORMS.iter().find(|form| form.name == name)
+}
+
+/// Whether a text is a word, as the name of a command is, and no pattern.
+fn is_word(text: &str) -> bool {
+    text.bytes()
+        .all(|byte| byte.is_ascii_lowercase() || byte == b'-')
+}
+
+/// The arguments that parsed words have. `None`: there is no command, or the operands or the flags
+/// are not those of the command.
+pub fn arguments_of<'m, 'w>(found: &'m ArgMatches<'w>) -> Option<Arguments<'m, 'w>> {
+    let before = found.get_str("base");
+    let Some((name, of_command)) = found.subcommand() else {
+        let command = short_of(found, before)?;
+        let flags = flags_of(found, found)?;
+        return Some(Arguments {
+            flags: Flags {
+                explain_errors: true,
+                ..flags
+            },
+            command,
+        });
+    };
+    let flags = flags_of(found, of_command)?;
+    let explain_errors = flags.explain_errors || !is_fixed(name);
+    Some(Arguments {
+        flags: Flags {
+            explain_errors,
+            ..flags
+        },
+        command: command_of(name, of_command, of_command.get_str("base").or(before))?,
+    })
+}
+
+/// The flags before a command and among its arguments. `None`: the command does not accept a flag
+/// before it.
+fn flags_of(found: &ArgMatches<'_>, of_command: &ArgMatches<'_>) -> Option<Flags> {
+    Some(Flags {
+        ignore_case: flag_of(found, of_command, "ignore-case")?,
+        json: flag_of(found, of_command, "json")?,
+        explain_errors: flag_of(found, of_command, "explain-errors")?,
+    })
+}
+
+/// Whether a flag is before a command or among its arguments. `None`: the flag is before a command
+/// that does not accept it.
+fn flag_of(found: &ArgMatches<'_>, of_command: &ArgMatches<'_>, id: &str) -> Option<bool> {
+    if !found.get_flag(id) {
+        return Some(of_command.get_flag(id));
+    }
+    if of_command.contains_id(id) {
+        Some(true)
+    } else {
+        None
+    }
+}
+
+/// Whether the command is `component`, `match` or `first`, which print an error alone unless the
+/// flags ask for more.
+fn is_fixed(name: &str) -> bool {
+    match form_of(name) {
+        Some(form) => form.is_fixed,
+        None => false,
+    }
+}
+
+/// Whether the words name `component`, `match` or `first`: the first one that begins with no hyphen
+/// does.
+pub fn name_fixed(words: &[String]) -> bool {
+    match first_operand(words) {
+        Some(name) => is_fixed(name),
+        None => false,
+    }
+}
+
+/// Whether the usage of `component`, `match` and `first` is printed in place of an error: the words
+/// name one of them, or only flags are there.
+pub fn has_fixed_usage(words: &[String], error: &Error) -> bool {
+    match first_operand(words) {
+        Some(name) => is_fixed(name),
+        None => error.kind() == ErrorKind::WrongNumberOfValues,
+    }
+}
+
+/// The first word after the name of the program that begins with no hyphen.
+fn first_operand(words: &[String]) -> Option<&String> {
+    words.iter().skip(1).find(|word| !word.starts_with('-'))
+}
+
+/// The error that the operands among parsed words are not those of their command.
+pub fn misused(alloc: Global, found: &ArgMatches<'_>) -> Result<Error, AllocError> {
+    match found.subcommand() {
+        Some((name, of_command)) => match form_of(name) {
+            Some(form) => misused_by(
+                alloc,
+                command(alloc, form, false)?,
+                form.least,
+                form.most,
+                of_command,
+            ),
+            None => misused_by(alloc, short_form(alloc)?, 2, 2, found),
+        },
+        None => misused_by(alloc, short_form(alloc)?, 2, 2, found),
+    }
+}
+
+/// The error that there are fewer operands than `least`, or more than `most`, or other ones.
+fn misused_by(
+    alloc: Global,
+    mut parser: Parser<'_>,
+    least: usize,
+    most: usize,
+    found: &ArgMatches<'_>,
+) -> Result<Error, AllocError> {
+    let words = found.get_strs(OPERANDS).unwrap_or(&[]);
+    if words.len() < least {
+        return parser.error(ErrorKind::WrongNumberOfValues, "an argument is missing");
+    }
+    match words.get(most) {
+        Some(word) => {
+            let text = format!(in alloc; "unexpected argument '{word}' found")?;
+            parser.error(ErrorKind::WrongNumberOfValues, &text)
+        }
+        None => parser.error(
+            ErrorKind::WrongNumberOfValues,
+            "these are not the arguments of the command",
+        ),
+    }
+}

@@ -1,8 +1,0 @@
-pub mod LineAnswers
-pub mod Lines
-pub mod Filters
-pub mod Tables
-pub mod Flags
-pub mod Help
-pub mod Queries
-pub mod Words

@@ -1,0 +1,68 @@
+-- The output of a rule for the lines of a reader. Texts are bytes. `Answers` is the rule: it holds
+-- of a line's text, which is the line without its end, of the line, the verdict on it, and what is
+-- written for it.
+use Rattle.std.specs.Prelude.{◌≡◌, ◌⊎◌, ℕ, ◌+◌, ◌<◌, List, [], ◌∷◌, ◌++◌, length, IfSome, Option}
+use Rattle.std.specs.Io.KnownBytes.{Appends}
+use Rattle.bstr.specs.Records.{records}
+use Rattle.bstr.specs.Text.{without_terminator}
+use Rattle.std.specs.Str.{IsUtf8}
+use Rattle.urlpat_matching.specs.declared.lines.TheConstants.{LONGEST}
+use Rattle.urlpat_matching.specs.declared.answers.Tally.{Tally}
+use Rattle.urlpat_matching.specs.declared.answers.Verdict.{Verdict}
+use Rattle.urlpat_matching.specs.declared.answers.Verdict.TheVariants as verdicts
+
+-- The lines of a text, with their ends.
+abbrev pub lines_of : List ℕ → List (List ℕ)
+lines_of text = records 10 text
+
+-- `new` is `old` with what the rule writes for the line appended, and the verdict is the rule's.
+abbrev pub AppendsAnswer : (Answers : (text line : List ℕ) → Verdict → (written : List ℕ) → Type 0)
+    → (text line old new : List ℕ)
+    → Verdict → Type 0
+AppendsAnswer Answers text line old new verdict =
+    (written : List ℕ) × (new ≡ old ++ written) × Answers text line verdict written
+
+-- The line is rejected before the rule sees it: it is too long, or not UTF-8.
+abbrev pub IsRejectedLine : List ℕ → Type 0
+IsRejectedLine line = (LONGEST < length line) ⊎ ¬ IsUtf8 (without_terminator line)
+
+-- 1 if the verdict is that its line is selected, else 0.
+abbrev pub selected_by : Verdict → ℕ
+selected_by verdicts.Selected = 1
+selected_by verdicts.SelectedNoUrl = 1
+selected_by verdict = 0
+
+module _ (Answers : (text line : List ℕ) → Verdict → (written : List ℕ) → Type 0) where
+  -- The verdict on a line and what is written for it: by the rule, or, for a line that is rejected,
+  -- `Refused` and nothing.
+  abbrev pub IsAnswerTo : (line : List ℕ) → Verdict → (written : List ℕ) → Type 0
+  IsAnswerTo line verdict written =
+      (IsRejectedLine line × (verdict ≡ verdicts.Refused) × (written ≡ []))
+      ⊎ ((¬ IsRejectedLine line) × Answers (without_terminator line) line verdict written)
+
+  -- The number of selected lines among these lines, and what is written for them, line by line.
+  unfoldable pub AreAnswersTo : (lines : List (List ℕ)) → (selected : ℕ)
+      → (written : List ℕ) → Type 0
+  AreAnswersTo [] selected written = (selected ≡ 0) × (written ≡ [])
+  AreAnswersTo (line ∷ lines) selected written =
+      (verdict : Verdict) × (more : ℕ)
+      × (piece rest : List ℕ) × IsAnswerTo line verdict piece
+      × AreAnswersTo lines more rest
+      × (selected ≡ selected_by verdict + more) × (written ≡ piece ++ rest)
+
+  -- `new` is `old` with what is written for the line appended: by the rule, or nothing for a line
+  -- that is rejected (`IsAnswerTo`).
+  abbrev pub AppendsAnswerTo : (line old new : List ℕ) → Verdict → Type 0
+  AppendsAnswerTo line old new verdict =
+      (written : List ℕ) × (new ≡ old ++ written) × IsAnswerTo line verdict written
+
+  -- The output for the lines of a text is appended to `old`. `selected` is the number of selected
+  -- lines.
+  abbrev pub WritesAnswers : (text : List ℕ) → (selected : ℕ) → (old new : Option (List ℕ)) → Type 0
+  WritesAnswers text selected old new =
+      (written : List ℕ) × AreAnswersTo (lines_of text) selected written × Appends old new written
+
+  -- The output for the lines of a reader is appended to `old`, if the contents of the reader
+  -- (`input`) are known. The tally has the number of selected lines.
+  abbrev pub WritesInput : (input old new : Option (List ℕ)) → Tally → Type 0
+  WritesInput input old new tally = IfSome input (λ text. WritesAnswers text tally.selected old new)

@@ -1,0 +1,173 @@
+//! Writes the output of a rule for the lines of a reader.
+ghost use Rattle.std.specs.Prelude.{◌≡◌, ◌+◌, ◌<◌, ◌^◌, ℕ, List, IfOk, OnOk};
+ghost use Rattle.std.specs.Io.KnownBytes.{Appends};
+ghost use Rattle.urlpat_matching.specs.LineAnswers.{AppendsAnswer, AppendsAnswerTo, WritesInput, selected_by};
+ghost use Rattle.urlpat_matching.specs.declared.answers.Verdict.{Verdict};
+
+use crate::lines::{LONGEST, read_line, without_end};
+use std::alloc::{AllocError, Global};
+use std::io::{BufRead, Write};
+use std::{io, str};
+
+/// The verdict on a line. A command that reads lines ends with status 1 if it selects none, unless
+/// it fails.
+#[derive(Debug, Clone, Copy, PartialEq, Eq)]
+pub enum Verdict {
+    /// The line is a URL, and is selected.
+    Selected,
+    /// The line is a URL, and is not selected.
+    Passed,
+    /// The line is not selected, and not a URL.
+    NoUrl,
+    /// The line is selected, and not a URL.
+    SelectedNoUrl,
+    /// The line is not UTF-8, or too long.
+    Refused,
+}
+
+/// A rule that decides what is written for a line, and whether the line is selected, such as those
+/// of `filter` and `route`.
+pub trait Rule {
+    // The verdict on a line, and what is written for it. `text` is the line without its end.
+    ghost Answers: { Self → (text line : List ℕ) → Verdict → (written : List ℕ) → Type 0 };
+
+    /// Returns the verdict on a line, and appends what is written for it. `text` is the line
+    /// without its end.
+    fn answer(&self, text: &str, line: &[u8], written: &mut Vec<u8>) -> Result<Verdict, AllocError>
+        ensures { IfOk result (AppendsAnswer (Answers self.now) text.now line.now written.old.items
+            written.new.items) };
+}
+
+/// How many lines there are of each kind. A selected line that is not a URL is of two kinds.
+#[derive(Debug, Clone, Copy, PartialEq, Eq)]
+pub struct Tally {
+    /// The number of lines that are selected.
+    pub selected: u64,
+    /// The number of lines that are not URLs.
+    pub no_url: u64,
+    /// The number of lines that are not UTF-8, or too long.
+    pub refused: u64,
+}
+
+/// The reason why not all lines were processed.
+#[derive(Debug, Drop)]
+pub enum LinesError {
+    /// The reader failed.
+    Read(io::Error),
+    /// The writer failed.
+    Write,
+    /// Memory ran out.
+    OutOfMemory,
+}
+
+impl From<io::Error> for LinesError {
+    fn from(error: io::Error) -> LinesError {
+        match error.kind() {
+            io::ErrorKind::OutOfMemory => LinesError::OutOfMemory,
+            _ => LinesError::Read(error),
+        }
+    }
+}
+
+impl From<AllocError> for LinesError {
+    fn from(_error: AllocError) -> LinesError {
+        LinesError::OutOfMemory
+    }
+}
+
+/// Writes the output of a rule for each line of a reader. Returns how many lines there are of each
+/// kind. A line that is too long or not UTF-8 is reported to `err`, with its number.
+pub fn answer_lines<In: BufRead, Out: Write, Err: Write, R: Rule>(
+    alloc: Global,
+    rule: &R,
+    input: &mut In,
+    out: &mut Out,
+    err: &mut Err,
+) -> Result<Tally, LinesError>
+    ensures { IfOk result (WritesInput (R.Answers rule.now) (In.remaining input.old)
+        (Out.contents out.old) (Out.contents out.new)) }
+{
+    let mut tally = Tally {
+        selected: 0,
+        no_url: 0,
+        refused: 0,
+    };
+    let mut line = Vec::new(alloc);
+    let mut written = Vec::new(alloc);
+    'lines: for number in 0..u64::MAX {
+        if !read_line(input, &mut line)? {
+            return Ok(tally);
+        }
+        written.clear();
+        let verdict = answer_line(rule, &line, &mut written)?;
+        write_piece(out, &written)?;
+        report(verdict, number, &line, err);
+        tally = counted(tally, verdict);
+    }
+    Err(LinesError::Read(io::ErrorKind::Other.into()))
+}
+
+/// Writes the output for a line.
+fn write_piece<Out: Write>(out: &mut Out, piece: &[u8]) -> Result<(), LinesError>
+    ensures { OnOk result (Appends (Out.contents out.old) (Out.contents out.new) piece.now) }
+{
+    match out.write_all(piece) {
+        Ok(()) => Ok(()),
+        Err(_) => Err(LinesError::Write),
+    }
+}
+
+/// Returns the verdict of a rule on a line, and appends what is written for it. A line that is too
+/// long or not UTF-8 is rejected, and nothing is written for it.
+fn answer_line<R: Rule>(rule: &R, line: &[u8], written: &mut Vec<u8>) -> Result<Verdict, AllocError>
+    ensures { IfOk result
+        (AppendsAnswerTo (R.Answers rule.now) line.now written.old.items written.new.items) }
+{
+    if line.len() > LONGEST {
+        return Ok(Verdict::Refused);
+    }
+    match str::from_utf8(without_end(line)) {
+        Ok(text) => rule.answer(text, line, written),
+        Err(_) => Ok(Verdict::Refused),
+    }
+}
+
+/// Reports that a line is too long or not UTF-8, if the verdict is `Refused`. `number` is how many
+/// lines are before it.
+fn report<Err: Write>(verdict: Verdict, number: u64, line: &[u8], err: &mut Err) {
+    if verdict == Verdict::Refused {
+        let number = number.saturating_add(1);
+        let _ = if line.len() > LONGEST {
+            writeln!(err, "urlpat: line {number} is longer than {LONGEST} bytes")
+        } else {
+            writeln!(err, "urlpat: line {number} is not UTF-8")
+        };
+    }
+}
+
+/// The tally with a line of this verdict added.
+fn counted(tally: Tally, verdict: Verdict) -> Tally
+    requires { tally.selected + 1 < 2 ^ 64 }
+    ensures { result.selected ≡ tally.selected + selected_by verdict }
+{
+    match verdict {
+        Verdict::Selected => Tally {
+            selected: tally.selected + 1,
+            ..tally
+        },
+        Verdict::Passed => tally,
+        Verdict::NoUrl => Tally {
+            no_url: tally.no_url.saturating_add(1),
+            ..tally
+        },
+        Verdict::SelectedNoUrl => Tally {
+            selected: tally.selected + 1,
+            no_url: tally.no_url.saturating_add(1),
+            ..tally
+        },
+        Verdict::Refused => Tally {
+            refused: tally.refused.saturating_add(1),
+            ..tally
+        },
+    }
+}

@@ -1,0 +1,105 @@
+//! The entries of a table of patterns, a text with a pattern a line.
+
+ghost use Rattle.std.specs.Prelude.{◌≡◌, ◌++◌, All, IfErr, IfOk, OnOk};
+ghost use Rattle.std.specs.Str.{IsUtf8};
+ghost use Rattle.urlpat_matching.specs.Tables.{HasNoEntries, entries_view, entry_view, is_skipped, line_entries, line_entry, table_entries, table_lines};
+
+use bstr::ByteSlice;
+use std::alloc::{AllocError, Global};
+use std::str;
+
+/// An entry of a table: the text of a pattern, and its name.
+#[derive(Clone, Copy)]
+pub struct Entry<'t> {
+    /// The number of the line that has the entry, from 1 on.
+    pub number: u64,
+    /// The pattern.
+    pub pattern: &'t str,
+    /// The name. Empty if the line has none.
+    pub name: &'t str,
+}
+
+/// The reason why a table has no entries.
+#[derive(Clone, Copy)]
+pub enum NoTable {
+    /// The line with this number is not UTF-8.
+    NotUtf8(u64),
+    /// Memory ran out.
+    OutOfMemory,
+}
+
+impl From<AllocError> for NoTable {
+    ghost use Rattle.urlpat_matching.specs.declared.table.NoTable.TheVariants as refusals;
+
+    ghost from_gives = { λ _ refused. refused ≡ refusals.OutOfMemory };
+
+    fn from(_error: AllocError) -> NoTable {
+        NoTable::OutOfMemory
+    }
+}
+
+/// The entries of a table, in order. A line that is empty, or that begins with `#`, has none. In
+/// any other line the pattern is before the first tab, and the name after it; a line without a tab
+/// is a pattern whose name is empty.
+///
+/// The error is `NotUtf8` with the number of the first line that is not UTF-8, or `OutOfMemory`.
+pub fn entries_of<'t>(alloc: Global, table: &'t [u8]) -> Result<Vec<Entry<'t>>, NoTable>
+    ensures entries { IfOk result (λ entries.
+        entries_view entries.items ≡ table_entries table.now) }
+    ensures text { IfOk result (λ entries. All IsUtf8 (table_lines table.now)) }
+    ensures refused { IfErr result (HasNoEntries table.now) }
+{
+    let mut entries = Vec::new(alloc);
+    let mut number = 0u64;
+    for line in table.lines() {
+        number += 1;
+        let Ok(text) = str::from_utf8(line) else {
+            return Err(NoTable::NotUtf8(number));
+        };
+        push_entry(&mut entries, number, text)?;
+    }
+    Ok(entries)
+}
+
+/// Appends the entry of a line, if it has one.
+fn push_entry<'t>(
+    entries: &mut Vec<Entry<'t>>,
+    number: u64,
+    line: &'t str,
+) -> Result<(), AllocError>
+    ensures { OnOk result (entries_view entries.new.items
+        ≡ entries_view entries.old.items ++ line_entries number line.now) }
+{
+    if !is_skipped(line) {
+        entries.push(entry_of(number, line))?;
+    }
+    Ok(())
+}
+
+/// Whether a line has no entry: it is empty, or begins with `#`.
+fn is_skipped(line: &str) -> bool
+    ensures { result ≡ is_skipped line.now }
+{
+    match line.as_bytes() {
+        [] => true,
+        [first, ..] => *first == b'#',
+    }
+}
+
+/// The entry of a line that is not skipped. `number` is the number of the line.
+fn entry_of(number: u64, line: &str) -> Entry<'_>
+    ensures { entry_view result ≡ line_entry number line.now }
+{
+    match line.split_once('\t') {
+        Some((pattern, name)) => Entry {
+            number,
+            pattern,
+            name,
+        },
+        None => Entry {
+            number,
+            pattern: line,
+            name: "",
+        },
+    }
+}

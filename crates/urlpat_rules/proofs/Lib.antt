@@ -1,4 +1,0 @@
-pub mod PrintedListLemmas
-pub mod RouteLemmas
-mod RuleExamples
-pub mod DoubtLemmas

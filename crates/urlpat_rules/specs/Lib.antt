@@ -1,5 +1,0 @@
-pub mod PrintedCoverings
-pub mod Doubts
-pub mod TableRoutes
-pub mod TableWords
-pub mod UnreachedLines

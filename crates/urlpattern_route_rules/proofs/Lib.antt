@@ -1,0 +1,4 @@
+pub mod CompileLemmas
+pub mod FetchLemmas
+pub mod PatternLemmas
+pub mod RuleExamples

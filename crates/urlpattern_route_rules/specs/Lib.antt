@@ -1,0 +1,4 @@
+pub mod Fetches
+pub mod Patterns
+pub mod Compiling
+pub mod Adding

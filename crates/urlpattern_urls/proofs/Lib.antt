@@ -1,0 +1,3 @@
+pub mod CommonUrlLemmas
+pub mod ReachLemmas
+pub mod UnlikeLemmas

@@ -1,0 +1,14 @@
+use Rattle.std.proofs.Common.{◌∙◌, ◌++◌, List, [], ◌∷◌, ap, subst}
+use Rattle.urlpattern_compare.specs.Comparing.{anything_part}
+use Rattle.std.specs.Str.{chars}
+use Rattle.urlpattern_syntax.specs.Parts.{PartView, parts_view}
+use Rattle.urlpattern_syntax.specs.declared.parser.{Part.Part, PartModifier.PartModifier, PartType.PartType}
+use Rattle.urlpattern_urls.specs.Unlike.{IsMadeOf, part_of}
+use Rattle.urlpattern_urls.proofs.unlike.no_slash.Goals as goal
+
+pub returns : goal.returns
+unfolding chars
+returns c =
+    let segment = part_of PartType.SegmentWildcard [] PartModifier.None in
+    let are = c.in_ok-push-2.ensures ∙ ap (λ (l : List PartView). l ++ anything_part ∷ []) (c.in_ok-push.ensures ∙ ap (λ (l : List Part). parts_view l ++ segment ∷ []) c.new-parts.ensures.items) in
+    subst (λ (parts : List PartView). IsMadeOf parts c.made_of.result) are c.made_of.ensures

@@ -1,0 +1,3 @@
+pub mod CommonUrls
+pub mod Unlike
+pub mod UrlReaching
