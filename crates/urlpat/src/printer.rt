@@ -1,4 +1,4 @@
-//! How the program prints what `explain`, `covers` and `unreachable` find.
+//! How the program prints what `explain`, `covers`, `unreachable` and `policy` find.
 
 ghost use Rattle.std.specs.Prelude.{⊤};
 
@@ -8,7 +8,13 @@ use urlpat_commands::{
 };
 use urlpat_explain::{Explained, ExplanationPrinter, Outcome, explanation_json, explanation_text};
 use urlpat_matching::Entry;
+use urlpat_policies::{
+    NoPolicy, PolicyPrinter, decisions_json, decisions_text, difference_json, difference_text,
+    faults_json, faults_text,
+};
 use urlpattern::rules::{PatternCovering, Reach};
+use urlpattern_policy::Decision;
+use urlpattern_policy_differences::PolicyDifference;
 
 /// The printer of the program. Nothing is promised of its words.
 #[derive(Clone, Copy)]
@@ -72,6 +78,53 @@ impl ExplanationPrinter for Printer {
             explanation_json(alloc, explained, outcome)
         } else {
             explanation_text(alloc, explained, outcome)
+        }
+    }
+}
+
+impl PolicyPrinter for Printer {
+    ghost PrintsDecisions = { λ printer json decisions text. ⊤ };
+
+    ghost PrintsFaults = { λ printer json refusal text. ⊤ };
+
+    ghost PrintsDifference = { λ printer json difference text. ⊤ };
+
+    fn print_decisions(
+        &self,
+        alloc: Global,
+        json: bool,
+        decisions: &[Decision],
+    ) -> Result<String, AllocError> {
+        if json {
+            decisions_json(alloc, decisions)
+        } else {
+            decisions_text(alloc, decisions)
+        }
+    }
+
+    fn print_faults(
+        &self,
+        alloc: Global,
+        json: bool,
+        refusal: &NoPolicy,
+    ) -> Result<String, AllocError> {
+        if json {
+            faults_json(alloc, refusal)
+        } else {
+            faults_text(alloc, refusal)
+        }
+    }
+
+    fn print_difference(
+        &self,
+        alloc: Global,
+        json: bool,
+        difference: &PolicyDifference,
+    ) -> Result<String, AllocError> {
+        if json {
+            difference_json(alloc, difference)
+        } else {
+            difference_text(alloc, difference)
         }
     }
 }

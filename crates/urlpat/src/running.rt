@@ -11,6 +11,8 @@ use urlpat_commands::{
 };
 use urlpat_explain::{ExplanationPrinter, explain, link};
 use urlpat_matching::{Arguments, Command, DONE, FAILED, NO_MATCH};
+use urlpat_policies::{PolicyCommand, PolicyPrinter, run_on_policies};
+use urlpattern::regexp::PatternRegexp;
 
 /// Runs a command. Returns the exit status.
 ///
@@ -56,4 +58,23 @@ pub fn run<
             list_unreachable(alloc, tables, printer, asked, flags, out, err)
         }
     }
+}
+
+/// Runs a command on policies, as `run_on_policies` promises of `PatternRegexp`. Returns the exit
+/// status.
+pub fn run_policy<T: Tables, P: PolicyPrinter, In: BufRead, Out: Write, Err: Write>(
+    alloc: Global,
+    tables: &T,
+    printer: &P,
+    json: bool,
+    command: PolicyCommand<'_, '_>,
+    input: &mut In,
+    out: &mut Out,
+    err: &mut Err,
+) -> u8
+    ensures status { (result ≡ DONE) ⊎ (result ≡ NO_MATCH) ⊎ (result ≡ FAILED) }
+{
+    run_on_policies::<PatternRegexp, T, P, In, Out, Err>(
+        alloc, tables, printer, json, command, input, out, err,
+    )
 }
