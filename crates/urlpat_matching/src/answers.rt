@@ -11,7 +11,7 @@ use std::{io, str};
 
 /// The verdict on a line. A command that reads lines ends with status 1 if it selects none, unless
 /// it fails.
-#[derive(Debug, Clone, Copy, PartialEq, Eq)]
+#[derive(Clone, Copy, PartialEq, Eq)]
 pub enum Verdict {
     /// The line is a URL, and is selected.
     Selected,
@@ -39,7 +39,7 @@ pub trait Rule {
 }
 
 /// How many lines there are of each kind. A selected line that is not a URL is of two kinds.
-#[derive(Debug, Clone, Copy, PartialEq, Eq)]
+#[derive(Clone, Copy, PartialEq, Eq)]
 pub struct Tally {
     /// The number of lines that are selected.
     pub selected: u64,
@@ -50,7 +50,7 @@ pub struct Tally {
 }
 
 /// The reason why not all lines were processed.
-#[derive(Debug, Drop)]
+#[derive(Drop)]
 pub enum LinesError {
     /// The reader failed.
     Read(io::Error),

@@ -3,7 +3,7 @@
 use urlpattern_components::ComponentName;
 
 /// How patterns match, and how results and errors are printed.
-#[derive(Clone, Copy, Debug, PartialEq, Eq)]
+#[derive(Clone, Copy, PartialEq, Eq)]
 pub struct Flags {
     /// Whether patterns ignore case.
     pub ignore_case: bool,
@@ -14,7 +14,7 @@ pub struct Flags {
 }
 
 /// The options of a component that is compiled alone.
-#[derive(Clone, Copy, Debug, PartialEq, Eq)]
+#[derive(Clone, Copy, PartialEq, Eq)]
 pub enum Kind {
     /// A component without segments.
     Default,
@@ -25,7 +25,7 @@ pub enum Kind {
 }
 
 /// The arguments of `component`.
-#[derive(Clone, Copy, Debug)]
+#[derive(Clone, Copy)]
 pub struct ComponentArguments<'w> {
     /// The options of the component.
     pub kind: Kind,
@@ -34,7 +34,7 @@ pub struct ComponentArguments<'w> {
 }
 
 /// The arguments of `match`, and of the short form, which has no base URL as an operand.
-#[derive(Clone, Copy, Debug)]
+#[derive(Clone, Copy)]
 pub struct MatchArguments<'w> {
     /// The pattern.
     pub pattern: &'w str,
@@ -45,7 +45,7 @@ pub struct MatchArguments<'w> {
 }
 
 /// The arguments of `first`.
-#[derive(Clone, Copy, Debug)]
+#[derive(Clone, Copy)]
 pub struct FirstArguments<'m, 'w> {
     /// The base URL of patterns and input.
     pub base: Option<&'w str>,
@@ -56,7 +56,7 @@ pub struct FirstArguments<'m, 'w> {
 }
 
 /// What `filter` is asked to print for a selected line.
-#[derive(Clone, Copy, Debug)]
+#[derive(Clone, Copy)]
 pub enum AskedShape<'w> {
     /// The line itself.
     Line,
@@ -70,7 +70,7 @@ pub enum AskedShape<'w> {
 }
 
 /// What `filter` prints for a selected line.
-#[derive(Clone, Copy, Debug)]
+#[derive(Clone, Copy)]
 pub enum Shape<'w> {
     /// The line itself.
     Line,
@@ -83,7 +83,7 @@ pub enum Shape<'w> {
 }
 
 /// The arguments of `filter`.
-#[derive(Clone, Copy, Debug)]
+#[derive(Clone, Copy)]
 pub struct FilterArguments<'w> {
     /// The pattern.
     pub pattern: &'w str,
@@ -96,7 +96,7 @@ pub struct FilterArguments<'w> {
 }
 
 /// The arguments of `route` and of `unreachable`.
-#[derive(Clone, Copy, Debug)]
+#[derive(Clone, Copy)]
 pub struct TableArguments<'w> {
     /// The name of the file that has the table.
     pub file: &'w str,
@@ -105,7 +105,7 @@ pub struct TableArguments<'w> {
 }
 
 /// The arguments of `explain`.
-#[derive(Clone, Copy, Debug)]
+#[derive(Clone, Copy)]
 pub struct ExplainArguments<'w> {
     /// The pattern.
     pub pattern: &'w str,
@@ -116,7 +116,7 @@ pub struct ExplainArguments<'w> {
 }
 
 /// The arguments of `link`.
-#[derive(Clone, Copy, Debug)]
+#[derive(Clone, Copy)]
 pub struct LinkArguments<'m, 'w> {
     /// The pattern.
     pub pattern: &'w str,
@@ -127,7 +127,7 @@ pub struct LinkArguments<'m, 'w> {
 }
 
 /// The arguments of `covers`.
-#[derive(Clone, Copy, Debug)]
+#[derive(Clone, Copy)]
 pub struct CoversArguments<'w> {
     /// The pattern that may cover the asked one.
     pub pattern: &'w str,
@@ -138,7 +138,7 @@ pub struct CoversArguments<'w> {
 }
 
 /// A command, with its arguments.
-#[derive(Clone, Copy, Debug)]
+#[derive(Clone, Copy)]
 pub enum Command<'m, 'w> {
     /// Shows what the pattern of a component is compiled to.
     Component(ComponentArguments<'w>),
@@ -161,7 +161,7 @@ pub enum Command<'m, 'w> {
 }
 
 /// What the words of the program ask for: a command, and its flags.
-#[derive(Clone, Copy, Debug)]
+#[derive(Clone, Copy)]
 pub struct Arguments<'m, 'w> {
     /// The flags.
     pub flags: Flags,

@@ -46,7 +46,7 @@ pub enum ContentionDoubt {
 }
 
 /// Whether texts exist that one pattern matches, and another does not.
-#[derive(Clone, Copy, Debug, PartialEq, Eq)]
+#[derive(Clone, Copy, PartialEq, Eq)]
 enum Alone {
     /// No texts exist that the one matches, and the other does not.
     Nothing,

@@ -27,7 +27,7 @@ pub const USUAL_LIMITS: Limits = Limits {
 };
 
 /// What a search for eight texts found.
-#[derive(Debug, Drop)]
+#[derive(Drop)]
 pub(crate) enum FoundTexts {
     /// The characters of such texts.
     Texts(Eight<Vec<char>>),
@@ -40,7 +40,6 @@ pub(crate) enum FoundTexts {
 }
 
 /// Conditions, and eight texts that meet them.
-#[derive(Debug, Drop)]
 pub(crate) struct Candidate<'a> {
     /// The conditions.
     pub(crate) conditions: Vec<Condition<'a>>,
@@ -48,8 +47,32 @@ pub(crate) struct Candidate<'a> {
     pub(crate) texts: Eight<Vec<char>>,
 }
 
+impl Drop for Candidate<'_> {
+    /// Drops the fields. Where a candidate goes out of scope, the prover sees one call instead of
+    /// one for each text.
+    fn drop(self) {
+        let Self {
+            conditions: _conditions,
+            texts: _texts,
+        } = self;
+    }
+}
+
+impl Candidate<'_> {
+    /// Returns the texts.
+    fn into_texts(self) -> Eight<Vec<char>>
+        ensures { result ≡ self.entry.texts }
+    {
+        let Self {
+            conditions: _conditions,
+            texts,
+        } = self;
+        texts
+    }
+}
+
 /// Why no text of a component is known.
-#[derive(Debug, Drop)]
+#[derive(Drop)]
 pub(crate) enum NoTexts {
     /// No text without line feed meets the conditions.
     Nothing,
@@ -172,7 +195,7 @@ fn divide<'a>(
         }
         left -= 1;
         match first_met(alloc, refused, &parent.texts)? {
-            None => return Ok(FoundTexts::Texts(parent.texts)),
+            None => return Ok(FoundTexts::Texts(parent.into_texts())),
             Some(index) => {
                 let found = split(
                     alloc,

@@ -11,7 +11,7 @@ use std::alloc::{AllocError, Global};
 use urlpattern_syntax::parser::{Options, Part, PartType};
 
 /// A cell, which reads one character or any number of characters that pass a test.
-#[derive(Clone, Copy, Debug)]
+#[derive(Clone, Copy)]
 pub(crate) enum Cell {
     /// A character that passes.
     One(Test),

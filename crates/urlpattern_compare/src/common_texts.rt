@@ -58,13 +58,24 @@ pub enum Doubt {
 }
 
 /// The automata of a pattern's eight components, made once for any number of questions.
-#[derive(Debug, Drop)]
+#[derive(Debug)]
 pub struct PatternAutomata {
     /// The parts of the pattern.
     pub parts: PatternParts,
     /// The automata. `None`: nothing is known of the component, since a part is custom or case is
     /// ignored, or its automaton has too many states.
     pub automata: Eight<Option<PartsAutomaton>>,
+}
+
+impl Drop for PatternAutomata {
+    /// Drops the fields. Where automata go out of scope, the prover sees one call instead of one
+    /// for each component.
+    fn drop(self) {
+        let Self {
+            parts: _parts,
+            automata: _automata,
+        } = self;
+    }
 }
 
 impl PatternAutomata {
@@ -141,7 +152,11 @@ pub fn find_common<'a>(
         FoundTexts::Nothing => Ok(Common::Nothing),
         FoundTexts::TooManySets(component) => Ok(Common::Unknown(Doubt::TooManySets(component))),
         FoundTexts::TooManyTexts => Ok(Common::Unknown(Doubt::TooManyTexts)),
-        FoundTexts::Texts(texts) => texts_or_doubt(alloc, all_of, none_of, limits, &texts),
+        FoundTexts::Texts(texts) => {
+            let answer = texts_or_doubt(alloc, all_of, none_of, limits, &texts);
+            drop(texts);
+            answer
+        }
     }
 }
 
@@ -228,7 +243,12 @@ fn certain_or<'a>(
         FoundTexts::Nothing => Ok(Common::Unknown(Doubt::NoneOf(lack))),
         FoundTexts::TooManySets(component) => Ok(Common::Unknown(Doubt::TooManySets(component))),
         FoundTexts::TooManyTexts => Ok(Common::Unknown(Doubt::TooManyTexts)),
-        FoundTexts::Texts(texts) => Ok(Common::Texts(strings_of(alloc, &texts)?)),
+        FoundTexts::Texts(texts) => {
+            let made = strings_of(alloc, &texts);
+            drop(texts);
+            let strings = made?;
+            Ok(Common::Texts(strings))
+        }
     }
 }
 

@@ -4,7 +4,7 @@ use crate::parts_automaton::PartsAutomaton;
 use urlpattern_components::ComponentName;
 
 /// A condition on the text of a component: an automaton accepts it, or rejects it.
-#[derive(Clone, Copy, Debug)]
+#[derive(Clone, Copy)]
 pub(crate) struct Condition<'a> {
     /// The component.
     pub(crate) component: ComponentName,

@@ -49,7 +49,7 @@ pub enum Reason {
 }
 
 /// The result of looking for a text that two lists of parts match, or only the first.
-#[derive(Debug, Drop)]
+#[derive(Drop)]
 pub(crate) enum Answer {
     /// The characters of the text.
     Text(Vec<char>),

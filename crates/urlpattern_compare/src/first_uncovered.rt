@@ -7,7 +7,7 @@ use crate::coverage::{Covering, Reason};
 use urlpattern_components::ComponentName;
 
 /// The first component of a pattern that is known not to cover that of the asked pattern.
-#[derive(Debug, Drop)]
+#[derive(Drop)]
 pub(crate) enum FirstUncovered {
     /// Every component is known to cover that of the asked pattern.
     Nowhere,

@@ -7,7 +7,7 @@ use std::cmp::Ordering;
 use urlpattern_syntax::parser::{Part, PartModifier, PartType};
 
 /// The fields by which two parts are compared, one after the other, until they differ.
-#[derive(Clone, Copy, Debug)]
+#[derive(Clone, Copy)]
 struct Rank<'a> {
     kind: u8,
     modifier: u8,

@@ -59,7 +59,7 @@ pub struct Edge {
 }
 
 /// An automaton, which accepts a text if the text leads from a start state to state 0.
-#[derive(Debug, Drop)]
+#[derive(Debug)]
 pub struct PartsAutomaton {
     /// The edges.
     pub edges: Vec<Edge>,
@@ -67,6 +67,18 @@ pub struct PartsAutomaton {
     pub starts: Vec<usize>,
     /// The number of states.
     pub states: usize,
+}
+
+impl Drop for PartsAutomaton {
+    /// Drops the fields. Where an automaton goes out of scope, the prover sees one call instead of
+    /// one for each field.
+    fn drop(self) {
+        let Self {
+            edges: _edges,
+            starts: _starts,
+            states: _,
+        } = self;
+    }
 }
 
 impl PartsAutomaton {

@@ -118,7 +118,7 @@ pub enum PatternOverlap {
 }
 
 /// Why no text of a component is returned.
-#[derive(Debug, Drop)]
+#[derive(Drop)]
 pub(crate) enum NoText {
     /// No text without line feed exists that this component, of one pattern or of two, matches.
     Nothing(ComponentName),

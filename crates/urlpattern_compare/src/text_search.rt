@@ -13,7 +13,7 @@ use std::alloc::{AllocError, Global};
 
 /// Where several automata are after a text: the sets of states to which it leads them, one after
 /// the other in one list of flags.
-#[derive(Debug, Drop)]
+#[derive(Drop)]
 pub(crate) struct Place {
     pub(crate) flags: Vec<bool>,
     pub(crate) text: Vec<char>,

@@ -20,9 +20,9 @@ impl PolicyAutomata {
         ensures denied { OnOk result (DeniesCredentials self.old self.new) }
         ensures unchanged { OnErr result (HasSameRules self.old self.new) }
     {
+        self.reserve(2)?;
         let username = written(alloc, ComponentName::Username)?;
         let password = written(alloc, ComponentName::Password)?;
-        self.reserve(2)?;
         self.append(username, Effect::Deny);
         self.append(password, Effect::Deny);
         Ok(())

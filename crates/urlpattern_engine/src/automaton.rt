@@ -62,10 +62,15 @@ impl Automaton {
         ensures refused { result ≡ Err Pattern → HasFault ignore_case (chars regexp.now) }
     {
         let Parsed { hir, names } = read_expression(alloc, regexp, ignore_case)?;
+        let groups = names.len();
+        drop(names);
         if !is_anchored_start(&hir) {
+            drop(hir);
             return Ok(None);
         }
-        let nfa = nfa_of(alloc, regexp, &hir, names.len())?;
+        let made = nfa_of(alloc, regexp, &hir, groups);
+        drop(hir);
+        let nfa = made?;
         let text = String::from_str(alloc, regexp)?;
         Ok(Some(Automaton {
             text,

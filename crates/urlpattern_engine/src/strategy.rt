@@ -246,9 +246,9 @@ fn check(alloc: Global, pattern: &str, ignore_case: bool) -> Result<(), RegExpEr
         IsSome (read (config_for ignore_case) (chars pattern.now))) }
     ensures refused { result ≡ Err Pattern → HasFault ignore_case (chars pattern.now) }
 {
-    read_expression(alloc, pattern, ignore_case)?;
+    drop(read_expression(alloc, pattern, ignore_case)?);
     if is_large(pattern) {
-        compiled(alloc, pattern, ignore_case)?;
+        drop(compiled(alloc, pattern, ignore_case)?);
     }
     Ok(())
 }

@@ -53,8 +53,8 @@ impl Clone for UrlPatternInit {
         (values_view copy ≡ values_view init) × (copy.base_url ≡ init.base_url) };
 
     fn clone(&self) -> Result<Self, AllocError> {
-        let texts = Eight::try_from_fn(|name| self.copied(name))?;
         let base_url = self.base_url.clone()?;
+        let texts = Eight::try_from_fn(|name| self.copied(name))?;
         Ok(Self::from_eight(texts, base_url))
     }
 }

@@ -9,9 +9,13 @@ ghost use Rattle.urlpattern_inputs.specs.InputValues.{plain_init_texts, init_vie
 ghost use Rattle.urlpattern_components.specs.Eight.{at};
 ghost use Rattle.urlpattern_syntax.specs.Errors.{OnlyOutOfMemory};
 
+use crate::fields::{read_fields, write_field};
 use crate::json_reading::{Unread, optional_text_field, read_or_none};
 use crate::json_writing::put_optional;
-use serde::{Deserialize, Serialize};
+use serde::__private::{Lent, SharesAMap};
+use serde::{
+    Described, Deserialize, DeserializeOwned, Deserializer, Format, Serialize, Serializer,
+};
 use serde_json::{Map, Value};
 use std::alloc::{AllocError, Global};
 use urlpattern_components::{ComponentName, Eight, field_of, with_fields};
@@ -27,44 +31,70 @@ use urlpattern_syntax::Error;
 /// ```
 ///
 /// <https://urlpattern.spec.whatwg.org/#dictdef-urlpatterninit>
-#[derive(Debug, Default, PartialEq, Eq, Drop, Serialize, Deserialize)]
+#[derive(Debug, Default, PartialEq, Eq, Drop)]
 pub struct UrlPatternInit {
     /// The scheme.
-    #[serde(skip_serializing_if = "Option::is_none")]
     pub protocol: Option<String>,
     /// The user name.
-    #[serde(skip_serializing_if = "Option::is_none")]
     pub username: Option<String>,
     /// The password.
-    #[serde(skip_serializing_if = "Option::is_none")]
     pub password: Option<String>,
     /// The host.
-    #[serde(skip_serializing_if = "Option::is_none")]
     pub hostname: Option<String>,
     /// The port.
-    #[serde(skip_serializing_if = "Option::is_none")]
     pub port: Option<String>,
     /// The path.
-    #[serde(skip_serializing_if = "Option::is_none")]
     pub pathname: Option<String>,
     /// The query.
-    #[serde(skip_serializing_if = "Option::is_none")]
     pub search: Option<String>,
     /// The fragment.
-    #[serde(skip_serializing_if = "Option::is_none")]
     pub hash: Option<String>,
     /// The base URL, which is `baseURL` in JSON.
-    #[serde(skip_serializing_if = "Option::is_none", rename = "baseURL")]
     pub base_url: Option<String>,
 }
+
+impl Described for UrlPatternInit {}
+
+/// Writes an object with a key for each text that is given.
+impl Serialize for UrlPatternInit {
+    fn serialize<S: Serializer>(&self, out: &mut S) -> Result<(), S::Error> {
+        out.begin_map(Some(self.count()))?;
+        for name in ComponentName::all() {
+            write_text(name.as_str(), self.get(name), out)?;
+        }
+        write_text("baseURL", self.base_url.as_deref(), out)?;
+        out.end_map()
+    }
+}
+
+impl<'de> Deserialize<'de> for UrlPatternInit {
+    fn deserialize<F: Format>(
+        alloc: Global,
+        from: &mut Deserializer<'de, '_, F>,
+    ) -> Result<Self, F::Error> {
+        let (texts, base_url) = read_fields(alloc, Some("baseURL"), None, from)?;
+        Ok(Self::from_eight(texts, base_url))
+    }
+}
+
+impl DeserializeOwned for UrlPatternInit {
+    fn deserialize_owned<F: Format>(
+        alloc: Global,
+        from: &mut Deserializer<'_, '_, F>,
+    ) -> Result<Self, F::Error> {
+        Lent(alloc).read(from)
+    }
+}
+
+impl SharesAMap for UrlPatternInit {}
 
 /// A copy has the same texts.
 impl Clone for UrlPatternInit {
     ghost is_clone = { λ init copy. init_view copy ≡ init_view init };
 
     fn clone(&self) -> Result<Self, AllocError> {
-        let texts = Eight::try_from_fn(|name| field_of!(self, name).clone())?;
         let base_url = self.base_url.clone()?;
+        let texts = Eight::try_from_fn(|name| field_of!(self, name).clone())?;
         Ok(Self::from_eight(texts, base_url))
     }
 }
@@ -109,9 +139,18 @@ impl UrlPatternInit {
         if !value.is_object() {
             return Err(Unread::Shape);
         }
-        let texts = Eight::try_from_fn(|name| optional_text_field(alloc, value, name.as_str()))?;
         let base_url = optional_text_field(alloc, value, "baseURL")?;
+        let texts = Eight::try_from_fn(|name| optional_text_field(alloc, value, name.as_str()))?;
         Ok(Self::from_eight(texts, base_url))
+    }
+
+    /// Returns the number of texts that are given.
+    fn count(&self) -> usize {
+        let mut count = usize::from(self.base_url.is_some());
+        for name in ComponentName::all() {
+            count = count.wrapping_add(usize::from(self.get(name).is_some()));
+        }
+        count
     }
 
     /// Creates an init from eight optional texts and the text of a base URL.
@@ -135,5 +174,13 @@ impl UrlPatternInit {
             ≡ option_map string_bytes (at (plain_init_texts self.now) name) }
     {
         field_of!(self, name).as_deref()
+    }
+}
+
+/// Writes a text under a name, if it is given.
+fn write_text<S: Serializer>(name: &str, text: Option<&str>, out: &mut S) -> Result<(), S::Error> {
+    match text {
+        Some(text) => write_field(name, &text, out),
+        None => Ok(()),
     }
 }

@@ -1,6 +1,7 @@
 //! Plain data with its JSON, as browsers pass it: options, inits, inputs, and the texts of a match.
 #![tactic(auto)]
 
+pub mod fields;
 mod init;
 mod input;
 pub mod json_reading;

@@ -7,9 +7,13 @@ ghost use Rattle.urlpattern_inputs.specs.InputValues.{match_input_view, matched_
 ghost use Rattle.urlpattern_components.specs.Eight.{at, each};
 ghost use Rattle.urlpattern_syntax.specs.Errors.{OnlyOutOfMemory};
 
+use crate::fields::{read_fields, write_field};
 use crate::json_reading::{Unread, read_or_none, text_field};
 use crate::json_writing::put_text;
-use serde::{Deserialize, Serialize};
+use serde::__private::{Lent, SharesAMap};
+use serde::{
+    Described, Deserialize, DeserializeOwned, Deserializer, Format, Serialize, Serializer,
+};
 use serde_json::{Map, Value};
 use std::alloc::{AllocError, Global};
 use urlpattern_components::{ComponentName, Eight, field_of, with_fields};
@@ -23,7 +27,7 @@ use urlpattern_syntax::Error;
 /// let url = Url::parse(alloc, "https://example.com/users/123")?;
 /// let texts = parse_match_input(alloc, UrlPatternMatchInput::Url(url))?;
 /// ```
-#[derive(Debug, PartialEq, Eq, Drop, Serialize, Deserialize)]
+#[derive(Debug, PartialEq, Eq, Drop)]
 pub struct MatchInput {
     /// The scheme, without a colon.
     pub protocol: String,
@@ -42,6 +46,40 @@ pub struct MatchInput {
     /// The fragment, without a number sign.
     pub hash: String,
 }
+
+impl Described for MatchInput {}
+
+/// Writes an object with a key for each text.
+impl Serialize for MatchInput {
+    fn serialize<S: Serializer>(&self, out: &mut S) -> Result<(), S::Error> {
+        out.begin_map(Some(8))?;
+        for name in ComponentName::all() {
+            write_field(name.as_str(), &self.get(name), out)?;
+        }
+        out.end_map()
+    }
+}
+
+impl<'de> Deserialize<'de> for MatchInput {
+    fn deserialize<F: Format>(
+        alloc: Global,
+        from: &mut Deserializer<'de, '_, F>,
+    ) -> Result<Self, F::Error> {
+        let (texts, ()) = read_fields(alloc, None, Some(()), from)?;
+        Ok(Self::from_eight(texts))
+    }
+}
+
+impl DeserializeOwned for MatchInput {
+    fn deserialize_owned<F: Format>(
+        alloc: Global,
+        from: &mut Deserializer<'_, '_, F>,
+    ) -> Result<Self, F::Error> {
+        Lent(alloc).read(from)
+    }
+}
+
+impl SharesAMap for MatchInput {}
 
 /// A copy has the same texts.
 impl Clone for MatchInput {

@@ -127,13 +127,15 @@ impl<R: RegExp> Component<R> {
     {
         let flags = engine_flags(options);
         let has_regexp_group = has_regexp(part_list);
+        let pattern_string = generate_pattern_string(alloc, part_list, options)?;
+        let group_name_list = generate_name_list(alloc, part_list)?;
         let text = generate_regular_expression(alloc, part_list, options)?;
         let matcher = generate_matcher_with_regexp(alloc, part_list, options, flags, Some(&text))?;
         let regexp = engine_of(alloc, text, flags, has_regexp_group)?;
         Ok(Component {
-            pattern_string: generate_pattern_string(alloc, part_list, options)?,
+            pattern_string,
             regexp,
-            group_name_list: generate_name_list(alloc, part_list)?,
+            group_name_list,
             matcher,
             has_regexp_group,
         })

@@ -96,7 +96,7 @@ impl<F: Fn(&str) -> Result<String, Error>> PatternParser<'_, F> {
                 }
                 Next::Stops => {
                     self.finish(&mut list, reader)?;
-                    return Ok(list.parts);
+                    return Ok(list.into_parts());
                 }
             }
         }

@@ -40,14 +40,18 @@ matcher_tree matcher = object_of (
     ∷ (codes "suffix", Some (string matcher.suffix))
     ∷ inner_members matcher.inner)
 
--- The tree of a component.
-abbrev pub component_tree : PlainComponentView → Data
-component_tree component = object_of (
+-- The members of a component.
+abbrev pub component_members : PlainComponentView → List (List ℕ × Option Data)
+component_members component =
     (codes "patternString", Some (string component.pattern_string))
     ∷ (codes "regexpString", Some (string component.regexp_string))
     ∷ (codes "matcher", Some (matcher_tree component.matcher))
     ∷ (codes "groupNameList", Some (array (items_of (map string component.group_name_list))))
-    ∷ [])
+    ∷ []
+
+-- The tree of a component.
+abbrev pub component_tree : PlainComponentView → Data
+component_tree component = object_of (component_members component)
 
 -- The tree of a pattern: a member for each component, and `hasRegexpGroups`.
 abbrev pub pattern_tree : PlainPatternView → Data

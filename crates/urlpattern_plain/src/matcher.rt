@@ -11,9 +11,10 @@ ghost use Rattle.urlpattern_syntax.specs.{Errors.OnlyOutOfMemory, Text.text_of};
 
 use crate::pattern_reading::optional_character_field;
 use crate::pattern_writing::filter_value;
-use serde::{Deserialize, Serialize};
+use serde::{Case, Described, Deserialize, Serialize, Serializer};
 use serde_json::{Map, Value};
 use std::alloc::{AllocError, Global};
+use urlpattern_inputs::fields::write_field;
 use urlpattern_inputs::json_reading::{Unread, flag_field, read_or_none, text_field, text_of};
 use urlpattern_inputs::json_writing::put_text;
 use urlpattern_matcher::matcher;
@@ -44,7 +45,7 @@ pub struct Matcher {
 ///     InnerMatcher::RegExp { regexp } => regexp.as_str(),
 /// };
 /// ```
-#[derive(Debug, Clone, PartialEq, Eq, Drop, Serialize, Deserialize)]
+#[derive(Debug, Clone, PartialEq, Eq, Drop, Deserialize)]
 #[serde(tag = "kind", rename_all = "camelCase", rename_all_fields = "camelCase")]
 pub enum InnerMatcher {
     /// A literal text.
@@ -64,6 +65,40 @@ pub enum InnerMatcher {
         /// The text of the regular expression, empty if an engine rejected it.
         regexp: String,
     },
+}
+
+impl Described for InnerMatcher {}
+
+/// Writes an object with `kind`, and the keys of its kind.
+impl Serialize for InnerMatcher {
+    fn serialize<S: Serializer>(&self, out: &mut S) -> Result<(), S::Error> {
+        match self {
+            InnerMatcher::Literal { literal } => {
+                begin_kind("literal", 2, out)?;
+                write_field("literal", literal, out)?;
+            }
+            InnerMatcher::SingleCapture {
+                filter,
+                allow_empty,
+            } => {
+                begin_kind("singleCapture", 3, out)?;
+                write_field("filter", filter, out)?;
+                write_field("allowEmpty", allow_empty, out)?;
+            }
+            InnerMatcher::RegExp { regexp } => {
+                begin_kind("regExp", 2, out)?;
+                write_field("regexp", regexp, out)?;
+            }
+        }
+        out.end_map()
+    }
+}
+
+/// Begins an object of `count` members, the first of which is its kind.
+fn begin_kind<S: Serializer>(kind: &str, count: usize, out: &mut S) -> Result<(), S::Error> {
+    out.begin_map(Some(count))?;
+    out.key("kind")?;
+    out.str_cased(kind, Case::AsIs)
 }
 
 impl Matcher {

@@ -2,11 +2,11 @@
 
 ghost use Rattle.std.specs.Prelude.{◌≡◌, IfOk, OnOk, Some, option_map};
 ghost use Rattle.serde_json.specs.View.{view};
-ghost use Rattle.urlpattern_plain.specs.PatternJson.{component_read, component_tree, matcher_read, pattern_read, pattern_tree};
+ghost use Rattle.urlpattern_plain.specs.PatternJson.{component_members, component_read, component_tree, matcher_read, pattern_read, pattern_tree};
 ghost use Rattle.urlpattern_matcher.specs.Components as compiled;
 ghost use Rattle.urlpattern_plain.specs.Plain.{plain_component};
 ghost use Rattle.urlpattern_inputs.specs.ReadResults.{ReturnsRead};
-ghost use Rattle.urlpattern_inputs.specs.Trees.{Gain, member_read};
+ghost use Rattle.urlpattern_inputs.specs.Trees.{Gain, GainAll, member_read};
 ghost use Rattle.urlpattern_plain.specs.Values.{component_by, component_patterns, plain_component_view, plain_matcher_view, plain_pattern_view};
 ghost use Rattle.urlpattern_components.specs.Eight.{at};
 ghost use Rattle.urlpattern_syntax.specs.Errors.{OnlyOutOfMemory};
@@ -15,10 +15,14 @@ ghost use Rattle.urlpattern_syntax.specs.Text.{text_of};
 use crate::matcher::{Matcher, engine_text};
 use crate::pattern_reading::texts_field;
 use crate::pattern_writing::texts_value;
-use serde::{Deserialize, Serialize};
+use serde::__private::{Lent, SharesAMap};
+use serde::{
+    Described, Deserialize, DeserializeOwned, Deserializer, Format, Serialize, Serializer,
+};
 use serde_json::{Map, Value};
 use std::alloc::{AllocError, Global};
 use urlpattern_components::{ComponentName, Eight, field_of, with_fields};
+use urlpattern_inputs::fields::{read_fields, write_field};
 use urlpattern_inputs::json_reading::{Unread, flag_field, member, read_or_none, text_field};
 use urlpattern_inputs::json_writing::put_text;
 use urlpattern_matcher::component::Component;
@@ -35,8 +39,7 @@ use urlpattern_syntax::Error;
 /// let options = UrlPatternOptions::default();
 /// let users: UrlPattern = parse_pattern::<EcmaRegexp>(alloc, init, options)?;
 /// ```
-#[derive(Debug, PartialEq, Eq, Drop, Serialize, Deserialize)]
-#[serde(rename_all = "camelCase")]
+#[derive(Debug, PartialEq, Eq, Drop)]
 pub struct UrlPattern {
     /// The pattern of the protocol.
     pub protocol: UrlPatternComponent,
@@ -79,6 +82,41 @@ pub struct UrlPatternComponent {
     /// The names of the groups, in the order of their captures.
     pub group_name_list: Vec<String>,
 }
+
+impl Described for UrlPattern {}
+
+/// Writes an object with a key for each component, and `hasRegexpGroups`.
+impl Serialize for UrlPattern {
+    fn serialize<S: Serializer>(&self, out: &mut S) -> Result<(), S::Error> {
+        out.begin_map(Some(9))?;
+        for name in ComponentName::all() {
+            write_field(name.as_str(), self.get(name), out)?;
+        }
+        write_field("hasRegexpGroups", &self.has_regexp_groups, out)?;
+        out.end_map()
+    }
+}
+
+impl<'de> Deserialize<'de> for UrlPattern {
+    fn deserialize<F: Format>(
+        alloc: Global,
+        from: &mut Deserializer<'de, '_, F>,
+    ) -> Result<Self, F::Error> {
+        let (components, has_groups) = read_fields(alloc, Some("hasRegexpGroups"), None, from)?;
+        Ok(Self::from_eight(components, has_groups))
+    }
+}
+
+impl DeserializeOwned for UrlPattern {
+    fn deserialize_owned<F: Format>(
+        alloc: Global,
+        from: &mut Deserializer<'_, '_, F>,
+    ) -> Result<Self, F::Error> {
+        Lent(alloc).read(from)
+    }
+}
+
+impl SharesAMap for UrlPattern {}
 
 /// A copy has the same components.
 impl Clone for UrlPattern {
@@ -168,10 +206,14 @@ impl UrlPatternComponent {
         ensures memory { OnlyOutOfMemory result }
     {
         let (pattern_string, regexp, group_name_list, matcher, _) = component.into_fields();
+        let text = engine_text(alloc, &regexp);
+        drop(regexp);
+        let regexp_string = text?;
+        let matcher = Matcher::from_matcher(alloc, matcher)?;
         Ok(Self {
             pattern_string,
-            regexp_string: engine_text(alloc, &regexp)?,
-            matcher: Matcher::from_matcher(alloc, matcher)?,
+            regexp_string,
+            matcher,
             group_name_list,
         })
     }
@@ -184,13 +226,22 @@ impl UrlPatternComponent {
         ensures memory { OnlyOutOfMemory result }
     {
         let mut members = Map::new(alloc);
-        put_text(&mut members, alloc, "patternString", &self.pattern_string)?;
-        put_text(&mut members, alloc, "regexpString", &self.regexp_string)?;
-        let matcher = self.matcher.to_json_value(alloc)?;
-        serde_json::put(&mut members, alloc, "matcher", matcher)?;
-        let names = texts_value(alloc, &self.group_name_list)?;
-        serde_json::put(&mut members, alloc, "groupNameList", names)?;
+        self.put_members(&mut members, alloc)?;
         Ok(Value::Object(members))
+    }
+
+    /// Puts the JSON of each field into the members of an object.
+    fn put_members(&self, members: &mut Map<String, Value>, alloc: Global) -> Result<(), Error>
+        ensures put { OnOk result (GainAll members.old.entries members.new.entries
+            (component_members (plain_component_view self.now))) }
+        ensures memory { OnlyOutOfMemory result }
+    {
+        put_text(members, alloc, "patternString", &self.pattern_string)?;
+        put_text(members, alloc, "regexpString", &self.regexp_string)?;
+        let matcher = self.matcher.to_json_value(alloc)?;
+        serde_json::put(members, alloc, "matcher", matcher)?;
+        let names = texts_value(alloc, &self.group_name_list)?;
+        Ok(serde_json::put(members, alloc, "groupNameList", names)?)
     }
 
     /// Reads a component from JSON: an object with `patternString`, `regexpString`, `matcher` and

@@ -40,7 +40,10 @@ pub fn process_construct_pattern_input(
     match input {
         StringOrInit::String(text) => init_of_text::<Regex>(alloc, text.as_str(), base_url),
         StringOrInit::Init(init) => match base_url {
-            Some(_) => Err(Error::BaseUrlWithInit),
+            Some(_) => {
+                drop(init);
+                Err(Error::BaseUrlWithInit)
+            }
             None => init_of(alloc, init),
         },
     }
@@ -52,8 +55,13 @@ fn init_of(alloc: Global, init: UrlPatternInit) -> Result<init::UrlPatternInit, 
     ensures refused { IfErr result
         (MemoryOr (Reports (parsed_base (plain_base init)) (text_bytes (plain_base init)))) }
 {
-    let base_url = parse_base(alloc, init.base_url.as_deref())?;
-    Ok(init::UrlPatternInit::from_eight(init.into_eight(), base_url))
+    match parse_base(alloc, init.base_url.as_deref()) {
+        Ok(base_url) => Ok(init::UrlPatternInit::from_eight(init.into_eight(), base_url)),
+        Err(error) => {
+            drop(init);
+            Err(error)
+        }
+    }
 }
 
 /// Returns what a pattern is matched against, a URL or an init with its base URL parsed, and the
@@ -75,7 +83,10 @@ pub fn process_match_input<'a>(
     match input {
         StringOrInit::String(text) => match_text(alloc, text, base_url),
         StringOrInit::Init(init) => match base_url {
-            Some(_) => Err(Error::BaseUrlWithInit),
+            Some(_) => {
+                drop(init);
+                Err(Error::BaseUrlWithInit)
+            }
             None => match_init(alloc, init),
         },
     }
@@ -110,13 +121,24 @@ fn match_init<'a>(
     ensures memory { OnlyOutOfMemory result }
 {
     match parse_base(alloc, init.base_url.as_deref()) {
-        Ok(base_url) => {
-            let copy = copied_init(alloc, &init, base_url)?;
-            let inputs = (StringOrInit::Init(init), None);
-            Ok(Some((UrlPatternMatchInput::Init(copy), inputs)))
+        Ok(base_url) => match copied_init(alloc, &init, base_url) {
+            Ok(copy) => {
+                let inputs = (StringOrInit::Init(init), None);
+                Ok(Some((UrlPatternMatchInput::Init(copy), inputs)))
+            }
+            Err(error) => {
+                drop(init);
+                Err(error)
+            }
+        },
+        Err(Error::Url(_)) => {
+            drop(init);
+            Ok(None)
         }
-        Err(Error::Url(_)) => Ok(None),
-        Err(_) => Err(Error::OutOfMemory),
+        Err(_) => {
+            drop(init);
+            Err(Error::OutOfMemory)
+        }
     }
 }
 

@@ -74,7 +74,13 @@ pub fn read_rule(
         faults: Vec::new(alloc),
     };
     let condition = reader.condition_of_rule(limits.depth, tree)?;
-    let source = reader.source_of(limits.has_handler, tree)?;
+    let source = match reader.source_of(limits.has_handler, tree) {
+        Ok(source) => source,
+        Err(error) => {
+            drop(condition);
+            return Err(error);
+        }
+    };
     Ok(RuleReading {
         rule: RouterRule { condition, source },
         faults: reader.faults,

@@ -1,8 +1,8 @@
 //! Writes rules as JSON.
 ghost use Rattle.std.specs.Prelude.{◌≡◌, IfOk, OnOk, codes, map, option_map};
-ghost use Rattle.urlpattern_inputs.specs.{InputJson.input_tree, InputValues.input_view, Trees.Gain};
+ghost use Rattle.urlpattern_inputs.specs.{InputJson.input_tree, InputValues.input_view, Trees.{Gain, GainAll}};
 ghost use Rattle.serde_json.specs.View.{items_view, view};
-ghost use Rattle.urlpattern_routes.specs.Trees.{condition_tree, request_tree, rule_tree, rules_tree, source_tree, tree_items};
+ghost use Rattle.urlpattern_routes.specs.Trees.{condition_tree, request_members, request_tree, rule_tree, rules_tree, source_tree, tree_items};
 ghost use Rattle.urlpattern_routes.specs.Views.{condition_view, listed, request_view, rule_view, source_view};
 
 use crate::Made;
@@ -75,16 +75,24 @@ fn request_json(alloc: Global, request: &RouterRequest) -> Made<Value>
     ensures { IfOk result (λ tree. view tree ≡ request_tree (request_view request.now)) }
 {
     let mut members = Map::new(alloc);
-    put_pattern(&mut members, alloc, &request.url_pattern)?;
-    let method = request.method.as_deref();
-    put_optional(&mut members, alloc, "requestMethod", method)?;
-    let mode = request.mode.as_deref();
-    put_optional(&mut members, alloc, "requestMode", mode)?;
-    let destination = request.destination.as_deref();
-    put_optional(&mut members, alloc, "requestDestination", destination)?;
-    let status = request.running_status.as_deref();
-    put_optional(&mut members, alloc, "runningStatus", status)?;
+    put_request(&mut members, alloc, request)?;
     Ok(Value::Object(members))
+}
+
+/// Puts what a condition asks of a request into the members of the condition.
+fn put_request(members: &mut Map<String, Value>, alloc: Global, request: &RouterRequest) -> Made<()>
+    ensures { OnOk result (GainAll members.old.entries members.new.entries
+        (request_members (request_view request.now))) }
+{
+    put_pattern(members, alloc, &request.url_pattern)?;
+    let method = request.method.as_deref();
+    put_optional(members, alloc, "requestMethod", method)?;
+    let mode = request.mode.as_deref();
+    put_optional(members, alloc, "requestMode", mode)?;
+    let destination = request.destination.as_deref();
+    put_optional(members, alloc, "requestDestination", destination)?;
+    let status = request.running_status.as_deref();
+    put_optional(members, alloc, "runningStatus", status)
 }
 
 /// Puts a pattern into the members of a condition, if there is a pattern.

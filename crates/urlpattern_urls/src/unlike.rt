@@ -14,7 +14,7 @@ use urlpattern_syntax::ComponentParts;
 use urlpattern_syntax::parser::{Options, Part, PartModifier, PartType};
 
 /// How eight texts may be unlike those of any URL.
-#[derive(Clone, Copy, Debug, PartialEq, Eq)]
+#[derive(Clone, Copy, PartialEq, Eq)]
 pub(crate) enum Unlike {
     /// The protocol is empty.
     NoProtocol,
@@ -42,14 +42,14 @@ impl UrlFacts {
     pub fn new(alloc: Global) -> Result<Self, AllocError>
         ensures { IfOk result (λ it. AreUnlike it.patterns.items) }
     {
-        let protocol = automata_of(alloc, Unlike::NoProtocol)?;
-        let hostname = automata_of(alloc, Unlike::NoHostname)?;
-        let pathname = automata_of(alloc, Unlike::NoPathname)?;
-        let slash = automata_of(alloc, Unlike::NoSlash)?;
         let mut patterns = Vec::with_capacity(alloc, 4)?;
+        let protocol = automata_of(alloc, Unlike::NoProtocol)?;
         patterns.push(protocol)?;
+        let hostname = automata_of(alloc, Unlike::NoHostname)?;
         patterns.push(hostname)?;
+        let pathname = automata_of(alloc, Unlike::NoPathname)?;
         patterns.push(pathname)?;
+        let slash = automata_of(alloc, Unlike::NoSlash)?;
         patterns.push(slash)?;
         Ok(UrlFacts { patterns })
     }

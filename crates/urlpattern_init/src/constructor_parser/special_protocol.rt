@@ -42,8 +42,13 @@ pub(super) fn is_special_protocol<R: RegExp>(
         return Ok((special, Some((protocol, made))));
     }
     let part_list = parse_pattern_string(alloc, protocol, &options, canonicalize)?;
-    let matcher = generate_matcher::<R>(alloc, &part_list, &options, "u")?;
-    let special = accepts_special_scheme(alloc, &matcher)?;
+    let made = generate_matcher::<R>(alloc, &part_list, &options, "u");
+    drop(part_list);
+    drop(options);
+    let matcher = made?;
+    let accepted = accepts_special_scheme(alloc, &matcher);
+    drop(matcher);
+    let special = accepted?;
     Ok((special, None))
 }
 

@@ -19,15 +19,40 @@ use urlpattern_syntax::error::{Error, ParserError};
 
 /// The parts of a pattern text that are parsed so far, the literal text after them that is not yet
 /// a part, the names that the pattern has given, and the number of groups without a given name.
-#[derive(Drop)]
 pub(super) struct PartList<'a> {
-    pub(super) parts: Vec<Part>,
+    parts: Vec<Part>,
     pending_fixed_value: String,
     given_names: GivenNames<'a>,
     next_numeric_name: usize,
 }
 
+impl Drop for PartList<'_> {
+    /// Drops the fields. Where a list goes out of scope, the prover sees one call instead of one
+    /// for each field.
+    fn drop(self) {
+        let Self {
+            parts: _parts,
+            pending_fixed_value: _pending_fixed_value,
+            given_names: _given_names,
+            next_numeric_name: _,
+        } = self;
+    }
+}
+
 impl<'a> PartList<'a> {
+    /// Returns the parts.
+    pub(super) fn into_parts(self) -> Vec<Part>
+        ensures { result ≡ self.entry.parts }
+    {
+        let Self {
+            parts,
+            pending_fixed_value: _pending_fixed_value,
+            given_names: _given_names,
+            next_numeric_name: _,
+        } = self;
+        parts
+    }
+
     /// Returns a list without parts or pending text.
     pub(super) fn new(alloc: Global) -> Self
         ensures empty { part_list_view result ≡ record { parts = []; pending = []; number = 0 } }

@@ -49,7 +49,6 @@ pub(super) enum Piece<'a> {
 }
 
 /// What `next_piece` finds at the beginning of the tokens that are left.
-#[derive(Drop)]
 pub(super) enum Next<'a> {
     /// A piece, which is consumed.
     Piece(Piece<'a>),
@@ -60,6 +59,19 @@ pub(super) enum Next<'a> {
     Stops,
     /// A group without its closing brace. The token in place of the brace is not consumed.
     LacksClose,
+}
+
+impl Drop for Next<'_> {
+    /// Drops the piece, if there is one. Where a `Next` goes out of scope, the prover sees one call
+    /// instead of one for each text of a piece.
+    fn drop(self) {
+        match self {
+            Next::Piece(_piece) => {}
+            Next::Characters(_, _) => {}
+            Next::Stops => {}
+            Next::LacksClose => {}
+        }
+    }
 }
 
 /// The tokens of a pattern that no piece has consumed: the first token, and the place of the rest.

@@ -60,9 +60,14 @@ impl<R: RegExp> UrlPattern<R> {
         };
         let url = match url_of_texts(alloc, &texts) {
             Ok(url) => url,
-            Err(error) => return Err(error),
+            Err(error) => {
+                drop(texts);
+                return Err(error);
+            }
         };
-        match self.unconfirmed(alloc, parts, &texts, groups)? {
+        let unconfirmed = self.unconfirmed(alloc, parts, &texts, groups);
+        drop(texts);
+        match unconfirmed? {
             None => Ok(url),
             Some(component) => Err(NoLink::Component(GenerateError::ReadOtherwise(component))),
         }

@@ -57,7 +57,11 @@ impl<R: RegExp> UrlPattern<R> {
         match input {
             UrlPatternMatchInput::Url(url) => self.test_url(alloc, &url),
             input => match parse_match_input(alloc, input)? {
-                Some(texts) => Ok(self.is_matched(alloc, &input_texts(&texts))?),
+                Some(texts) => {
+                    let matched = self.is_matched(alloc, &input_texts(&texts));
+                    drop(texts);
+                    Ok(matched?)
+                }
                 None => Ok(false),
             },
         }

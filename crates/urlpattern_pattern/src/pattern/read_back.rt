@@ -76,11 +76,16 @@ impl<R: RegExp> UrlPattern<R> {
             return Ok(None);
         };
         let init = self.init_of_strings()?;
-        if Self::init_reads_back(alloc, parts, &init)? {
-            Ok(Some(init))
-        } else {
-            drop(init);
-            Ok(None)
+        match Self::init_reads_back(alloc, parts, &init) {
+            Ok(true) => Ok(Some(init)),
+            Ok(false) => {
+                drop(init);
+                Ok(None)
+            }
+            Err(error) => {
+                drop(init);
+                Err(error)
+            }
         }
     }
 

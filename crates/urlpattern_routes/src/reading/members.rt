@@ -22,10 +22,34 @@ impl Reader {
         ensures faults { OnOk result (Finds self.old self.new (request_faults (view tree.now))) }
     {
         let url_pattern = self.pattern_of(tree)?;
-        let method = self.name_of(RouterAttribute::Method, tree)?;
-        let mode = self.name_of(RouterAttribute::Mode, tree)?;
-        let destination = self.name_of(RouterAttribute::Destination, tree)?;
-        let running_status = self.name_of(RouterAttribute::RunningStatus, tree)?;
+        let method = match self.name_of(RouterAttribute::Method, tree) {
+            Ok(method) => method,
+            Err(error) => {
+                drop(url_pattern);
+                return Err(error);
+            }
+        };
+        let mode = match self.name_of(RouterAttribute::Mode, tree) {
+            Ok(mode) => mode,
+            Err(error) => {
+                drop(url_pattern);
+                return Err(error);
+            }
+        };
+        let destination = match self.name_of(RouterAttribute::Destination, tree) {
+            Ok(destination) => destination,
+            Err(error) => {
+                drop(url_pattern);
+                return Err(error);
+            }
+        };
+        let running_status = match self.name_of(RouterAttribute::RunningStatus, tree) {
+            Ok(running_status) => running_status,
+            Err(error) => {
+                drop(url_pattern);
+                return Err(error);
+            }
+        };
         Ok(RouterRequest {
             url_pattern,
             method,
@@ -47,15 +71,23 @@ impl Reader {
         };
         let empty = Value::Object(Map::new(self.alloc));
         let given = if member.is_null() { &empty } else { member };
-        let Ok(read) = StringOrInit::from_json_value(self.alloc, given) else {
+        let found = StringOrInit::from_json_value(self.alloc, given);
+        drop(empty);
+        let Ok(read) = found else {
             return Err(AllocError);
         };
-        self.expect(
+        let expected = self.expect(
             read.is_some(),
             RouterMember::UrlPattern,
             RouterReason::NotAPattern,
-        )?;
-        Ok(read)
+        );
+        match expected {
+            Ok(()) => Ok(read),
+            Err(error) => {
+                drop(read);
+                Err(error)
+            }
+        }
     }
 
     /// Reads the name that a condition gives for an attribute, if there is one, and appends its

@@ -1,12 +1,14 @@
-use Rattle.std.proofs.Common.{◌≡◌, ◌∙◌, ◌+◌, ◌-◌, [], ◌∷◌, ◌++◌, None, Some, arith, refl, subst, sym}
+use Rattle.std.proofs.Common.{◌≡◌, ◌∙◌, ◌+◌, ◌-◌, ℕ, [], ◌∷◌, ◌++◌, None, Some, arith, refl, subst, sym}
 use Rattle.std.proofs.lemmas.List.Elements.{Contains-get_or}
 use Rattle.std.specs.List.{Contains}
 use Rattle.std.specs.Option.{IsSome}
 use Rattle.std.specs.Prelude.{IfSome}
 use Rattle.std.specs.declared.alloc.Global.{Global}
 use Rattle.std.specs.declared.vec.Vec.{Vec}
-use Rattle.urlpattern_compare.specs.Candidates.{AreCandidates, HasManySetsAt, IsFirstMet, IsSplit, MeetsEach, text_at}
+use Rattle.urlpattern_compare.specs.Candidates.{AreCandidates, HasManySetsAt, IsFirstMet, IsFoundTexts, IsSplit, MeetsEach, text_at}
+use Rattle.urlpattern_compare.specs.declared.candidates.FoundTexts.TheVariants as founds
 use Rattle.urlpattern_compare.specs.declared.condition.Condition.{Condition}
+use Rattle.urlpattern_components.specs.declared.eight.Eight.{Eight}
 use Rattle.urlpattern_compare.proofs.OpenLemmas.{IsDividing, dividing_more, first_dividing, many_tried, parent_answer, parent_is}
 use Rattle.urlpattern_compare.proofs.candidates.divide.Goals as goal
 
@@ -39,9 +41,10 @@ returns-in-None c =
     let rest = c.pop.new.self.items in
     let (tried, is) = c.loop-parent.invariant in
     let popped : c.loop-parent.candidates.items ≡ rest ++ parent ∷ [] = c.in-Some.ensures.items in
-    parent_answer first refused c.args.limits rest parent tried c.loop-parent.left c.loop-parent.doubt
+    subst (λ (texts : Eight (Vec ℕ Global)). IsFoundTexts first refused c.args.limits (founds.Texts texts)) (sym c.into_texts.ensures)
+    (parent_answer first refused c.args.limits rest parent tried c.loop-parent.left c.loop-parent.doubt
     (subst (λ l. IsDividing first refused c.args.limits l tried c.loop-parent.left c.loop-parent.doubt) popped is)
-    (subst (IsFirstMet refused (text_at parent.texts)) c.in-None.is c.in_ok-first_met.ensures)
+    (subst (IsFirstMet refused (text_at parent.texts)) c.in-None.is c.in_ok-first_met.ensures))
 
 pub split-requires-clause-lines : goal.split-requires-clause-lines
 split-requires-clause-lines c =

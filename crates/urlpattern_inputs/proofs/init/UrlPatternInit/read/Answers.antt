@@ -15,7 +15,7 @@ returns-in_err-texts c =
     let text_of = λ (name : ComponentName). optional_read as_str (name_text name) (view c.args.value.now) in
     let reason = c.in_err-texts.field-0.0 in
     let (before, after, name, same, earlier, answers) = c.in_err-texts.ensures.err in
-    passed_on init_view c.from_residual.result reason (init_read (view c.args.value.now)) c.from_residual.ensures.1
+    passed_on init_view c.from_residual-in_err-texts.result reason (init_read (view c.args.value.now)) c.from_residual-in_err-texts.ensures.1
     (init_fails (view c.args.value.now) reason (read_each-fails text_of reason name (search rules)))
 
 pub returns : goal.returns

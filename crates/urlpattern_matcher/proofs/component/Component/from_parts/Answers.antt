@@ -14,10 +14,10 @@ returns-clause-made g c =
     let flags_are = c.engine_flags-flags.ensures in
     let reported = c.has_regexp-has_regexp_group.ensures in
     record {
-      is_printed = c.in_ok-generate_pattern_string.ensures.text;
+      is_printed = c.in_ok-pattern_string.ensures.text;
       has_engine = engine-along g.R.RegExp (engine_view c.in_ok-regexp.regexp) reported flags_are
           c.in_ok-text.ensures c.in_ok-regexp.ensures;
-      has_names = c.in_ok-generate_name_list.ensures;
+      has_names = c.in_ok-group_name_list.ensures;
       has_matcher = subst (λ flags. IsMadeOf (IsEngineOf g.R.RegExp false flags) options parts (matcher_view c.in_ok-matcher.matcher)) flags_are c.in_ok-matcher.ensures;
       regexp_flag = reported;
     }

@@ -9,7 +9,7 @@ use Rattle.urlpattern_syntax.specs.Errors.{ErrorView as error_views}
 use Rattle.urlpattern_syntax.specs.Parsing.{PartListView}
 use Rattle.urlpattern_syntax.specs.Errors.{MemoryOr}
 use Rattle.urlpattern_parser.specs.Readers.{IsShorter, part_list_view, piece_view, reader_left, reader_text}
-use Rattle.urlpattern_parser.specs.PartLists.{list_names, parser_encoding, parser_options}
+use Rattle.urlpattern_parser.specs.PartLists.{ParserReads, list_names, parser_encoding, parser_options}
 use Rattle.urlpattern_syntax.specs.Parts.{parts_view}
 use Rattle.urlpattern_syntax.specs.RegexpText.{group_names}
 use Rattle.urlpattern_syntax.specs.Text.{text_of}
@@ -99,8 +99,9 @@ returns-in-Stops-clause-reads g c =
     let new = c.next_piece.new.self in
     let takes = takes_as old new c.deref.result.now (parser_options c.args.self.now).prefix _ nexts.Stops (ap chars c.deref.ensures) c.in-Stops.is c.in_ok-next_piece.ensures.next in
     let is_end = c.in_ok-finish-in-Stops.ensures.end in
-    end_read (parser_options c.args.self.now) (parser_encoding g.F.Fn c.args.self.now) (reader_text c.args.reader.now) old new (part_list_view c.loop-next.list) c.loop-next.invariant.read
-    (part_list_view c.finish.new.list) takes (gives_end new is_end) is_end c.in_ok-finish-in-Stops.ensures.ok
+    subst (λ (parts : Vec Part Global). ParserReads g.F.Fn c.args.self.now (reader_text c.args.reader.now) parts.items) (sym c.into_parts-in-Stops.ensures)
+    (end_read (parser_options c.args.self.now) (parser_encoding g.F.Fn c.args.self.now) (reader_text c.args.reader.now) old new (part_list_view c.loop-next.list) c.loop-next.invariant.read
+    (part_list_view c.finish.new.list) takes (gives_end new is_end) is_end c.in_ok-finish-in-Stops.ensures.ok)
 
 pub returns-in_err-finish-in-Stops-clause-refuses : goal.returns-in_err-finish-in-Stops-clause-refuses
 returns-in_err-finish-in-Stops-clause-refuses g c =
