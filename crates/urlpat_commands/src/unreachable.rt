@@ -2,28 +2,27 @@
 
 ghost use Rattle.std.specs.List.{list_any};
 ghost use Rattle.std.specs.Prelude.{◌≡◌, ◌≢◌, ◌⊎◌, All, map, option_copied, IfOk, IfSome, IsTrue, OnOk};
-ghost use Rattle.urlpat_commands.specs.Unreached.{AreAppended, AreAutomataOfEach, HasDoubts, LeaveDoubts, Lists, ListsOf, PrintsFound, is_never, is_unknown};
+ghost use Rattle.urlpat_commands.specs.Unreached.{AreAppended, AreAutomataOfEach, HasDoubts, LeaveDoubts, Lists, ListsOf, PrintsFound, found_status, is_never, is_unknown};
 ghost use Rattle.urlpat_matching.specs.Tables.{entries_view};
 ghost use Rattle.urlpattern_compare.specs.CommonTexts.{AreAutomata};
 ghost use Rattle.urlpattern_compare.specs.Reaching.{AreReached};
 ghost use Rattle.urlpattern_compare.specs.declared.candidates.TheConstants.{USUAL_LIMITS};
 
-use crate::comparison_printer::ComparisonPrinter;
+use crate::comparison_lines::unreached_lines;
+use crate::comparison_text::doubts_text;
 use crate::tables::{Tables, read_entries, read_table};
-use crate::text_parts::parts_of_text;
+use crate::text_parts::parts_or_report;
 use std::alloc::{AllocError, Global};
 use std::io::Write;
-use urlpat_matching::{
-    DONE, Entry, FAILED, Flags, NO_MATCH, TableArguments, print, status_of, write_refusal,
-};
+use urlpat_matching::{DONE, Entry, FAILED, Flags, NO_MATCH, TableArguments, print};
 use urlpattern::rules::{PatternAutomata, PatternParts, Reach, USUAL_LIMITS, reach_of_each};
 
-/// Runs `unreachable`. Returns the exit status: `NO_MATCH` if no pattern is known to be never the
-/// first match. Patterns for which that is not known are reported to `err`.
-pub fn list_unreachable<T: Tables, P: ComparisonPrinter, Out: Write, Err: Write>(
+/// Runs `unreachable`. Returns the exit status: `NO_MATCH` if each pattern is the first match of
+/// some texts. Patterns for which that is not known are reported to `err`; if none is found that is
+/// never the first match, the exit status is then `FAILED`.
+pub fn list_unreachable<T: Tables, Out: Write, Err: Write>(
     alloc: Global,
     tables: &T,
-    printer: &P,
     asked: TableArguments<'_>,
     flags: Flags,
     out: &mut Out,
@@ -31,24 +30,23 @@ pub fn list_unreachable<T: Tables, P: ComparisonPrinter, Out: Write, Err: Write>
 ) -> u8
     ensures status { (result ≡ DONE) ⊎ (result ≡ NO_MATCH) ⊎ (result ≡ FAILED) }
     ensures answers { result ≢ FAILED
-        → Lists (T.Has tables.now) (P.PrintsUnreached printer.now flags.json) flags.ignore_case
-        asked.entry result (Out.contents out.old) (Out.contents out.new) }
+        → Lists (T.Has tables.now) flags asked.entry result (Out.contents out.old)
+        (Out.contents out.new) }
     ensures quiet { result ≢ FAILED → (err.new ≡ err.old)
         ⊎ LeaveDoubts (T.Has tables.now) flags.ignore_case asked.entry }
 {
     let Some(table) = read_table(tables, asked.file, err) else {
         return FAILED;
     };
-    let status = print_unreachable(alloc, printer, &table, asked.base, flags, out, err);
+    let status = print_unreachable(alloc, &table, asked.base, flags, out, err);
     drop(table);
     status
 }
 
 /// Prints which patterns of a table are never the first match, and reports those for which that is
 /// not known. Returns the exit status.
-fn print_unreachable<P: ComparisonPrinter, Out: Write, Err: Write>(
+fn print_unreachable<Out: Write, Err: Write>(
     alloc: Global,
-    printer: &P,
     table: &[u8],
     base: Option<&str>,
     flags: Flags,
@@ -57,8 +55,8 @@ fn print_unreachable<P: ComparisonPrinter, Out: Write, Err: Write>(
 ) -> u8
     ensures status { (result ≡ DONE) ⊎ (result ≡ NO_MATCH) ⊎ (result ≡ FAILED) }
     ensures answers { result ≢ FAILED
-        → ListsOf (P.PrintsUnreached printer.now flags.json) flags.ignore_case table.now
-        (option_copied base.entry) result (Out.contents out.old) (Out.contents out.new) }
+        → ListsOf flags table.now (option_copied base.entry) result (Out.contents out.old)
+        (Out.contents out.new) }
     ensures quiet { result ≢ FAILED → (err.new ≡ err.old)
         ⊎ HasDoubts flags.ignore_case table.now (option_copied base.entry) }
 {
@@ -74,14 +72,13 @@ fn print_unreachable<P: ComparisonPrinter, Out: Write, Err: Write>(
         let _ = err.write_all(b"out of memory\n");
         return FAILED;
     };
-    print_found(alloc, printer, flags.json, &entries, &found, out, err)
+    print_found(alloc, flags.json, &entries, &found, out, err)
 }
 
 /// Prints which patterns are never the first match, and reports those for which that is not known.
 /// Returns the exit status.
-fn print_found<P: ComparisonPrinter, Out: Write, Err: Write>(
+fn print_found<Out: Write, Err: Write>(
     alloc: Global,
-    printer: &P,
     json: bool,
     entries: &[Entry<'_>],
     found: &[Reach],
@@ -90,26 +87,40 @@ fn print_found<P: ComparisonPrinter, Out: Write, Err: Write>(
 ) -> u8
     ensures status { (result ≡ DONE) ⊎ (result ≡ NO_MATCH) ⊎ (result ≡ FAILED) }
     ensures answers { result ≢ FAILED
-        → PrintsFound (P.PrintsUnreached printer.now json (entries_view entries.now)) found.now
-        result (Out.contents out.old) (Out.contents out.new) }
+        → PrintsFound json (entries_view entries.now) found.now result (Out.contents out.old)
+        (Out.contents out.new) }
     ensures quiet { result ≢ FAILED → (err.new ≡ err.old)
         ⊎ IsTrue (list_any is_unknown found.now) }
 {
-    let Ok(text) = printer.print_unreached(alloc, json, entries, found) else {
+    let Ok(text) = unreached_lines(alloc, json, entries, found) else {
         let _ = err.write_all(b"out of memory\n");
         return FAILED;
     };
-    let Ok(doubts) = printer.print_doubts(alloc, entries, found) else {
+    let Ok(doubts) = doubts_text(alloc, entries, found) else {
         let _ = err.write_all(b"out of memory\n");
         return FAILED;
     };
     let Ok(()) = print(text.as_bytes(), out) else {
         return FAILED;
     };
-    if any_unknown(found) {
+    let unknown = any_unknown(found);
+    if unknown {
         let _ = err.write_all(doubts.as_bytes());
     }
-    status_of(any_never(found))
+    found_status(any_never(found), unknown)
+}
+
+/// The exit status, given whether a pattern is never the first match, and whether that is not known
+/// of one.
+fn found_status(never: bool, unknown: bool) -> u8
+    ensures either { (result ≡ DONE) ⊎ (result ≡ NO_MATCH) ⊎ (result ≡ FAILED) }
+    ensures is { result ≡ found_status never unknown }
+{
+    match (never, unknown) {
+        (true, _) => DONE,
+        (false, true) => FAILED,
+        (false, false) => NO_MATCH,
+    }
 }
 
 /// Whether a pattern is never the first match.
@@ -174,13 +185,8 @@ fn automata_of_each<Err: Write>(
 {
     let mut all = Vec::new(alloc);
     for entry in entries {
-        let parts = match parts_of_text(alloc, entry.pattern, base, ignore_case) {
-            Ok(parts) => parts,
-            Err(error) => {
-                write_refusal(alloc, Some(entry.number), entry.pattern, base, error, err);
-                return None;
-            }
-        };
+        let number = Some(entry.number);
+        let parts = parts_or_report(alloc, number, entry.pattern, base, ignore_case, err)?;
         let Ok(()) = push_automata(alloc, &mut all, parts) else {
             let _ = err.write_all(b"out of memory\n");
             return None;
