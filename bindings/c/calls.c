@@ -140,6 +140,21 @@ static bool are_inserted(void) {
         && is_inserted(urlpattern_router_insert_init(&router, "", 0, "PUT", 3, init, sizeof init - 1, true));
 }
 
+/* Whether a handle without routes reports that none matches or has a name, and a second route of one name is not added. */
+static bool are_none_routed(void) {
+    static const char url[] = "https://example.com/x/b", init[] = "{\"pathname\":\"/:x\"}", groups[] = "ax";
+    static const urlpattern_given given[] = { { URLPATTERN_PATHNAME, 0, 1, 1, 1 } };
+    static urlpattern_span spans[SPANS];
+    const size_t length = sizeof url - 1;
+    urlpattern_sizes sizes;
+    size_t index = 0, needed = 0;
+    return is(urlpattern_router_at_url(&other_router, "GET", 3, url, length, "", 0, &index, text, ROOM, spans, SPANS, &sizes), URLPATTERN_NO_MATCH)
+        && is(urlpattern_router_allowed_at_url(&other_router, "GET", 3, url, length, "", 0, text, ROOM, &needed), URLPATTERN_NO_MATCH)
+        && is(urlpattern_router_link(&other_router, "page", 4, groups, 2, given, 1, text, ROOM, &needed), URLPATTERN_NO_MATCH)
+        && is(urlpattern_router_insert_init(&router, "page", 4, "PUT", 3, init, sizeof init - 1, false), URLPATTERN_NAME_TAKEN)
+        && is(urlpattern_router_insert_init(&router, "", 0, "a b", 3, init, sizeof init - 1, false), URLPATTERN_NOT_A_METHOD);
+}
+
 static bool are_routed(void) {
     static const char url[] = "https://example.com/x/b", path[] = "/x/b", groups[] = "ax0b";
     static const urlpattern_given given[] = { { URLPATTERN_PATHNAME, 0, 1, 1, 1 }, { URLPATTERN_PATHNAME, 2, 1, 3, 1 } };
@@ -194,7 +209,7 @@ static size_t count(void) {
 int main(void) {
     (void)(is(urlpattern_version(), URLPATTERN_VERSION)
            && are_appended() && are_matched() && are_inits_matched() && are_linked() && are_compared() && are_diagnosed() && are_shared()
-           && are_inserted() && are_routed() && are_decided());
+           && are_inserted() && are_none_routed() && are_routed() && are_decided());
     if (count() != appended || count_routes() != inserted) {
         outcome = WRONG;
     }

@@ -15,7 +15,8 @@ enum { PAGE = 4096, TEXTS = 4, BUFFER = TEXTS, SPANS, AREAS, HANDLES = 3, BYTE =
 enum { NO = 1 << URLPATTERN_NO_MATCH, DONE = 1 << URLPATTERN_DONE, NO_URL = 1 << URLPATTERN_NO_URL, NO_PATH = 1 << URLPATTERN_NO_PATH,
        NOT_UTF8 = 1 << URLPATTERN_NOT_UTF8, REFUSED = 1 << URLPATTERN_REFUSED, NONE = 1 << URLPATTERN_NO_PATTERN, SMALL = 1 << URLPATTERN_TOO_SMALL,
        UNKNOWN = 1 << URLPATTERN_UNKNOWN, NOT_ALLOWED = 1 << URLPATTERN_NOT_ALLOWED, ADDED = DONE | NOT_UTF8 | REFUSED | 1 << URLPATTERN_SHARED,
-       ASKED = NO | DONE | NONE, MATCHED = ASKED | NO_URL | NOT_UTF8, OF_PATH = ASKED | NO_PATH | NOT_UTF8 | SMALL, LINKED = DONE | REFUSED | NONE | SMALL,
+       INSERTED = ADDED | 1 << URLPATTERN_NAME_TAKEN | 1 << URLPATTERN_NOT_A_METHOD, ASKED = NO | DONE | NONE, MATCHED = ASKED | NO_URL | NOT_UTF8,
+       OF_PATH = ASKED | NO_PATH | NOT_UTF8 | SMALL, ROUTED = NO | DONE | NOT_UTF8 | SMALL, LINKED = DONE | REFUSED | NONE | SMALL,
        DECIDED = NO | DONE | NO_URL | NOT_UTF8 | 1 << URLPATTERN_DENY_CREDENTIALS };
 
 static const char *const pieces[] = {
@@ -105,10 +106,10 @@ static unsigned call_router(urlpattern_router *it, urlpattern_router *other, siz
     switch (below(8)) {
     case 0: urlpattern_router_free(it); return MAY(DONE, URLPATTERN_DONE);
     case 1: return it == other ? MAY(DONE, URLPATTERN_DONE) : MAY(DONE, urlpattern_router_share(it, other));
-    case 2: return MAY(OF_PATH | NOT_ALLOWED, urlpattern_router_at(it, TEXT(0), TEXT(1), &index, CAPTURES));
-    case 3: return MAY(MATCHED | NOT_ALLOWED | SMALL, urlpattern_router_at_url(it, TEXT(0), TEXT(1), TEXT(2), &index, CAPTURES));
-    case 4: return MAY(OF_PATH, urlpattern_router_allowed(it, TEXT(0), TEXT(1), OUT));
-    case 5: return MAY(MATCHED | SMALL, urlpattern_router_allowed_at_url(it, TEXT(0), TEXT(1), TEXT(2), OUT));
+    case 2: return MAY(ROUTED | NO_PATH | NOT_ALLOWED, urlpattern_router_at(it, TEXT(0), TEXT(1), &index, CAPTURES));
+    case 3: return MAY(ROUTED | NO_URL | NOT_ALLOWED, urlpattern_router_at_url(it, TEXT(0), TEXT(1), TEXT(2), &index, CAPTURES));
+    case 4: return MAY(ROUTED | NO_PATH, urlpattern_router_allowed(it, TEXT(0), TEXT(1), OUT));
+    case 5: return MAY(ROUTED | NO_URL, urlpattern_router_allowed_at_url(it, TEXT(0), TEXT(1), TEXT(2), OUT));
     case 6: return MAY(LINKED | NO | NOT_UTF8, urlpattern_router_link(it, TEXT(0), TEXT(1), given, below(3), OUT));
     default: return MAY(DONE | NONE | SMALL, urlpattern_router_group_name(it, at, (urlpattern_component_number)below(10), group, OUT));
     }
@@ -128,8 +129,8 @@ static unsigned call_that_adds(urlpattern_list *list, urlpattern_router *router,
     switch (below(6)) {
     case 0: return MAY(ADDED, urlpattern_add(list, TEXT(0), TEXT(1), flag));
     case 1: return MAY(ADDED, urlpattern_add_init(list, TEXT(0), flag));
-    case 2: return MAY(ADDED, urlpattern_router_insert(router, TEXT(2), TEXT(3), TEXT(0), TEXT(1), flag));
-    case 3: return MAY(ADDED, urlpattern_router_insert_init(router, TEXT(2), TEXT(3), TEXT(0), flag));
+    case 2: return MAY(INSERTED, urlpattern_router_insert(router, TEXT(2), TEXT(3), TEXT(0), TEXT(1), flag));
+    case 3: return MAY(INSERTED, urlpattern_router_insert_init(router, TEXT(2), TEXT(3), TEXT(0), flag));
     case 4: return MAY(ADDED, urlpattern_policy_add(policy, below(2), TEXT(0), TEXT(1), flag));
     default: return MAY(ADDED, urlpattern_policy_add_init(policy, below(2), TEXT(0), flag));
     }

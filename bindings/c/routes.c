@@ -104,9 +104,11 @@ static void try_links(void) {
     };
     size_t needed = 0;
     expect(insert("user", "PATCH", "/users/:id") == URLPATTERN_DONE, "a name");
-    expect(insert("user", "TRACE", "/users/:id") == URLPATTERN_REFUSED, "a name that is taken");
-    expect(insert("page", "*", "/users/:id") == URLPATTERN_REFUSED, "a name without a method");
-    expect(insert(NULL, "no token", "/users/:id") == URLPATTERN_REFUSED, "a method that is no token");
+    expect(insert("user", "TRACE", "/users/:id") == URLPATTERN_NAME_TAKEN, "a name that is taken");
+    expect(insert("user", "no token", "/users/:id") == URLPATTERN_NAME_TAKEN, "a name that is taken, and a method that is no token");
+    expect(insert("page", "*", "/users/:id") == URLPATTERN_NOT_A_METHOD, "a name without a method");
+    expect(insert(NULL, "no token", "/users/:id") == URLPATTERN_NOT_A_METHOD, "a method that is no token");
+    expect(insert("user", "no token", "/{") == URLPATTERN_REFUSED, "a pattern that is refused, and a name and a method");
     expect(insert(NULL, "\xff", "/users/:id") == URLPATTERN_NOT_UTF8, "a method that is not UTF-8");
     expect(insert(NULL, "GET", "/{") == URLPATTERN_REFUSED, "a pattern that is refused");
     expect(urlpattern_router_link(&router, "user", 4, text, sizeof text - 1, given, 3, buffer, ROOM, &needed) == URLPATTERN_DONE, "a link");
@@ -117,13 +119,27 @@ static void try_links(void) {
     expect(urlpattern_router_link(&router, "user", 4, text, 3, given, 3, buffer, ROOM, &needed) == URLPATTERN_NO_PATTERN, "no such text");
 }
 
+/* What a handle without routes reports. */
+static void try_none(void) {
+    static const char url[] = "https://example.com/x";
+    const size_t length = sizeof url - 1, from = length - 2;
+    size_t index = 99, needed = 0;
+    expect(urlpattern_router_at(&other, "GET", 3, url + from, 2, &index, NULL, 0, NULL, 0, &sizes) == URLPATTERN_NO_MATCH, "no routes");
+    expect(urlpattern_router_at(&other, "GET", 3, "x", 1, &index, NULL, 0, NULL, 0, &sizes) == URLPATTERN_NO_PATH, "no path");
+    expect(urlpattern_router_at_url(&other, "GET", 3, url, length, NULL, 0, &index, NULL, 0, NULL, 0, &sizes) == URLPATTERN_NO_MATCH, "no routes");
+    expect(urlpattern_router_at_url(&other, "GET", 3, "x", 1, NULL, 0, &index, NULL, 0, NULL, 0, &sizes) == URLPATTERN_NO_URL, "no URL");
+    expect(urlpattern_router_allowed(&other, "GET", 3, url + from, 2, NULL, 0, &needed) == URLPATTERN_NO_MATCH, "no routes");
+    expect(urlpattern_router_allowed_at_url(&other, "\xff", 1, url, length, NULL, 0, NULL, 0, &needed) == URLPATTERN_NOT_UTF8, "no method");
+    expect(urlpattern_router_link(&other, "user", 4, NULL, 0, NULL, 0, NULL, 0, &needed) == URLPATTERN_NO_MATCH, "no routes to link");
+    expect(index == 99, "an index that is not written");
+}
+
 static void try_handles(void) {
     static const char path[] = "/users/me";
     const size_t length = sizeof path - 1;
     size_t index = 99, needed = 0;
     urlpattern_list list = URLPATTERN_EMPTY;
-    expect(urlpattern_router_at(&other, "GET", 3, path, length, &index, NULL, 0, NULL, 0, &sizes) == URLPATTERN_NO_PATTERN, "no routes");
-    expect(urlpattern_router_allowed(&other, "GET", 3, path, length, NULL, 0, &needed) == URLPATTERN_NO_PATTERN, "no routes");
+    try_none();
     expect(urlpattern_router_share(&router, &other) == URLPATTERN_DONE, "shared");
     expect(urlpattern_router_at(&other, "GET", 3, path, length, &index, NULL, 0, NULL, 0, &sizes) == URLPATTERN_TOO_SMALL, "too small");
     expect(index == 0 && sizes.spans == 8, "what is needed");

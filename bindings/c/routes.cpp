@@ -41,6 +41,9 @@ int main() {
         }
     }
     expect(routes.insert("GET", "https://example.com/:page", {}, "page") == urlpattern::status::done, "insert");
+    expect(routes.insert("PUT", "https://example.com/:page", {}, "page") == urlpattern::status::name_taken, "name taken");
+    expect(routes.insert("no token", "https://example.com/:page") == urlpattern::status::not_a_method, "not a method");
+    expect(urlpattern::router().at("GET", "/x").code() == urlpattern::status::no_match, "no routes");
     auto link = routes.link("page", {{urlpattern::component::pathname, "page", "a/b"}});
     expect(link && *link == "https://example.com/a%2Fb", "link");
     auto shared = routes.share();

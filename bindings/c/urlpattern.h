@@ -86,7 +86,10 @@ typedef enum urlpattern_status {
     URLPATTERN_TOO_SMALL = 9,     /* too little room; `needed` has the size that is needed */
     URLPATTERN_UNKNOWN = 10,      /* a comparison of two patterns is not decided */
     URLPATTERN_SHARED = 11,       /* another handle has the same patterns, so that none is added */
-    URLPATTERN_NOT_ALLOWED = 12   /* of a router: a route matches, but none serves the method */
+    URLPATTERN_NOT_ALLOWED = 12,  /* of a router: a route matches, but none serves the method */
+    URLPATTERN_NAME_TAKEN = 14,   /* of a router: another route has the name, so none is added */
+    URLPATTERN_NOT_A_METHOD = 15  /* of a router: a method is no token of HTTP, or there is a name
+                                   * without a method, so no route is added */
 } urlpattern_status;
 
 /* The number of a component. */

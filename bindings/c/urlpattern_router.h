@@ -21,10 +21,10 @@ typedef struct urlpattern_router {
  * The route serves requests with this method, such as `GET`, in which case counts; no bytes: it
  * serves every method, and has no name. `urlpattern_router_link` finds a route by its name; no
  * bytes: it has none.
- * DONE, NOT_UTF8, REFUSED (`urlpattern_diagnose` says why the pattern is; or another route has the
- * name, the method is no token of HTTP, or there is a name without a method), OUT_OF_MEMORY, or
- * SHARED (another handle has the routes, and there is one at least); but for DONE, the routes are
- * as they were. */
+ * DONE, NOT_UTF8, REFUSED (the pattern is, and `urlpattern_diagnose` says why), NAME_TAKEN,
+ * NOT_A_METHOD, OUT_OF_MEMORY, or SHARED (another handle has the routes, and there is one at
+ * least); but for DONE, the routes are as they were. A pattern that is refused is reported first,
+ * and NAME_TAKEN before NOT_A_METHOD. */
 urlpattern_status urlpattern_router_insert(urlpattern_router *router, const char *name,
                                            size_t name_length, const char *method,
                                            size_t method_length, const char *text, size_t length,
@@ -32,7 +32,8 @@ urlpattern_status urlpattern_router_insert(urlpattern_router *router, const char
 
 /* Compiles an init, as `urlpattern_add_init` does, and appends a route with the pattern, as
  * `urlpattern_router_insert` does. `{"pathname":"/users/:id"}` is a pattern for paths.
- * DONE, NOT_UTF8, REFUSED, OUT_OF_MEMORY, or SHARED; but for DONE, the routes are as they were. */
+ * DONE, NOT_UTF8, REFUSED, NAME_TAKEN, NOT_A_METHOD, OUT_OF_MEMORY, or SHARED; but for DONE, the
+ * routes are as they were. */
 urlpattern_status urlpattern_router_insert_init(urlpattern_router *router, const char *name,
                                                 size_t name_length, const char *method,
                                                 size_t method_length, const char *json,
@@ -53,10 +54,10 @@ urlpattern_status urlpattern_router_share(urlpattern_router *router, urlpattern_
  * is served as `GET` is. Of routes for `GET`, `HEAD` and every method, in this order, which all
  * match, the second serves `HEAD`; in the order `GET`, every method, `HEAD`, the first does.
  * Writes the index of the route, and its groups as `urlpattern_captures` does.
- * DONE, NO_MATCH (no route matches, as for the status 404), NOT_ALLOWED (a route matches, but none
- * serves the method, as for 405), NO_PATH, NOT_UTF8, OUT_OF_MEMORY, NO_PATTERN (there are no
- * routes), or TOO_SMALL. For DONE and TOO_SMALL `index` is written; for OUT_OF_MEMORY it may be, to
- * whichever number; for the others it is as it was. */
+ * DONE, NO_MATCH (no route matches, as for the status 404, or there is none), NOT_ALLOWED (a route
+ * matches, but none serves the method, as for 405), NO_PATH, NOT_UTF8, OUT_OF_MEMORY, or TOO_SMALL.
+ * For DONE and TOO_SMALL `index` is written; for OUT_OF_MEMORY it may be, to whichever number; for
+ * the others it is as it was. */
 urlpattern_status urlpattern_router_at(urlpattern_router *router, const char *method,
                                        size_t method_length, const char *path, size_t length,
                                        size_t *index, char *buffer, size_t room,
@@ -65,8 +66,7 @@ urlpattern_status urlpattern_router_at(urlpattern_router *router, const char *me
 
 /* Finds the route that serves a request with this method for a URL, which may be relative to a base
  * URL; no bytes: there is none. What it writes is as of `urlpattern_router_at`.
- * DONE, NO_MATCH, NOT_ALLOWED, NO_URL, TOO_LONG, NOT_UTF8, OUT_OF_MEMORY, NO_PATTERN (there are no
- * routes), or TOO_SMALL. */
+ * DONE, NO_MATCH, NOT_ALLOWED, NO_URL, TOO_LONG, NOT_UTF8, OUT_OF_MEMORY, or TOO_SMALL. */
 urlpattern_status urlpattern_router_at_url(urlpattern_router *router, const char *method,
                                            size_t method_length, const char *url, size_t length,
                                            const char *base, size_t base_length, size_t *index,
@@ -77,14 +77,13 @@ urlpattern_status urlpattern_router_at_url(urlpattern_router *router, const char
  * routes, as in `GET, POST`: what the header `Allow` says where `urlpattern_router_at` reports
  * NOT_ALLOWED.
  * DONE (it does so), NO_MATCH (a route serves the method, or no route matches), NO_PATH, NOT_UTF8,
- * OUT_OF_MEMORY, NO_PATTERN (there are no routes), or TOO_SMALL. */
+ * OUT_OF_MEMORY, or TOO_SMALL. */
 urlpattern_status urlpattern_router_allowed(urlpattern_router *router, const char *method,
                                             size_t method_length, const char *path, size_t length,
                                             char *buffer, size_t room, size_t *needed);
 
 /* Writes the methods of the routes that match a URL, as `urlpattern_router_allowed` does.
- * DONE, NO_MATCH, NO_URL, TOO_LONG, NOT_UTF8, OUT_OF_MEMORY, NO_PATTERN (there are no routes), or
- * TOO_SMALL. */
+ * DONE, NO_MATCH, NO_URL, TOO_LONG, NOT_UTF8, OUT_OF_MEMORY, or TOO_SMALL. */
 urlpattern_status urlpattern_router_allowed_at_url(urlpattern_router *router, const char *method,
                                                    size_t method_length, const char *url,
                                                    size_t length, const char *base,
@@ -96,7 +95,7 @@ urlpattern_status urlpattern_router_allowed_at_url(urlpattern_router *router, co
  * exactly what was given.
  * DONE (the URL is written), NO_MATCH (no route has the name), REFUSED (the route has no link with
  * these groups, and the reason is written), NOT_UTF8 (the name is not), OUT_OF_MEMORY, NO_PATTERN
- * (there are no routes, or as of `urlpattern_link` what is given is no text), or TOO_SMALL. */
+ * (as of `urlpattern_link`: what is given is no text), or TOO_SMALL. */
 urlpattern_status urlpattern_router_link(urlpattern_router *router, const char *name,
                                          size_t name_length, const char *text, size_t length,
                                          const urlpattern_given *given, size_t count, char *buffer,

@@ -32,7 +32,8 @@ class router {
     ~router() { urlpattern_router_free(&handle_); }
 
     /* Appends a route for a method, or for every method if that is empty, with a name unless that
-     * is empty. */
+     * is empty. With the status `name_taken` another route has the name; with `not_a_method` the
+     * method is no token, or empty where there is a name. */
     status insert(std::string_view method, std::string_view pattern, std::string_view base = {},
                   std::string_view name = {}, bool ignore_case = false) {
         return details::to_status(urlpattern_router_insert(
@@ -59,8 +60,8 @@ class router {
     }
 
     /* The route that serves a request for a path: its index, and its match. With the status
-     * `no_match` no route matches, as for 404, and with `no_pattern` there are no routes; with
-     * `not_allowed` none serves the method, as for 405. */
+     * `no_match` no route matches, as for 404; with `not_allowed` some do, but none serves the
+     * method, as for 405. */
     result<match> at(std::string_view method, std::string_view path) {
         return details::matched(0, [&](match &found, urlpattern_sizes *sizes) {
             return urlpattern_router_at(&handle_, method.data(), method.size(), path.data(),

@@ -29,7 +29,9 @@ enum class [[nodiscard]] status : std::uint32_t {
     too_small = URLPATTERN_TOO_SMALL,
     unknown = URLPATTERN_UNKNOWN,
     shared = URLPATTERN_SHARED,
-    not_allowed = URLPATTERN_NOT_ALLOWED
+    not_allowed = URLPATTERN_NOT_ALLOWED,
+    name_taken = URLPATTERN_NAME_TAKEN,
+    not_a_method = URLPATTERN_NOT_A_METHOD
 };
 
 enum class component : std::uint32_t {

@@ -91,8 +91,15 @@ class Insertions(unittest.TestCase):
         ):
             with self.subTest(arguments):
                 self.assertRaises(error, routes.insert, *arguments)
-        for method, name in (("GET", "user"), (None, "page")):
-            with self.assertRaises(ValueError):
+        for method, name, words in (
+            ("GET", "user", "another route has the name 'user'"),
+            ("no token", "user", "another route has the name 'user'"),
+            (None, "page", "the method None"),
+            ("é", "page", "the method 'é'"),
+            ("GET", "", "a name is not empty"),
+            ("", "page", "a method is not empty"),
+        ):
+            with self.assertRaisesRegex(ValueError, words):
                 routes.insert(method, {"pathname": "/x"}, 0, name=name)
         self.assertEqual(len(routes), 2)
         routes.insert(None, {"pathname": "/x"}, "last")
@@ -115,6 +122,7 @@ class Links(unittest.TestCase):
         self.assertRaises(ValueError, routes.link, "user", [])
         self.assertRaises(KeyError, routes.link, "page", [])
         self.assertRaises(KeyError, URLPatternRouter().link, "user")
+        self.assertRaises(KeyError, URLPatternRouter().link, "user", [("pathname", "id", "7")])
 
 
 class Copies(unittest.TestCase):

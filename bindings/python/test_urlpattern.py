@@ -147,6 +147,18 @@ class Answers(unittest.TestCase):
             self.assertEqual(named, [f"name{number}" for number in range(many)])
         self.assertLessEqual(max(len(it.text) for it in _library.FREE), _library.KEPT)
 
+    def test_one_group_is_that_of_all(self):
+        pattern = URLPattern("https://:team.example.com/:lang/:page?/*")
+        for url in ("https://a.example.com/en/b/c", "https://a.example.com/en/"):
+            each, match = pattern.match(url), pattern.match(url)
+            texts = {name: text for _, name, text in match.groups if name != "0"}
+            self.assertEqual({name: each[name] for name in texts}, texts)
+            self.assertEqual({name: match[name] for name in texts}, texts)
+            for name in ("0", "1", "", "Team", None, 0):
+                for found in (each, match):
+                    self.assertRaises(IndexError, found.group, name)
+            self.assertEqual(each, match)
+
     def test_a_base_does_not_tie_a_url_to_its_host(self):
         pattern = URLPattern("https://example.com/*")
         self.assertTrue(pattern.test("/x", "https://example.com"))

@@ -6,10 +6,10 @@ import json
 from typing import Any, Dict, Iterable, List, Mapping, Optional, Tuple, TypeVar, cast
 
 from ._library import (
-    COMPONENTS, DONE, FREE, LOCK, NO_PATTERN, NO_URL, REASONS, REFUSED, SIZE, SPAN, SPAN_SIZE,
-    TOO_SMALL, UNKNOWN, Call, Handle, Memory, calls, checked, matched, memory, written,
+    COMPONENTS, DONE, LOCK, NO_PATTERN, NO_URL, REASONS, REFUSED, SIZE, SPAN, SPAN_SIZE,
+    TOO_SMALL, UNKNOWN, Call, Handle, Memory, calls, checked, matched, memory, put, written,
 )
-from ._match import Match
+from ._match import Match, Names
 from ._texts import (
     Groups, Input, Source, group_texts, init_text, number_of, refusal, url_texts,
 )
@@ -66,7 +66,7 @@ class Handled:
     def __init__(self, handle: Any) -> None:
         self._handle = handle
         self._address = ctypes.byref(handle)
-        self._names: Dict[int, List[Tuple[str, str]]] = {}
+        self._names: Dict[int, Names] = {}
 
     def _found(self, match: Found, index: int, room: Memory) -> Found:
         """The match, which is that of this index, as a call wrote it. Leaves the memory to later
@@ -74,15 +74,15 @@ class Handled:
         sizes = room.sizes
         text, spans = room.text[: sizes.bytes], room.spans[: sizes.spans * SPAN_SIZE]
         if room.is_kept:
-            FREE.append(room)
+            put(room)
         match.index = index
         match._found = self._names.get(index) or self._names_of(index, spans), text, spans
         return match
 
-    def _names_of(self, index: int, spans: bytes) -> List[Tuple[str, str]]:
+    def _names_of(self, index: int, spans: bytes) -> Names:
         """The components and the names of the groups of a match."""
         groups = ((component, group) for component, _, group, _, _ in SPAN.iter_unpack(spans))
-        names = self._names[index] = [self._name(index, *group) for group in groups]
+        names = self._names[index] = Names([self._name(index, *group) for group in groups])
         return names
 
     def _name(self, index: int, component: int, group: int) -> Tuple[str, str]:

@@ -2,21 +2,35 @@
 from __future__ import annotations
 
 import struct
-from typing import Any, Dict, List, Tuple, Union, cast
+from typing import Any, Dict, List, Optional, Tuple, Union, cast
 
 from ._texts import Groups
 
-# What the library writes of a match: the component and the name of each group, the text, and the spans.
-Written = Tuple[List[Tuple[str, str]], bytes, bytes]
+
+class Names:
+    """The groups that each match of a pattern has, in their order: of each the component and the
+    name. `places` has the index of each name, or None for one that components have each."""
+
+    __slots__ = ("groups", "places")
+
+    def __init__(self, groups: List[Tuple[str, str]]) -> None:
+        self.groups = groups
+        self.places: Dict[str, Optional[int]] = {}
+        for at, (_, name) in enumerate(groups):
+            self.places[name] = None if name in self.places else at
+
+
+# What the library writes of a match: the groups that it has, the text, and the spans.
+Written = Tuple[Names, bytes, bytes]
 
 # Of a span, as the header declares it, whether the group took part, and where its text begins and
 # how long it is.
 _SPAN = struct.Struct("@4xI8xNN")
 
 
-def groups_of(names: List[Tuple[str, str]], text: bytes, spans: bytes) -> Groups:
+def groups_of(names: Names, text: bytes, spans: bytes) -> Groups:
     """The groups of a match."""
-    read, each = text.decode(), zip(names, _SPAN.iter_unpack(spans))
+    read, each = text.decode(), zip(names.groups, _SPAN.iter_unpack(spans))
     if len(read) == len(text):
         return [
             (component, name, read[start : start + length] if took_part else None)
@@ -104,6 +118,14 @@ class Match:
         >>> match.group("lang"), match.group("page")
         ('en', None)
         """
+        written = self._found
+        if isinstance(written, tuple):
+            # (to read one group takes less time than to read all)
+            names, read, spans = written
+            at = names.places.get(name)
+            if at is not None:
+                took_part, start, length = _SPAN.unpack_from(spans, at * _SPAN.size)
+                return read[start : start + length].decode() if took_part else None
         found = [(component, text) for component, each, text in self.groups if each == name]
         if len(found) == 1:
             return found[0][1]

@@ -4,7 +4,9 @@ from __future__ import annotations
 from typing import Any, Dict, Iterable, Optional, Tuple, Union, cast
 
 from ._handled import Patterns, _new, counterexample, covering_reason, covers, overlaps
-from ._library import COMPONENTS, DONE, NO_TEXT, NONE, SIZE, TOO_LONG, calls, checked, memory
+from ._library import (
+    COMPONENTS, DONE, NO_TEXT, NONE, SIZE, TOO_LONG, Memory, calls, checked, take,
+)
 from ._match import Match
 from ._texts import Groups, Init, Input, Source, source_of
 
@@ -156,10 +158,16 @@ class URLPattern:
         """
         if base is not None or path is not None or not isinstance(url, str):
             return self._list._match(self._index, url, base, path)
-        # (as there, with fewer calls)
-        text, room = str.encode(url), memory()
+        # (as there, with fewer calls, and without a list of the arguments)
+        text = str.encode(url)
+        try:
+            room = take()
+        except IndexError:
+            room = Memory()
+        buffer, size, spans, count, sizes = room.for_match
         status: int = _captures(
-            self._address, self._at, text, SIZE[len(text)], NO_TEXT, NONE, *room.for_match
+            self._address, self._at, text, SIZE[len(text)], NO_TEXT, NONE,
+            buffer, size, spans, count, sizes,
         )
         if status == DONE:
             return self._list._found(_new(Match), self._index, room)

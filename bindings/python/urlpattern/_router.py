@@ -1,13 +1,12 @@
 """Routers of requests."""
 from __future__ import annotations
 
-import re
 from dataclasses import dataclass
 from typing import Any, Generic, Iterable, List, Optional, Tuple, TypeVar, Union
 
 from ._handled import Handled
 from ._library import (
-    DONE, LOCK, NO_MATCH, NO_PATH, NO_PATTERN, NO_URL, NOT_ALLOWED, REFUSED, SIZE,
+    DONE, LOCK, NAME_TAKEN, NO_MATCH, NO_PATH, NO_URL, NOT_A_METHOD, NOT_ALLOWED, REFUSED, SIZE,
     Call, RouterHandle, calls, checked, matched, written,
 )
 from ._match import Match, Written
@@ -15,9 +14,6 @@ from ._pattern import URLPattern, source_of_pattern
 from ._texts import Groups, Init, Source, encoded, refusal, url_texts
 
 Value = TypeVar("Value")
-
-# What a method is: a token of HTTP.
-_TOKEN = re.compile(r"[!#$%&'*+.^_`|~0-9A-Za-z-]+")
 
 
 class RouteMatch(Match, Generic[Value]):
@@ -51,6 +47,14 @@ def _sized(text: Any, name: str) -> Tuple[Any, ...]:
     """A text with the number of its bytes, as arguments."""
     data = encoded(text, name)
     return data, SIZE[len(data)]
+
+
+def _word(text: Any, name: str) -> bytes:
+    """The UTF-8 of a text that is not empty: of no bytes, the library makes none of them."""
+    data = encoded(text, name)
+    if not data:
+        raise ValueError(f"{name} is not empty")
+    return data
 
 
 class URLPatternRouter(Handled, Generic[Value]):
@@ -120,33 +124,24 @@ class URLPatternRouter(Handled, Generic[Value]):
         self, name: Optional[str], method: Optional[str], source: Source, value: Value
     ) -> None:
         """Compiles a source, and appends a route."""
-        if name is not None or method is not None:
-            self._check(name, method)
-        words = [encoded(it or "", "a name or a method") for it in (name, method)]
+        word = b"" if name is None else _word(name, "a name")
+        served = b"" if method is None else _word(method, "a method")
         insert = calls.router_insert_init if isinstance(source.pattern, dict) else calls.router_insert
-        sized = (it for word in words for it in (word, len(word)))
-        texts = source.texts()
+        words, texts = (word, len(word), served, len(served)), source.texts()
         with LOCK:
             self._values.append(value)
-            status = insert(self._address, *sized, *texts, source.ignore_case)
+            status = insert(self._address, *words, *texts, source.ignore_case)
             if status == DONE:
                 self._routes.append((name, method, source))
             else:
                 self._values.pop()
-            is_taken = any(name and name == route[0] for route in self._routes)
         if status == REFUSED:
-            raise ValueError(f"another route has the name {name!r}") if is_taken else refusal(source)
+            raise refusal(source)
+        if status == NAME_TAKEN:
+            raise ValueError(f"another route has the name {name!r}")
+        if status == NOT_A_METHOD:
+            raise ValueError(f"the method {method!r} of a route is no token, such as 'GET'")
         checked(status)
-
-    def _check(self, name: Optional[str], method: Optional[str]) -> None:
-        """ValueError: the name is empty, or has no method, or the method is no token."""
-        if name is not None and not encoded(name, "a name"):
-            raise ValueError("a name is not empty")
-        if method is None:
-            raise ValueError("a route with a name has a method, and not None")
-        encoded(method, "a method")
-        if not _TOKEN.fullmatch(method):
-            raise ValueError(f"the method {method!r} is no token, such as 'GET'")
 
     def at(self, method: str, path: str) -> Union[RouteMatch[Value], MethodNotAllowed, None]:
         """The match of the route that serves a request for a path, before its `?`: the first with
@@ -209,7 +204,7 @@ class URLPatternRouter(Handled, Generic[Value]):
             return MethodNotAllowed(methods.split(", "))
         if status == NO_PATH:
             raise ValueError("not a path: it begins with `/`, and has no `?`, `#` or line feed")
-        if status not in (NO_URL, NO_PATTERN):
+        if status != NO_URL:
             checked(status)
         return None
 
@@ -223,8 +218,6 @@ class URLPatternRouter(Handled, Generic[Value]):
         >>> routes.link("user", [("pathname", "id", "a/b c")])
         'https://example.com/users/a%2Fb%20c'
         """
-        if not self._routes:
-            raise KeyError(name)
         status, made = self._made(calls.router_link, _sized(name, "a name"), groups)
         if status != DONE:
             raise KeyError(name)

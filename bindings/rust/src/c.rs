@@ -12,6 +12,8 @@ pub const TOO_SMALL: u32 = 9;
 pub const UNKNOWN: u32 = 10;
 pub const SHARED: u32 = 11;
 pub const NOT_ALLOWED: u32 = 12;
+pub const NAME_TAKEN: u32 = 14;
+pub const NOT_A_METHOD: u32 = 15;
 
 /// What a policy decides, apart from `NO_URL`, `TOO_LONG` and that memory ran out.
 pub const DENY: u32 = 0;

@@ -116,8 +116,7 @@ pub(crate) fn written(call: impl Fn(*mut u8, usize, *mut usize) -> u32) -> (u32,
     (status, String::from_utf8(buffer).expect("texts are UTF-8"))
 }
 
-/// The outcome of appending a pattern, given a call that says why one is refused. A pattern that is
-/// not refused by itself has a name that another one has.
+/// The outcome of appending a pattern, given a call that says why one is refused.
 pub(crate) fn pushed(
     status: u32,
     diagnose: impl Fn(*mut u8, usize, *mut usize, *mut c::Place) -> u32,
@@ -151,7 +150,6 @@ pub(crate) fn pushed(
             start,
             end,
         }),
-        c::NO_MATCH => Err(Error::NameTaken),
         c::NO_URL => Err(Error::RefusedBase),
         _ => Err(Error::OutOfMemory),
     }

@@ -85,6 +85,8 @@ pub(crate) fn answer(status: u32) -> Result<bool, Error> {
         c::NO_PATTERN => Err(Error::NoPattern),
         c::SHARED => Err(Error::Shared),
         c::NOT_ALLOWED => Err(Error::NotAllowed),
+        c::NAME_TAKEN => Err(Error::NameTaken),
+        c::NOT_A_METHOD => Err(Error::NotAMethod),
         c::REFUSED => Err(Error::RefusedBase),
         _ => Err(Error::OutOfMemory),
     }

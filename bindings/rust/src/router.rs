@@ -169,11 +169,10 @@ impl<T> UrlPatternRouter<T> {
         options: UrlPatternOptions,
         value: T,
     ) -> Result<(), Error> {
-        let is_any = name.unwrap_or("").is_empty() && method.is_none();
-        let (name, method) = (name.unwrap_or(""), method.unwrap_or(""));
-        if !is_any && !is_token(method) {
+        if method == Some("") {
             return Err(Error::NotAMethod);
         }
+        let (name, method) = (name.unwrap_or(""), method.unwrap_or(""));
         let (name, name_length) = (name.as_ptr(), name.len());
         let (method, method_length) = (method.as_ptr(), method.len());
         let (at, case) = (self.handle(), options.ignore_case);
@@ -334,7 +333,7 @@ impl<T> UrlPatternRouter<T> {
     ) -> Result<Routed<'_, T>, Error> {
         match found {
             Ok(Some(found)) => Ok(Routed::Found(&self.values[found.index], found)),
-            Ok(None) | Err(Error::NoPattern) => Ok(Routed::NotFound),
+            Ok(None) => Ok(Routed::NotFound),
             Err(Error::NotAllowed) => {
                 let (status, methods) = written(allowed);
                 answer(status)?;
@@ -352,9 +351,6 @@ impl<T> UrlPatternRouter<T> {
         name: &str,
         groups: &[(ComponentName, &str, &str)],
     ) -> Result<Option<String>, Error> {
-        if self.values.is_empty() {
-            return Ok(None);
-        }
         let (text, given) = given(groups);
         let (status, url) = written(|buffer, room, needed| unsafe {
             c::urlpattern_router_link(
@@ -387,10 +383,4 @@ impl<T: Clone> UrlPatternRouter<T> {
         other.values = self.values.clone();
         Ok(other)
     }
-}
-
-/// Whether a text is a token of HTTP.
-fn is_token(text: &str) -> bool {
-    let is_part = |byte: u8| byte.is_ascii_alphanumeric() || b"!#$%&'*+-.^_`|~".contains(&byte);
-    !text.is_empty() && text.bytes().all(is_part)
 }

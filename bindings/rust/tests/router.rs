@@ -98,6 +98,8 @@ fn a_refused_route_is_not_inserted() {
 fn a_link_has_encoded_values() {
     let mut routes = UrlPatternRouter::new();
     assert_eq!(routes.link("user", &[]), Ok(None));
+    assert_eq!(routes.at("GET", "/users/7"), Ok(Routed::NotFound));
+    assert_eq!(routes.at("GET", "users"), Err(Error::NoPath));
     routes
         .insert_named("user", "GET", "https://example.com/users/:id", ())
         .unwrap();

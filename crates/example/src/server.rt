@@ -9,9 +9,7 @@ ghost use Rattle.urlpattern.specs.Errors.{OnlyOutOfMemory};
 ghost use Rattle.urlpattern.specs.PatternRegexps.{pattern_result};
 ghost use Rattle.urlpattern.specs.Routes.{IsRouteLink};
 
-use crate::generating::written;
-use crate::text;
-use std::alloc::AllocError;
+use crate::{link_words, text};
 use url::Url;
 // docs: server
 use std::alloc::Global;
@@ -57,7 +55,7 @@ fn pages(alloc: Global, rows: &[(&'static str, &'static str, &'static str)]) -> 
 // docs: end
 
 /// Compiles the pattern of a path, which leaves all other components open.
-fn pattern_of_path(alloc: Global, path: &str) -> Result<UrlPattern<PatternRegexp>, Error>
+pub fn pattern_of_path(alloc: Global, path: &str) -> Result<UrlPattern<PatternRegexp>, Error>
     ensures { IfOk result (IsPatternOfPath (chars path.now)) }
 {
     let text = String::from_str(alloc, path)?;
@@ -155,17 +153,17 @@ pub fn response_line(alloc: Global, method: &str, path: &str) -> Result<String, 
     let pages = pages(alloc, &ROUTES)?;
     let response = respond(alloc, &pages, method, path);
     drop(pages);
-    Ok(in_words(alloc, response?)?)
+    in_words(alloc, response?)
 }
 
 /// A response, in words.
-fn in_words(alloc: Global, response: Response<'_>) -> Result<String, AllocError> {
+fn in_words(alloc: Global, response: Response<'_>) -> Result<String, Error> {
     match response {
-        Response::Page(page, Some(id)) => format!(in alloc; "200 {page} {id}"),
-        Response::Page(page, None) => format!(in alloc; "200 {page}"),
-        Response::NotAllowed(allow) => format!(in alloc; "405 Allow: {allow}"),
-        Response::NotFound => String::from_str(alloc, "404"),
-        Response::BadRequest => String::from_str(alloc, "400"),
+        Response::Page(page, Some(id)) => Ok(format!(in alloc; "{page} of {id}")?),
+        Response::Page(page, None) => text(alloc, page),
+        Response::NotAllowed(allow) => Ok(allow),
+        Response::NotFound => text(alloc, "not found"),
+        Response::BadRequest => text(alloc, "bad request"),
     }
 }
 
@@ -175,8 +173,8 @@ pub fn link_line(alloc: Global, id: &str) -> Result<String, Error> {
     let url = user_url(alloc, &pages, id);
     drop(pages);
     match url {
-        Ok(Some(url)) => written(alloc, Ok(url)),
-        Ok(None) => text(alloc, "no route has this name"),
-        Err(error) => written(alloc, Err(error)),
+        Ok(Some(url)) => link_words(alloc, Ok(url)),
+        Ok(None) => text(alloc, "no route"),
+        Err(error) => link_words(alloc, Err(error)),
     }
 }

@@ -1,17 +1,17 @@
 -- The output of the program for a command. Texts are bytes. `input` is what the reader has left,
 -- and `old` and `new` are the output before and after, as far as they are known.
-use Rattle.std.specs.Prelude.{◌≡◌, ◌⊎◌, ℕ, Bool, List, Option}
+use Rattle.std.specs.Prelude.{◌≡◌, ◌⊎◌, ⊤, ℕ, Bool, List, Option, option_copied}
 use Rattle.urlpat_matching.specs.declared.command.Command.{Command}
 use Rattle.urlpat_matching.specs.declared.command.Command.TheVariants as commands
 use Rattle.urlpat_matching.specs.declared.command.Flags.{Flags}
-use Rattle.urlpat_commands.specs.CommandAnswers.{PrintsFirst, PrintsMatch}
-use Rattle.urlpat_commands.specs.ComponentAnswers.{PrintsComponent}
+use Rattle.urlpat_commands.specs.CommandAnswers.{HasNote, IsFirstAnswered, IsMatchAnswered, PrintsFirst, PrintsMatch}
+use Rattle.urlpat_commands.specs.ComponentAnswers.{IsComponentAnswered, PrintsComponent}
 use Rattle.urlpat_commands.specs.FilterLines.{FiltersLines}
-use Rattle.urlpat_explain.specs.Explanations.{Explains}
+use Rattle.urlpat_explain.specs.Explanations.{Explains, HasNoUrl}
 use Rattle.urlpat_explain.specs.LinkAnswers.{HasNoLink, WritesLink}
 use Rattle.urlpat_commands.specs.Coverings.{PrintsWhether}
 use Rattle.urlpat_commands.specs.TableRoutes.{RoutesLines}
-use Rattle.urlpat_commands.specs.Unreached.{Lists}
+use Rattle.urlpat_commands.specs.Unreached.{LeaveDoubts, Lists}
 use Rattle.urlpat_explain.specs.declared.explained.Explained.{Explained}
 use Rattle.urlpat_explain.specs.declared.outcome.Outcome.{Outcome}
 use Rattle.urlpat_matching.specs.Tables.{EntryView}
@@ -48,3 +48,28 @@ RunsCommand given flags (commands.Covers asked) status input old new =
     PrintsWhether (given.PrintsCovering flags.json) flags.ignore_case asked status old new
 RunsCommand given flags (commands.Unreachable asked) status input old new =
     Lists given.Has (given.PrintsUnreached flags.json) flags.ignore_case asked status old new
+
+-- A command that does not fail may report something: that its input is no URL, that there is no
+-- link, or for which patterns it is not known whether they are ever the first match. `filter` and
+-- `route` report lines that they skip.
+abbrev pub MayReport : (Has : (name table : List ℕ) → Type 0) → Flags → Command → Type 0
+MayReport Has flags (commands.Component asked) = ⊥
+MayReport Has flags (commands.Match asked) =
+    HasNote flags asked.input.now (option_copied asked.base)
+MayReport Has flags (commands.First asked) =
+    HasNote flags asked.input.now (option_copied asked.base)
+MayReport Has flags (commands.Filter asked) = ⊤
+MayReport Has flags (commands.Route asked) = ⊤
+MayReport Has flags (commands.Explain asked) =
+    HasNoUrl (option_copied asked.base) (option_copied asked.input)
+MayReport Has flags (commands.Link asked) = HasNoLink flags.ignore_case asked
+MayReport Has flags (commands.Covers asked) = ⊥
+MayReport Has flags (commands.Unreachable asked) = LeaveDoubts Has flags.ignore_case asked
+
+-- A command that fails may have printed a part of its output: `component`, `match` and `first` if
+-- they have an answer.
+abbrev pub MayPrintInPart : Flags → Command → Type 0
+MayPrintInPart flags (commands.Component asked) = IsComponentAnswered asked
+MayPrintInPart flags (commands.Match asked) = IsMatchAnswered flags asked
+MayPrintInPart flags (commands.First asked) = IsFirstAnswered flags asked
+MayPrintInPart flags command = ⊤

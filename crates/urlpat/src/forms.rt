@@ -151,7 +151,7 @@ Example: urlpat covers 'https://example.com/*' https://example.com/users/:id",
         more: "\
 For each such pattern the number of its line is printed, and those of the
 patterns that cover it together, with tabs between. If there is none, the status
-is 1. TABLE and BASE are as those of `route`.
+is 1, or 2 if it is not known. TABLE and BASE are as those of `route`.
 
 Example: urlpat unreachable routes.txt https://example.com/",
         options: &["base", "ignore-case", "json"],

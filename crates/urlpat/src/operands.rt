@@ -66,8 +66,20 @@ fn with_some_base<'m, 'w>(
 /// Whether a word has the form of a base URL: it is `-`, or begins with a protocol.
 fn is_base(word: &str) -> bool {
     match word.split_once(':') {
-        Some((protocol, _)) => protocol.bytes().all(|byte| byte.is_ascii_alphanumeric()),
+        Some((protocol, _)) => is_protocol(protocol),
         None => word == NO_BASE,
+    }
+}
+
+/// Whether a text has the form of a protocol: a letter, and after it letters, digits and `+-.`.
+fn is_protocol(text: &str) -> bool {
+    match text.as_bytes() {
+        [first, rest @ ..] => {
+            first.is_ascii_alphabetic()
+                && rest.iter().all(|byte| byte.is_ascii_alphanumeric()
+                    || matches!(*byte, b'+' | b'-' | b'.'))
+        }
+        [] => false,
     }
 }
 

@@ -19,8 +19,6 @@ impl ComparisonPrinter for Printer {
 
     ghost PrintsUnreached = { λ printer json entries found text. ⊤ };
 
-    ghost PrintsDoubts = { λ printer entries found text. ⊤ };
-
     fn print_covering(
         &self,
         alloc: Global,

@@ -1,7 +1,7 @@
 //! Runs each command of the program.
 
 ghost use Rattle.std.specs.Prelude.{◌≡◌, ◌≢◌, ◌⊎◌};
-ghost use Rattle.urlpat.specs.Commands.{RunsCommand};
+ghost use Rattle.urlpat.specs.Commands.{MayPrintInPart, MayReport, RunsCommand};
 
 use std::alloc::Global;
 use std::io::{BufRead, Write};
@@ -41,6 +41,10 @@ pub fn run<
           PrintsExplained = P.Prints printer.now;
         }) arguments.entry.flags arguments.entry.command result
         (In.remaining input.old) (Out.contents out.old) (Out.contents out.new) }
+    ensures quiet { result ≢ FAILED → (err.new ≡ err.old)
+        ⊎ MayReport (T.Has tables.now) arguments.entry.flags arguments.entry.command }
+    ensures fails { result ≡ FAILED → (out.new ≡ out.old)
+        ⊎ MayPrintInPart arguments.entry.flags arguments.entry.command }
 {
     let flags = arguments.flags;
     match arguments.command {

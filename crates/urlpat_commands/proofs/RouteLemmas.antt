@@ -5,19 +5,14 @@ use Rattle.std.proofs.lemmas.List.{map-append}
 use Rattle.std.proofs.lemmas.List.Elements.{All-push}
 use Rattle.std.specs.List.{flat_map}
 use Rattle.std.specs.Map.{values_of}
-use Rattle.std.specs.Prelude.{IfSome, Option, None, Some}
+use Rattle.std.specs.Prelude.{Option}
 use Rattle.serde_json.specs.Data.{Data, no_members, number, put, string, unsigned}
 use Rattle.serde_json.specs.Written.{has_float}
 use Rattle.urlpat_matching.proofs.MatchJsonLemmas.{put-none}
-use Rattle.urlpattern_canonical.specs.BaseUrls.{BaseView, base_view}
 use Rattle.urlpat_matching.specs.PatternWords.{IsPatternOf}
-use Rattle.urlpat_matching.specs.Status.{status_of}
-use Rattle.urlpat_matching.specs.Filters.{FiltersText}
-use Rattle.urlpat_commands.specs.TableRoutes.{AreRoutesOf, IsLineAnswered, Routes, RoutesBy, bare_lines, cell_text, route_tree, row_text}
-use Rattle.urlpat_matching.specs.Tables.{EntryView, entries_view, entry_view, table_entries}
+use Rattle.urlpat_commands.specs.TableRoutes.{AreRoutesOf, Routes, bare_lines, cell_text, route_tree, row_text}
+use Rattle.urlpat_matching.specs.Tables.{EntryView, entries_view, entry_view}
 use Rattle.urlpat_matching.specs.declared.table.Entry.{Entry}
-use Rattle.urlpat_matching.specs.declared.command.Flags.{Flags}
-use Rattle.urlpat_matching.specs.declared.command.Shape.TheVariants.{Line}
 use Rattle.urlpattern.specs.Patterns.{pattern_view}
 use Rattle.urlpattern.specs.UrlPattern.{UrlPattern}
 use Rattle.urlpattern_engine.specs.declared.pattern_regexp.PatternRegexp.{PatternRegexp}
@@ -77,14 +72,3 @@ route-none entry found none =
     let named = put (codes "name") (string entry.name) numbered in
     put-none (codes "match") found named none
     (put-none (codes "name") (string entry.name) numbered refl (put-none (codes "number") (number (unsigned entry.number)) no_members refl refl))
-
--- ---- output
-
--- The output for a table's entries is that for the table.
-pub routes-by : (flags : Flags) (table : List ℕ) (base : Option (List ℕ)) (kept : BaseView) (items shown : List Entry) (routes : Routes) (input old new : Option (List ℕ)) (any : Bool) (status : ℕ)
-    → entries_view items ≡ table_entries table → shown ≡ items → AreRoutesOf flags.ignore_case base (entries_view shown) routes → kept ≡ base_view base → status ≡ status_of any
-    → IfSome input (λ text. FiltersText (IsLineAnswered flags.json routes kept) Line text any old new) → RoutesBy flags table base status input old new
-routes-by flags table base kept items shown routes None old new any status are same is read ends found =
-    (routes, subst (λ (es : List EntryView). AreRoutesOf flags.ignore_case base es routes) (ap entries_view same ∙ are) is, tt)
-routes-by flags table base kept items shown routes (Some text) old new any status are same is read ends found =
-    (routes, subst (λ (es : List EntryView). AreRoutesOf flags.ignore_case base es routes) (ap entries_view same ∙ are) is, (any, ends, subst (λ b. FiltersText (IsLineAnswered flags.json routes b) Line text any old new) read found))

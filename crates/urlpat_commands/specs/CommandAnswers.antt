@@ -8,7 +8,7 @@ use Rattle.url.specs.Parts.{Parts}
 use Rattle.urlpat_matching.specs.Texts.{texts_view}
 use Rattle.urlpat_matching.specs.declared.command.{FirstArguments.FirstArguments, Flags.Flags, MatchArguments.MatchArguments}
 use Rattle.urlpat_matching.specs.GroupLines.{AreLines, all_named_results}
-use Rattle.urlpat_matching.specs.MatchTexts.{IsMatchText, IsUnmatched, IsUnmatchedByAllUnder}
+use Rattle.urlpat_matching.specs.MatchTexts.{HaveNoMatchUnder, IsMatchText, IsUnmatched}
 use Rattle.urlpat_matching.specs.PatternWords.{IsPatternOf, RejectsPatternOf}
 use Rattle.urlpat_matching.specs.declared.exit_status.TheConstants.{DONE, NO_MATCH}
 use Rattle.urlpat_commands.specs.FirstJson.{IsFirstJson}
@@ -79,11 +79,12 @@ IsFirstMatchText flags patterns input base text =
     × ArePatterns flags.ignore_case patterns base compiled
     × IsFirstTextBy flags.json compiled input base text
 
--- No pattern of the list matches the input (`IsUnmatchedByAllUnder`), given the text of the base
--- URL, or `None` if there is no base URL.
+-- No pattern of the list matches the input: the input is not a URL under the base URL, or may be
+-- too long for `url`, or no pattern has a match on the URL.
 abbrev pub IsUnmatchedByAll : (compiled : List (PatternView PatternRegexp)) → (input : List ℕ)
     → (base : Option (List ℕ)) → Type 0
-IsUnmatchedByAll compiled input base = IsUnmatchedByAllUnder compiled input (base_view base)
+IsUnmatchedByAll compiled input base =
+    IsRejectedText input base ⊎ HaveNoMatchUnder compiled input (base_view base)
 
 -- The constructor strings `patterns` are compiled to patterns, none of which matches the input.
 abbrev pub IsUnmatchedByEach : (ignores : Bool) → (patterns : List (List ℕ))

@@ -1,19 +1,17 @@
 -- The output of `filter` for its arguments and for the lines that it reads. Arguments and texts are
 -- bytes. `input` is what the reader has left, and `old` and `new` are the output before and after,
 -- as far as they are known.
-use Rattle.std.specs.Prelude.{◌≡◌, ◌⊎◌, ◌++◌, ℕ, Bool, true, false, IsTrue, List, [], codes, Option, None, Some, IfSome, option_copied}
+use Rattle.std.specs.Prelude.{◌≡◌, ◌⊎◌, ◌++◌, ℕ, Bool, true, false, List, [], codes, Option, None, Some, if◌then◌else◌, option_copied}
 use Rattle.std.specs.Borrow.{Bor}
 use Rattle.std.specs.Str.{chars}
 use Rattle.url.specs.Parts.{Parts}
-use Rattle.urlpattern_canonical.specs.BaseUrls.{BaseView, IsUrlUnder, base_view}
+use Rattle.urlpattern_canonical.specs.BaseUrls.{BaseView, IsRejectedUnder, IsUrlUnder, base_view}
 use Rattle.urlpat_matching.specs.PatternWords.{IsPatternOf}
-use Rattle.urlpat_matching.specs.MatchTexts.{IsUnmatchedUnder}
+use Rattle.urlpat_matching.specs.MatchTexts.{HasNoMatchUnder}
 use Rattle.urlpat_matching.specs.GroupLines.{group_bytes}
-use Rattle.urlpat_matching.specs.Groups.{IsGroupNamed, NamesNoGroup, has_group}
+use Rattle.urlpat_matching.specs.Groups.{IsOwnGroup, LacksGroup}
 use Rattle.urlpat_matching.specs.MatchJson.{IsMatchJson}
-use Rattle.urlpat_matching.specs.Status.{status_of}
-use Rattle.urlpat_matching.specs.Filters.{FiltersText}
-use Rattle.urlpat_matching.specs.LineAnswers.{selected_by}
+use Rattle.urlpat_matching.specs.Filters.{Filters}
 use Rattle.urlpat_matching.specs.declared.answers.Verdict.{Verdict}
 use Rattle.urlpat_matching.specs.declared.answers.Verdict.TheVariants as verdicts
 use Rattle.urlpat_matching.specs.declared.command.AskedShape.{AskedShape}
@@ -58,13 +56,20 @@ AnswersMatched true shape result line verdict written =
 AnswersMatched false shape result line verdict written =
     (verdict ≡ verdicts.Selected) × IsShown shape result line written
 
--- The verdict on a line that does not match, and what is written for it. The line is selected if
--- the selection is inverted.
-abbrev pub AnswersUnmatched : (inverted : Bool) → Shape → (line : List ℕ) → Verdict
+-- The verdict on a line that does not match. The line is selected if the selection is inverted.
+abbrev pub unmatched_verdict : (inverted is_url : Bool) → Verdict
+unmatched_verdict true true = verdicts.Selected
+unmatched_verdict true false = verdicts.SelectedNoUrl
+unmatched_verdict false true = verdicts.Passed
+unmatched_verdict false false = verdicts.NoUrl
+
+-- The verdict on a line that does not match, and what is written for it. `is_url` says whether the
+-- line is a URL.
+abbrev pub AnswersUnmatched : (inverted is_url : Bool) → Shape → (line : List ℕ) → Verdict
     → (written : List ℕ) → Type 0
-AnswersUnmatched true shape line verdict written =
-    (selected_by verdict ≡ 1) × (written ≡ text_without_match shape line)
-AnswersUnmatched false shape line verdict written = (selected_by verdict ≡ 0) × (written ≡ [])
+AnswersUnmatched inverted is_url shape line verdict written =
+    (verdict ≡ unmatched_verdict inverted is_url)
+    × (written ≡ if inverted then text_without_match shape line else [])
 
 -- The pattern matches `text`, a URL under the base URL, with these results.
 pub record IsMatchUnder (compiled : PatternView PatternRegexp) (base : BaseView) (text : List ℕ)
@@ -79,22 +84,11 @@ abbrev pub IsFiltered : PatternView PatternRegexp → BaseView → (inverted : B
 IsFiltered compiled base inverted shape text line verdict written =
     ((result : ComponentName → ResultView) × IsMatchUnder compiled base text result
     × AnswersMatched inverted shape result line verdict written)
-    ⊎ (IsUnmatchedUnder compiled text base × AnswersUnmatched inverted shape line verdict written)
+    ⊎ (IsRejectedUnder text base × AnswersUnmatched inverted false shape line verdict written)
+    ⊎ (HasNoMatchUnder compiled text base
+    × AnswersUnmatched inverted true shape line verdict written)
 
 -- ---- the group that is printed
-
--- `word` names the group `name` of the component, and the pattern has it.
-abbrev pub IsOwnGroup : PatternView PatternRegexp → (word : List ℕ) → ComponentName
-    → (name : List ℕ) → Type 0
-IsOwnGroup compiled word component name =
-    IsGroupNamed compiled word component name × IsTrue (has_group compiled (chars name) component)
-
--- `word` names no group of the pattern: no group at all, or one that the pattern lacks.
-abbrev pub LacksGroup : PatternView PatternRegexp → (word : List ℕ) → Type 0
-LacksGroup compiled word =
-    NamesNoGroup compiled word
-    ⊎ ((component : ComponentName) × (name : List ℕ) × IsGroupNamed compiled word component name
-    × ¬ IsTrue (has_group compiled (chars name) component))
 
 -- `shape` is what is printed of a selected line, as it is asked for. A group is one of the pattern.
 abbrev pub IsShapeOf : PatternView PatternRegexp → AskedShape → Shape → Type 0
@@ -123,9 +117,8 @@ abbrev pub FiltersBy : PatternView PatternRegexp → FilterArguments → (status
     → (input old new : Option (List ℕ)) → Type 0
 FiltersBy compiled asked status input old new =
     (shape : Shape) × IsShapeOf compiled asked.shape shape
-    × IfSome input (λ text. (any : Bool) × (status ≡ status_of any)
-    × FiltersText (IsFiltered compiled (base_view (option_copied asked.base)) asked.inverted shape)
-    shape text any old new)
+    × Filters (IsFiltered compiled (base_view (option_copied asked.base)) asked.inverted shape)
+    shape status input old new
 
 -- `filter` writes its output by the pattern that is asked for (`FiltersBy`).
 abbrev pub FiltersLines : (ignores : Bool) → FilterArguments → (status : ℕ)

@@ -1,22 +1,20 @@
 -- The first pattern of a table that matches the URL in each line, and the output for it. Arguments
 -- and texts are bytes. `input` is what the reader has left, and `old` and `new` are the output
 -- before and after, as far as they are known.
-use Rattle.std.specs.Prelude.{◌≡◌, ◌⊎◌, ℕ, All, Bool, true, false, List, [], ◌∷◌, ◌++◌, codes, decimal, map, IfSome, Option, Some, option_copied, slice_get}
+use Rattle.std.specs.Prelude.{◌≡◌, ◌⊎◌, ℕ, All, Bool, true, false, List, [], ◌∷◌, ◌++◌, codes, decimal, map, Option, Some, option_copied, slice_get}
 use Rattle.std.specs.List.{flat_map}
 use Rattle.std.specs.Map.{values_of}
 use Rattle.bstr.specs.Text.{lines_of, without_terminator}
 use Rattle.serde_json.specs.Data.{Data, number, string, unsigned}
 use Rattle.url.specs.Parts.{Parts}
 use Rattle.urlpat_matching.specs.GroupLines.{AreLines, all_named_results}
-use Rattle.urlpattern_canonical.specs.BaseUrls.{BaseView, IsUrlUnder, base_view}
+use Rattle.urlpattern_canonical.specs.BaseUrls.{BaseView, IsRejectedUnder, IsUrlUnder, base_view}
 use Rattle.urlpat_matching.specs.PatternWords.{IsPatternOf}
-use Rattle.urlpat_matching.specs.MatchTexts.{IsUnmatchedByAllUnder}
-use Rattle.urlpat_matching.specs.Status.{status_of}
+use Rattle.urlpat_matching.specs.MatchTexts.{HaveNoMatchUnder}
 use Rattle.urlpat_matching.specs.MatchJson.{IsMatchTree, json_line}
-use Rattle.urlpat_matching.specs.Filters.{FiltersText}
-use Rattle.urlpat_matching.specs.LineAnswers.{selected_by}
+use Rattle.urlpat_matching.specs.Filters.{Filters}
 use Rattle.urlpat_matching.specs.declared.answers.Verdict.{Verdict}
-use Rattle.urlpat_matching.specs.declared.answers.Verdict.TheVariants.{Selected}
+use Rattle.urlpat_matching.specs.declared.answers.Verdict.TheVariants.{NoUrl, Passed, Selected}
 use Rattle.urlpat_matching.specs.Tables.{EntryView, entries_view, entry_view, table_entries}
 use Rattle.urlpat_matching.specs.declared.table.Entry.{Entry}
 use Rattle.urlpat_matching.specs.declared.command.{Flags.Flags, TableArguments.TableArguments}
@@ -110,17 +108,9 @@ abbrev pub IsLineAnswered : (json : Bool) → Routes → BaseView → (text line
     → (written : List ℕ) → Type 0
 IsLineAnswered json routes base text line verdict written =
     (IsRouted json routes base text written × (verdict ≡ Selected))
-    ⊎ (IsUnmatchedByAllUnder (entry_patterns routes) text base
-    × (written ≡ unmatched_text json)
-    × (selected_by verdict ≡ 0))
-
--- The output for the lines of a text is written. The exit status is 0 if a pattern matches some
--- line, else 1.
-abbrev pub RoutesText : (json : Bool) → Routes → BaseView → (text : List ℕ) → (status : ℕ)
-    → (old new : Option (List ℕ)) → Type 0
-RoutesText json routes base text status old new =
-    (any : Bool) × (status ≡ status_of any)
-    × FiltersText (IsLineAnswered json routes base) Line text any old new
+    ⊎ (IsRejectedUnder text base × (verdict ≡ NoUrl) × (written ≡ unmatched_text json))
+    ⊎ (HaveNoMatchUnder (entry_patterns routes) text base × (verdict ≡ Passed)
+    × (written ≡ unmatched_text json))
 
 -- The output for the lines of the reader is written, by the patterns of a table. The output and the
 -- exit status are known if the contents of the reader are.
@@ -128,7 +118,7 @@ abbrev pub RoutesBy : Flags → (table : List ℕ) → (base : Option (List ℕ)
     → (status : ℕ) → (input old new : Option (List ℕ)) → Type 0
 RoutesBy flags table base status input old new =
     (routes : Routes) × AreRoutesOf flags.ignore_case base (table_entries table) routes
-    × IfSome input (λ text. RoutesText flags.json routes (base_view base) text status old new)
+    × Filters (IsLineAnswered flags.json routes (base_view base)) Line status input old new
 
 -- The output of `route` for its arguments is written. `Has` says which file has which table.
 abbrev pub RoutesLines : Flags → (Has : (name table : List ℕ) → Type 0) → TableArguments

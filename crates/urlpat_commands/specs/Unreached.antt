@@ -5,7 +5,6 @@ use Rattle.std.specs.Prelude.{◌≡◌, ℕ, Bool, true, false, List, [], ◌�
 use Rattle.std.specs.List.{AllZip, list_any}
 use Rattle.std.specs.Io.KnownBytes.{Appends}
 use Rattle.urlpat_matching.specs.declared.command.TableArguments.{TableArguments}
-use Rattle.urlpat_matching.specs.Status.{status_of}
 use Rattle.urlpat_commands.specs.Coverings.{ArePartsOf}
 use Rattle.urlpat_matching.specs.Tables.{EntryView, table_entries}
 use Rattle.urlpattern_compare.specs.CommonTexts.{AreAutomata}
@@ -47,12 +46,19 @@ abbrev pub is_unknown : Reach → Bool
 is_unknown (reaches.Unknown doubt) = true
 is_unknown other = false
 
--- The patterns that are never the first match are printed. The exit status is 0 if there is one,
--- else 1.
+-- The exit status: 0 if a pattern is never the first match (`never`), else 2 if that is not known
+-- of one (`unknown`), else 1.
+abbrev pub found_status : (never unknown : Bool) → ℕ
+found_status true unknown = 0
+found_status false true = 2
+found_status false false = 1
+
+-- The patterns that are never the first match are printed.
 abbrev pub PrintsFound : (Prints : List Reach → List ℕ → Type 0) → List Reach → (status : ℕ)
     → (old new : Option (List ℕ)) → Type 0
 PrintsFound Prints found status old new =
-    (text : List ℕ) × Prints found text × (status ≡ status_of (list_any is_never found))
+    (text : List ℕ) × Prints found text
+    × (status ≡ found_status (list_any is_never found) (list_any is_unknown found))
     × Appends old new text
 
 -- The output and the exit status of `unreachable` for a table.

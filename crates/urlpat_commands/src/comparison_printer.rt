@@ -19,10 +19,6 @@ pub trait ComparisonPrinter {
     ghost PrintsUnreached: { Self → (json : Bool) → List EntryView → (found : List Reach)
         → (text : List ℕ) → Type 0 };
 
-    // `text` is how the patterns of these entries for which that is not known are reported.
-    ghost PrintsDoubts: { Self → List EntryView → (found : List Reach) → (text : List ℕ)
-        → Type 0 };
-
     /// Returns whether a pattern covers another, as it is printed, as JSON or not.
     fn print_covering(
         &self,
@@ -51,7 +47,5 @@ pub trait ComparisonPrinter {
         alloc: Global,
         entries: &[Entry<'_>],
         found: &[Reach],
-    ) -> Result<String, AllocError>
-        ensures { IfOk result (λ text.
-            PrintsDoubts self.now (entries_view entries.now) found.now (string_bytes text)) };
+    ) -> Result<String, AllocError>;
 }

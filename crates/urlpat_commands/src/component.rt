@@ -5,10 +5,10 @@ ghost use Rattle.urlpat_commands.specs.ComponentAnswers.{CopiesBytes, IsComponen
 ghost use Rattle.urlpattern.specs.Errors.{MemoryOr, OnlyOutOfMemory};
 ghost use Rattle.urlpattern.specs.Options.{options_view};
 
-use crate::failure::{is_explained, refuse};
+use crate::failure::refuse;
 use std::alloc::{AllocError, Global};
 use std::io::Write;
-use urlpat_matching::{ComponentArguments, DONE, FAILED, Flags, Kind, print};
+use urlpat_matching::{Command, ComponentArguments, DONE, FAILED, Flags, Kind, print};
 use urlpattern::component::{generate_pattern_string, generate_regular_expression_and_name_list};
 use urlpattern::error::OutOfMemory;
 use urlpattern::parser::{Options, parse_pattern_string};
@@ -36,14 +36,7 @@ pub fn print_component<Out: Write, Err: Write>(
             Ok(()) => DONE,
             Err(_) => FAILED,
         },
-        Err(error) => {
-            let note = if is_explained(&error, flags) {
-                component_diagnosis(alloc, asked)
-            } else {
-                Ok(None)
-            };
-            refuse(error, note, err)
-        }
+        Err(error) => refuse(alloc, error, flags, Command::Component(asked), err),
     }
 }
 
@@ -103,7 +96,7 @@ fn component_report(
 
 /// Returns a diagnosis of the pattern of a component, as lines of text. `None`: the pattern is not
 /// rejected.
-fn component_diagnosis(
+pub(crate) fn component_diagnosis(
     alloc: Global,
     asked: ComponentArguments<'_>,
 ) -> Result<Option<String>, OutOfMemory> {

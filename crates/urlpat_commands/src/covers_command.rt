@@ -1,14 +1,14 @@
 //! The command `covers`: whether a pattern matches everything that another one matches.
 
-ghost use Rattle.std.specs.Prelude.{◌≡◌, ◌≢◌, ◌⊎◌, option_copied, IfSome};
-ghost use Rattle.urlpat_commands.specs.Coverings.{ArePartsOf, ComparesWith, PrintsWhether, PrintsWhich, covering_status};
+ghost use Rattle.std.specs.Prelude.{◌≡◌, ◌≢◌, ◌⊎◌, IfSome};
+ghost use Rattle.urlpat_commands.specs.Coverings.{ComparesWith, PrintsWhether, PrintsWhich, covering_status};
 
 use crate::comparison_printer::ComparisonPrinter;
-use crate::text_parts::parts_of_text;
+use crate::text_parts::parts_or_report;
 use std::alloc::Global;
 use std::io::Write;
-use urlpat_matching::{CoversArguments, DONE, FAILED, Flags, NO_MATCH, print, write_refusal};
-use urlpattern::rules::{PatternCovering, PatternParts};
+use urlpat_matching::{CoversArguments, DONE, FAILED, Flags, NO_MATCH, print};
+use urlpattern::rules::PatternCovering;
 
 /// Runs `covers`. Returns the exit status: `DONE` if the first pattern covers the second, the asked
 /// one, `NO_MATCH` if not, `FAILED` if that is not known, which is reported to `err`.
@@ -45,8 +45,9 @@ fn compared<Err: Write>(
     ensures covering { IfSome result (ComparesWith ignore_case patterns.entry) }
     ensures quiet { IfSome result (λ covering. err.new ≡ err.old) }
 {
-    let parts = parts_or_report(alloc, patterns.pattern, patterns.base, ignore_case, err)?;
-    let asked_parts = parts_or_report(alloc, patterns.asked, patterns.base, ignore_case, err);
+    let base = patterns.base;
+    let parts = parts_or_report(alloc, None, patterns.pattern, base, ignore_case, err)?;
+    let asked_parts = parts_or_report(alloc, None, patterns.asked, base, ignore_case, err);
     let Some(asked_parts) = asked_parts else {
         drop(parts);
         return None;
@@ -58,27 +59,6 @@ fn compared<Err: Write>(
         Ok(covering) => Some(covering),
         Err(_) => {
             let _ = err.write_all(b"out of memory\n");
-            None
-        }
-    }
-}
-
-/// The parts of the pattern of a constructor string, under a base URL if there is one. `None`: the
-/// pattern is rejected, or memory ran out, which is reported.
-fn parts_or_report<Err: Write>(
-    alloc: Global,
-    text: &str,
-    base: Option<&str>,
-    ignore_case: bool,
-    err: &mut Err,
-) -> Option<PatternParts>
-    ensures parts { IfSome result (ArePartsOf ignore_case text.now (option_copied base.entry)) }
-    ensures quiet { IfSome result (λ parts. err.new ≡ err.old) }
-{
-    match parts_of_text(alloc, text, base, ignore_case) {
-        Ok(parts) => Some(parts),
-        Err(error) => {
-            write_refusal(alloc, None, text, base, error, err);
             None
         }
     }

@@ -2,10 +2,9 @@
 //! `urlpat_matching` reads and counts lines.
 
 ghost use Rattle.std.specs.Io.KnownBytes.{Appends};
-ghost use Rattle.std.specs.Prelude.{◌≡◌, ◌≢◌, ◌⊎◌, IfErr, IfNone, IfOk, IfSome, OnOk};
+ghost use Rattle.std.specs.Prelude.{◌≡◌, ◌≢◌, ◌⊎◌, IfErr, IfOk, OnOk};
 ghost use Rattle.urlpattern_canonical.specs.BaseUrls.{kept_base};
-ghost use Rattle.urlpat_commands.specs.FilterLines.{AnswersMatched, AnswersUnmatched, FiltersBy, FiltersLines, IsFiltered, IsMissingGroup, IsOwnGroup, IsShapeOf, IsShown, LacksGroup, missing_group_line};
-ghost use Rattle.urlpat_matching.specs.LineAnswers.{selected_by};
+ghost use Rattle.urlpat_commands.specs.FilterLines.{AnswersMatched, AnswersUnmatched, FiltersBy, FiltersLines, IsFiltered, IsMissingGroup, IsShapeOf, IsShown, missing_group_line};
 ghost use Rattle.urlpat_matching.specs.Filters.{AppendsPiece};
 ghost use Rattle.urlpattern.specs.BorrowedMatches.{pattern_captures_view};
 ghost use Rattle.urlpattern.specs.Patterns.{pattern_view};
@@ -15,10 +14,10 @@ use std::io;
 use std::io::{BufRead, Write};
 use urlpat_matching::{
     AskedShape, DONE, FAILED, FilterArguments, Flags, NO_MATCH, Rule, Shape, Verdict, capture_of,
-    compiled, has_group, match_json, named_group, status_of, write_answers, write_refusal,
+    compiled_or_report, match_json, own_group, write_answers, write_refusal,
 };
 use urlpattern::regexp::PatternRegexp;
-use urlpattern::{ComponentName, UrlPattern, UrlPatternCaptures};
+use urlpattern::{UrlPattern, UrlPatternCaptures};
 use urlpattern_canonical::BaseUrl;
 
 /// A rule that selects the lines whose URLs match a pattern, or, if `inverted`, those that do not.
@@ -44,9 +43,10 @@ pub fn filter<In: BufRead, Out: Write, Err: Write>(
     ensures answers { result ≢ FAILED → FiltersLines flags.ignore_case asked.entry result
         (In.remaining input.old) (Out.contents out.old) (Out.contents out.new) }
 {
-    let pattern = match compiled(alloc, asked.pattern, asked.base, flags.ignore_case) {
-        Ok(pattern) => pattern,
-        Err(error) => return write_refusal(alloc, None, asked.pattern, asked.base, error, err),
+    let ignores = flags.ignore_case;
+    let pattern = compiled_or_report(alloc, None, asked.pattern, asked.base, ignores, err);
+    let Some(pattern) = pattern else {
+        return FAILED;
     };
     let status = filter_by(alloc, &pattern, asked, input, out, err);
     drop(pattern);
@@ -85,10 +85,7 @@ fn filter_by<In: BufRead, Out: Write, Err: Write>(
         inverted: asked.inverted,
         shape,
     };
-    match write_answers(alloc, &rule, shape, input, out, err) {
-        Some(any) => status_of(any),
-        None => FAILED,
-    }
+    write_answers(alloc, &rule, shape, input, out, err)
 }
 
 /// What is printed for a selected line. The error is the word that names no group of the pattern.
@@ -107,28 +104,6 @@ fn shape_of<'q>(
             None => Err(word),
         },
         AskedShape::Json => Ok(Shape::Json),
-    }
-}
-
-/// The group of the pattern that a word names. `None`: the word names no group, or one that the
-/// pattern lacks.
-fn own_group<'q>(
-    pattern: &UrlPattern<PatternRegexp>,
-    word: &'q str,
-) -> Option<(ComponentName, &'q str)>
-    ensures there { IfSome result (λ group.
-        IsOwnGroup (pattern_view pattern.now) word.now group.0 group.1.now) }
-    ensures missing { IfNone result (LacksGroup (pattern_view pattern.now) word.now) }
-{
-    match named_group(pattern, word) {
-        Some((component, name)) => {
-            if has_group(pattern.get(component), name) {
-                Some((component, name))
-            } else {
-                None
-            }
-        }
-        None => None,
     }
 }
 
@@ -158,7 +133,7 @@ impl Rule for UrlFilter<'_> {
             return Err(AllocError);
         };
         let Some(url) = found else {
-            return answer_other(self.inverted, self.shape, Verdict::NoUrl, line, written);
+            return answer_other(self.inverted, self.shape, false, line, written);
         };
         match self.pattern.captures(self.alloc, &url) {
             Ok(Some(found)) => {
@@ -173,7 +148,7 @@ impl Rule for UrlFilter<'_> {
                 drop(found);
                 answered
             }
-            Ok(None) => answer_other(self.inverted, self.shape, Verdict::Passed, line, written),
+            Ok(None) => answer_other(self.inverted, self.shape, true, line, written),
             Err(_) => Err(AllocError),
         }
     }
@@ -226,28 +201,32 @@ fn push_shown(
 }
 
 /// Returns the verdict on a line that does not match, and appends what is written for it. If the
-/// selection is inverted, the line is selected; otherwise the verdict is `verdict`, and nothing is
-/// written.
+/// selection is inverted, the line is selected; otherwise nothing is written. `is_url` says whether
+/// the line is a URL.
 fn answer_other(
     inverted: bool,
     shape: Shape<'_>,
-    verdict: Verdict,
+    is_url: bool,
     line: &[u8],
     written: &mut Vec<u8>,
 ) -> Result<Verdict, AllocError>
-    requires { selected_by verdict ≡ 0 }
-    ensures { IfOk result (λ answer.
-        AppendsPiece (AnswersUnmatched inverted shape.entry line.now answer) written.old.items
-        written.new.items) }
+    ensures { IfOk result (λ verdict.
+        AppendsPiece (AnswersUnmatched inverted is_url shape.entry line.now verdict)
+        written.old.items written.new.items) }
 {
     if !inverted {
-        return Ok(verdict);
+        return Ok(if is_url {
+            Verdict::Passed
+        } else {
+            Verdict::NoUrl
+        });
     }
     if let Shape::Line = shape {
         written.extend_from_slice(line)?;
     }
-    match verdict {
-        Verdict::NoUrl => Ok(Verdict::SelectedNoUrl),
-        _ => Ok(Verdict::Selected),
-    }
+    Ok(if is_url {
+        Verdict::Selected
+    } else {
+        Verdict::SelectedNoUrl
+    })
 }

@@ -4,13 +4,13 @@ ghost use Rattle.std.specs.Io.KnownBytes.{Appends};
 ghost use Rattle.std.specs.Prelude.{◌≡◌, ◌≢◌, ◌⊎◌, option_copied};
 ghost use Rattle.urlpat_commands.specs.CommandAnswers.{HasNote, IsFirstAnswered, IsMatchAnswered, PrintsFirst, PrintsFound, PrintsMatch, no_match_text};
 
-use crate::failure::{is_explained, refuse};
+use crate::failure::refuse;
 use crate::first::first_groups;
 use std::alloc::Global;
 use std::io::Write;
 use urlpat_matching::{
-    DONE, FAILED, FirstArguments, Flags, MatchArguments, NO_MATCH, fail, first_diagnosis,
-    match_diagnosis, matched_groups, note_of, print,
+    Command, DONE, FAILED, FirstArguments, Flags, MatchArguments, NO_MATCH, fail, matched_groups,
+    note_of, print,
 };
 
 /// Runs `match`, or the short form: prints what the groups of a pattern capture of an input, or
@@ -35,14 +35,7 @@ pub fn print_match<Out: Write, Err: Write>(
 {
     match matched_groups(alloc, asked, flags) {
         Ok(found) => print_found(alloc, found, asked.base, asked.input, flags, out, err),
-        Err(error) => {
-            let note = if is_explained(&error, flags) {
-                match_diagnosis(alloc, asked.pattern, asked.base)
-            } else {
-                Ok(None)
-            };
-            refuse(error, note, err)
-        }
+        Err(error) => refuse(alloc, error, flags, Command::Match(asked), err),
     }
 }
 
@@ -68,14 +61,7 @@ pub fn print_first<Out: Write, Err: Write>(
 {
     match first_groups(alloc, asked, flags) {
         Ok(found) => print_found(alloc, found, asked.base, asked.input, flags, out, err),
-        Err(error) => {
-            let note = if is_explained(&error, flags) {
-                first_diagnosis(alloc, asked.base, asked.patterns)
-            } else {
-                Ok(None)
-            };
-            refuse(error, note, err)
-        }
+        Err(error) => refuse(alloc, error, flags, Command::First(asked), err),
     }
 }
 

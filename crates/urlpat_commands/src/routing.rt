@@ -10,8 +10,8 @@ use crate::tables::{Tables, read_entries, read_table};
 use std::alloc::{AllocError, Global};
 use std::io::{BufRead, Write};
 use urlpat_matching::{
-    DONE, Entry, FAILED, Flags, NO_MATCH, Rule, Shape, TableArguments, Verdict, compiled, fail,
-    write_answers, write_refusal,
+    DONE, Entry, FAILED, Flags, NO_MATCH, Rule, Shape, TableArguments, Verdict, compiled_or_report,
+    fail, write_answers,
 };
 use urlpattern::UrlPatternMap;
 use urlpattern::regexp::PatternRegexp;
@@ -82,13 +82,9 @@ fn route_by<In: BufRead, Out: Write, Err: Write>(
         base: &kept,
         json: flags.json,
     };
-    let found = write_answers(alloc, &router, Shape::Line, input, out, err);
+    let status = write_answers(alloc, &router, Shape::Line, input, out, err);
     drop(routes);
-    match found {
-        Some(true) => DONE,
-        Some(false) => NO_MATCH,
-        None => FAILED,
-    }
+    status
 }
 
 /// Compiles the pattern of each entry. `None`: a pattern is rejected, or memory ran out, which is
@@ -105,13 +101,8 @@ fn routes_of<'t, Err: Write>(
 {
     let mut routes = UrlPatternMap::new(alloc);
     for entry in entries {
-        let pattern = match compiled(alloc, entry.pattern, base, ignore_case) {
-            Ok(pattern) => pattern,
-            Err(error) => {
-                write_refusal(alloc, Some(entry.number), entry.pattern, base, error, err);
-                return None;
-            }
-        };
+        let number = Some(entry.number);
+        let pattern = compiled_or_report(alloc, number, entry.pattern, base, ignore_case, err)?;
         let Ok(()) = routes.try_insert(pattern, *entry) else {
             let _ = err.write_all(b"out of memory\n");
             return None;

@@ -1,28 +1,31 @@
 //! How the commands that compare patterns compile a constructor string: to the parts of its
 //! pattern.
 
-ghost use Rattle.std.specs.Prelude.{option_copied, IfOk};
+ghost use Rattle.std.specs.Prelude.{◌≡◌, option_copied, IfSome};
 ghost use Rattle.urlpat_commands.specs.Coverings.{ArePartsOf};
 
 use std::alloc::Global;
-use urlpat_matching::compiled;
-use urlpattern::Error;
+use std::io::Write;
+use urlpat_matching::compiled_or_report;
 use urlpattern::rules::PatternParts;
 
 /// The parts of the pattern of a constructor string, compiled with the engine `PatternRegexp`.
-///
-/// The error is the one with which the pattern or its base is rejected, or that memory ran out.
-pub fn parts_of_text(
+/// `line` is the number of its line, if it is one of a table. `None`: the pattern or its base is
+/// rejected, or memory ran out, which is reported.
+pub fn parts_or_report<Err: Write>(
     alloc: Global,
+    line: Option<u64>,
     text: &str,
     base: Option<&str>,
     ignore_case: bool,
-) -> Result<PatternParts, Error>
-    ensures { IfOk result (ArePartsOf ignore_case text.now (option_copied base.entry)) }
+    err: &mut Err,
+) -> Option<PatternParts>
+    ensures parts { IfSome result (ArePartsOf ignore_case text.now (option_copied base.entry)) }
+    ensures quiet { IfSome result (λ parts. err.new ≡ err.old) }
 {
-    let pattern = compiled(alloc, text, base, ignore_case)?;
+    let pattern = compiled_or_report(alloc, line, text, base, ignore_case, err)?;
     match pattern.into_parts() {
-        Some(parts) => Ok(parts),
+        Some(parts) => Some(parts),
         None => unreachable!(),
     }
 }

@@ -2,7 +2,7 @@
 
 ghost use Rattle.std.specs.List.{list_any};
 ghost use Rattle.std.specs.Prelude.{◌≡◌, ◌≢◌, ◌⊎◌, All, map, option_copied, IfOk, IfSome, IsTrue, OnOk};
-ghost use Rattle.urlpat_commands.specs.Unreached.{AreAppended, AreAutomataOfEach, HasDoubts, LeaveDoubts, Lists, ListsOf, PrintsFound, is_never, is_unknown};
+ghost use Rattle.urlpat_commands.specs.Unreached.{AreAppended, AreAutomataOfEach, HasDoubts, LeaveDoubts, Lists, ListsOf, PrintsFound, found_status, is_never, is_unknown};
 ghost use Rattle.urlpat_matching.specs.Tables.{entries_view};
 ghost use Rattle.urlpattern_compare.specs.CommonTexts.{AreAutomata};
 ghost use Rattle.urlpattern_compare.specs.Reaching.{AreReached};
@@ -10,16 +10,15 @@ ghost use Rattle.urlpattern_compare.specs.declared.candidates.TheConstants.{USUA
 
 use crate::comparison_printer::ComparisonPrinter;
 use crate::tables::{Tables, read_entries, read_table};
-use crate::text_parts::parts_of_text;
+use crate::text_parts::parts_or_report;
 use std::alloc::{AllocError, Global};
 use std::io::Write;
-use urlpat_matching::{
-    DONE, Entry, FAILED, Flags, NO_MATCH, TableArguments, print, status_of, write_refusal,
-};
+use urlpat_matching::{DONE, Entry, FAILED, Flags, NO_MATCH, TableArguments, print};
 use urlpattern::rules::{PatternAutomata, PatternParts, Reach, USUAL_LIMITS, reach_of_each};
 
-/// Runs `unreachable`. Returns the exit status: `NO_MATCH` if no pattern is known to be never the
-/// first match. Patterns for which that is not known are reported to `err`.
+/// Runs `unreachable`. Returns the exit status: `NO_MATCH` if each pattern is the first match of
+/// some texts. Patterns for which that is not known are reported to `err`; if none is found that is
+/// never the first match, the exit status is then `FAILED`.
 pub fn list_unreachable<T: Tables, P: ComparisonPrinter, Out: Write, Err: Write>(
     alloc: Global,
     tables: &T,
@@ -106,10 +105,24 @@ fn print_found<P: ComparisonPrinter, Out: Write, Err: Write>(
     let Ok(()) = print(text.as_bytes(), out) else {
         return FAILED;
     };
-    if any_unknown(found) {
+    let unknown = any_unknown(found);
+    if unknown {
         let _ = err.write_all(doubts.as_bytes());
     }
-    status_of(any_never(found))
+    found_status(any_never(found), unknown)
+}
+
+/// The exit status, given whether a pattern is never the first match, and whether that is not known
+/// of one.
+fn found_status(never: bool, unknown: bool) -> u8
+    ensures either { (result ≡ DONE) ⊎ (result ≡ NO_MATCH) ⊎ (result ≡ FAILED) }
+    ensures is { result ≡ found_status never unknown }
+{
+    match (never, unknown) {
+        (true, _) => DONE,
+        (false, true) => FAILED,
+        (false, false) => NO_MATCH,
+    }
 }
 
 /// Whether a pattern is never the first match.
@@ -174,13 +187,8 @@ fn automata_of_each<Err: Write>(
 {
     let mut all = Vec::new(alloc);
     for entry in entries {
-        let parts = match parts_of_text(alloc, entry.pattern, base, ignore_case) {
-            Ok(parts) => parts,
-            Err(error) => {
-                write_refusal(alloc, Some(entry.number), entry.pattern, base, error, err);
-                return None;
-            }
-        };
+        let number = Some(entry.number);
+        let parts = parts_or_report(alloc, number, entry.pattern, base, ignore_case, err)?;
         let Ok(()) = push_automata(alloc, &mut all, parts) else {
             let _ = err.write_all(b"out of memory\n");
             return None;

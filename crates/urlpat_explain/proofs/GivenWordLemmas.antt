@@ -1,12 +1,12 @@
 -- Lemmas on arguments that give texts for groups.
-use Rattle.std.proofs.Common.{◌≡◌, ◌+◌, ◌<◌, ◌≤◌, ℕ, List, [], ◌∷◌, ◌++◌, get_or, length, subst, sym, take, take_all}
-use Rattle.std.proofs.lemmas.List.{get_or-map, length-map, take_more}
+use Rattle.std.proofs.Common.{◌≡◌, ◌∙◌, ◌+◌, ◌<◌, ◌≤◌, ℕ, List, [], ◌∷◌, ◌++◌, ap, get_or, inr, length, option_map, subst, sym, take, take_all}
+use Rattle.std.proofs.lemmas.List.{take-map, take_more}
+use Rattle.std.proofs.lemmas.Option.{slice_get-get_or, slice_get-map}
 use Rattle.std.proofs.lemmas.Slice.Zip.{all_zipped_more}
 use Rattle.std.specs.Borrow.{Bor}
 use Rattle.std.specs.List.{AllZip, before_first}
-use Rattle.std.specs.Prelude.{Any}
-use Rattle.urlpat_explain.specs.GivenWords.{AreGiven, Given, WordGivesGroup, WordGivesNothing, is_equals_sign}
-use Rattle.urlpat_matching.specs.Groups.{IsGroupNamed, NamesNoGroup}
+use Rattle.urlpat_explain.specs.GivenWords.{AreGiven, Given, IsFirstUnread, WordGivesGroup, WordGivesNothing, is_equals_sign}
+use Rattle.urlpat_matching.specs.Groups.{LacksGroup}
 use Rattle.urlpat_matching.specs.Texts.{texts_view}
 use Rattle.urlpattern_pattern.specs.Patterns.{PatternView}
 
@@ -32,17 +32,17 @@ module _ {E : Type 0} (pattern : PatternView E) where
   pub given_all : (words : List (Bor (List ℕ))) (i : ℕ) (groups : List Given) → length words ≤ i → AllZip WordGives (take i words) groups → AreGiven pattern (texts_view words) groups
   given_all words i groups past was = viewed words groups (subst (λ (taken : List (Bor (List ℕ))). AllZip WordGives taken groups) (take_all i words past) was)
 
-  -- An argument that gives no group is an element.
-  pub nothing_given : (words : List (Bor (List ℕ))) (i : ℕ) (none : Bor (List ℕ)) → i < length words → WordGivesNothing pattern (get_or words i none).now →
-      Any (WordGivesNothing pattern) (texts_view words)
-  nothing_given words i none within nothing = (
+  -- An argument that gives no group is the first one.
+  pub nothing_given : (words : List (Bor (List ℕ))) (i : ℕ) (none : Bor (List ℕ)) (groups : List Given) → i < length words →
+      WordGivesNothing pattern (get_or words i none).now → AllZip WordGives (take i words) groups → IsFirstUnread pattern (texts_view words) (get_or words i none).now
+  nothing_given words i none groups within nothing was = (
     i,
-    (get_or words i none).now,
-    subst (λ n. i < n) (sym (length-map words (λ word. word.now))) within,
-    get_or-map (λ word. word.now) words i none (get_or words i none).now within,
+    groups,
+    slice_get-map (λ (word : Bor (List ℕ)). word.now) words i ∙ ap (option_map (λ (word : Bor (List ℕ)). word.now)) (slice_get-get_or words i none within),
     nothing,
+    subst (λ (taken : List (List ℕ)). AreGiven pattern taken groups) (sym (take-map (λ (word : Bor (List ℕ)). word.now) i words)) (viewed (take i words) groups was),
   )
 
-  -- An argument whose name names no group gives no group.
-  pub unnamed : (word name : List ℕ) → name ≡ before_first is_equals_sign word → NamesNoGroup pattern name → WordGivesNothing pattern word
-  unnamed word name is none = λ given gives. none given.0 given.1.now (subst (λ (n : List ℕ). IsGroupNamed pattern n given.0 given.1.now) (sym is) gives.1)
+  -- An argument whose name names no group of the pattern gives no group.
+  pub unnamed : (word name : List ℕ) → name ≡ before_first is_equals_sign word → LacksGroup pattern name → WordGivesNothing pattern word
+  unnamed word name is lacks = inr (subst (LacksGroup pattern) is lacks)

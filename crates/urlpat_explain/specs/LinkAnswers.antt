@@ -1,11 +1,11 @@
 -- The output of `link` for its arguments. Arguments and texts are bytes.
-use Rattle.std.specs.Prelude.{◌≢◌, ◌++◌, ℕ, Any, Bool, List, codes, Option, option_copied}
+use Rattle.std.specs.Prelude.{◌≢◌, ◌++◌, ℕ, Bool, List, codes, Option, option_copied}
 use Rattle.std.specs.Io.KnownBytes.{Appends}
 use Rattle.url.specs.Parts.{Parts, serialize}
 use Rattle.urlpat_matching.specs.Texts.{texts_view}
 use Rattle.urlpat_matching.specs.declared.command.LinkArguments.{LinkArguments}
 use Rattle.urlpat_matching.specs.PatternWords.{IsPatternOf, KeepsPartsOfWord}
-use Rattle.urlpat_explain.specs.GivenWords.{AreGiven, Given, WordGivesNothing}
+use Rattle.urlpat_explain.specs.GivenWords.{AreGiven, Given, IsFirstUnread}
 use Rattle.urlpat_explain.specs.declared.link_command.LinkError.{LinkError}
 use Rattle.urlpat_explain.specs.declared.link_command.LinkError.TheVariants as unlinked
 use Rattle.urlpattern_engine.specs.PatternRegexps.{pattern_result}
@@ -33,7 +33,7 @@ RejectsLinkBy pattern words error =
 -- The reason why there is no URL: an argument gives no group a text, the pattern has no URL with
 -- the texts that are given, or memory ran out.
 abbrev pub LacksUrl : UrlPattern PatternRegexp → (words : List (List ℕ)) → LinkError → Type 0
-LacksUrl pattern words (unlinked.Word word) = Any (WordGivesNothing (pattern_view pattern)) words
+LacksUrl pattern words (unlinked.Word word) = IsFirstUnread (pattern_view pattern) words word.now
 LacksUrl pattern words (unlinked.NoLink error) =
     (error ≢ no_link.OutOfMemory) × RejectsLinkBy pattern words error
 LacksUrl pattern words unlinked.OutOfMemory = Unit {0}

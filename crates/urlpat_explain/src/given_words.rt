@@ -7,7 +7,7 @@ ghost use Rattle.urlpat_matching.specs.Texts.{texts_view};
 ghost use Rattle.urlpattern_pattern.specs.Patterns.{pattern_view};
 
 use std::alloc::{AllocError, Global};
-use urlpat_matching::named_group;
+use urlpat_matching::own_group;
 use urlpattern_engine::PatternRegexp;
 use urlpattern_generate::GivenGroup;
 use urlpattern_pattern::UrlPattern;
@@ -15,8 +15,8 @@ use urlpattern_pattern::UrlPattern;
 /// The reason why arguments of `link` give no groups.
 #[derive(Drop)]
 pub enum ArgumentError<'w> {
-    /// The argument that gives no group a text: it has no `=`, or what is before `=` names no
-    /// group, or a group that several components have.
+    /// The first argument that gives no group a text: it has no `=`, or what is before `=` names
+    /// no group of the pattern, or one that several components have.
     Word(&'w str),
     /// Memory ran out.
     OutOfMemory,
@@ -30,8 +30,7 @@ impl From<AllocError> for ArgumentError<'_> {
     }
 }
 
-/// Parses arguments, each of which gives the text for a group. After the name of a component and a
-/// dot, any name of a group is accepted.
+/// Parses arguments, each of which gives the text for a group of the pattern.
 ///
 /// The error is the first argument that gives no group a text, or that memory ran out.
 pub fn given_by<'w>(
@@ -59,12 +58,12 @@ pub fn given_by<'w>(
 }
 
 /// Parses an argument that gives the text for a group: what names the group, `=`, and the text.
-/// `None`: the argument has no `=`, or what is before it names no group.
+/// `None`: the argument has no `=`, or what is before it names no group of the pattern.
 fn word_group<'w>(pattern: &UrlPattern<PatternRegexp>, word: &'w str) -> Option<GivenGroup<'w>>
     ensures given { IfSome result (WordGivesGroup (pattern_view pattern.now) word.now) }
     ensures nothing { IfNone result (WordGivesNothing (pattern_view pattern.now) word.now) }
 {
     let (name, text) = word.split_once('=')?;
-    let (component, group) = named_group(pattern, name)?;
+    let (component, group) = own_group(pattern, name)?;
     Some((component, group, text))
 }

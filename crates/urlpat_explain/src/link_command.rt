@@ -13,7 +13,7 @@ use std::alloc::Global;
 use std::io;
 use std::io::Write;
 use url::Url;
-use urlpat_matching::{DONE, FAILED, Flags, LinkArguments, NO_MATCH, compiled, write_refusal};
+use urlpat_matching::{DONE, FAILED, Flags, LinkArguments, NO_MATCH, compiled_or_report};
 use urlpattern_engine::PatternRegexp;
 use urlpattern_generate::NoLink;
 use urlpattern_pattern::UrlPattern;
@@ -21,7 +21,7 @@ use urlpattern_pattern::UrlPattern;
 /// The reason why `link` has no URL.
 #[derive(Drop)]
 pub enum LinkError<'w> {
-    /// The argument that gives no group a text.
+    /// The first argument that gives no group a text.
     Word(&'w str),
     /// The pattern has no URL with these texts for its groups.
     NoLink(NoLink),
@@ -43,10 +43,12 @@ pub fn link<Out: Write, Err: Write>(
         → WritesLink flags.ignore_case asked.entry (Out.contents out.old) (Out.contents out.new) }
     ensures refused { result ≡ NO_MATCH
         → HasNoLink flags.ignore_case asked.entry × (out.new ≡ out.old) }
+    ensures quiet { result ≡ DONE → err.new ≡ err.old }
 {
-    let pattern = match compiled(alloc, asked.pattern, asked.base, flags.ignore_case) {
-        Ok(pattern) => pattern,
-        Err(error) => return write_refusal(alloc, None, asked.pattern, asked.base, error, err),
+    let ignores = flags.ignore_case;
+    let pattern = compiled_or_report(alloc, None, asked.pattern, asked.base, ignores, err);
+    let Some(pattern) = pattern else {
+        return FAILED;
     };
     let found = linked(alloc, &pattern, asked.groups);
     drop(pattern);

@@ -6,8 +6,7 @@ use Rattle.std.specs.Io.KnownBytes.{Appends}
 use Rattle.std.specs.Io.BufRead.{drop_through, take_through}
 use Rattle.bstr.proofs.lemmas.RecordLemmas.{records-nil, records-step}
 use Rattle.urlpat_matching.specs.LineAnswers.{AppendsAnswer, AppendsAnswerTo, AreAnswersTo, IsAnswerTo, IsRejectedLine, lines_of, selected_by}
-use Rattle.urlpat_matching.specs.Lines.{IsLineKept}
-use Rattle.urlpat_matching.specs.declared.lines.TheConstants.{LONGEST}
+use Rattle.urlpat_matching.specs.Lines.{IsLineKept, longest}
 use Rattle.urlpat_matching.specs.declared.answers.Verdict.{Verdict}
 use Rattle.urlpat_matching.specs.declared.answers.Verdict.TheVariants as verdicts
 
@@ -19,7 +18,7 @@ appends-both (Some x) (Some y) None first second p q = absurd q
 appends-both (Some x) (Some y) (Some z) first second p q = q ∙ ap (λ l. l ++ second) p ∙ append_assoc x first second
 
 -- A line that is not rejected.
-pub not-refused : (line : List ℕ) → length line ≤ LONGEST → IsUtf8 (without_terminator line) → ¬ IsRejectedLine line
+pub not-refused : (line : List ℕ) → length line ≤ longest → IsUtf8 (without_terminator line) → ¬ IsRejectedLine line
 not-refused line short is (inl long) = omega (arith, short, long)
 not-refused line short is (inr other) = other is
 
@@ -59,7 +58,7 @@ module _ (Answers : (text line : List ℕ) → Verdict → (written : List ℕ) 
   completes-none text (x ∷ rest) selected so_far none completes = absurd (omega (arith, none))
 
   -- The output of a rule for a line.
-  pub answers-text : {E : Type 0} (line text old new : List ℕ) (answer : Result Verdict E) → length line ≤ LONGEST → text ≡ without_terminator line → IsUtf8 text
+  pub answers-text : {E : Type 0} (line text old new : List ℕ) (answer : Result Verdict E) → length line ≤ longest → text ≡ without_terminator line → IsUtf8 text
       → IfOk answer (AppendsAnswer Answers text line old new) → IfOk answer (AppendsAnswerTo Answers line old new)
   answers-text line text old new (Err error) short same is answered = answered
   answers-text line text old new (Ok verdict) short same is answered = (
@@ -80,4 +79,4 @@ selected-most verdicts.Selected = omega arith
 selected-most verdicts.Passed = omega arith
 selected-most verdicts.NoUrl = omega arith
 selected-most verdicts.SelectedNoUrl = omega arith
-selected-most verdicts.Refused = omega arith
+selected-most verdicts.Rejected = omega arith

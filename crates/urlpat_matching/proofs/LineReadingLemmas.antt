@@ -4,8 +4,7 @@ use Rattle.std.specs.Prelude.{MatchBool, nat_eq}
 use Rattle.std.specs.Io.KnownBytes.{Consumes}
 use Rattle.std.specs.Io.BufRead.{take_through}
 use Rattle.std.proofs.BufReadLemmas.{take_through-nil, take_through_nonempty}
-use Rattle.urlpat_matching.specs.Lines.{IsAppended, IsLineKept}
-use Rattle.urlpat_matching.specs.declared.lines.TheConstants.{LONGEST}
+use Rattle.urlpat_matching.specs.Lines.{IsAppended, IsLineKept, longest}
 
 -- Two reads consume one text after the other.
 pub consumes-both : (a b c : Option (List ℕ)) (first second : List ℕ) → Consumes a b first → Consumes b c second → Consumes a c (first ++ second)
@@ -18,11 +17,11 @@ consumes-both (Some x) (Some y) (Some z) first second p q = p ∙ ap (λ l. firs
 pub kept-appended : (old new line part : List ℕ) → IsLineKept old line → IsAppended old new part → IsLineKept new (line ++ part)
 kept-appended old new line part (inl same) (inl grown) = inl (grown ∙ ap (λ l. l ++ part) same)
 kept-appended old new line part (inl same) (inr stays) =
-    inr (subst (λ l. LONGEST < length l) (sym stays.1) stays.0, omega (arith, length-append line part, stays.0, ap length same))
+    inr (subst (λ l. longest < length l) (sym stays.1) stays.0, omega (arith, length-append line part, stays.0, ap length same))
 kept-appended old new line part (inr long) (inl grown) =
     inr (omega (arith, ap length grown, length-append old part, long.0), omega (arith, length-append line part, long.1))
 kept-appended old new line part (inr long) (inr stays) =
-    inr (subst (λ l. LONGEST < length l) (sym stays.1) stays.0, omega (arith, length-append line part, long.1))
+    inr (subst (λ l. longest < length l) (sym stays.1) stays.0, omega (arith, length-append line part, long.1))
 
 -- If the kept part of a line is not empty, bytes were left.
 pub kept-some : (kept bytes : List ℕ) → IsLineKept kept (take_through 10 bytes) → 0 < length kept → 0 < length bytes

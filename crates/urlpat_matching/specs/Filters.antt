@@ -1,8 +1,9 @@
 -- The output of a rule for the lines of a reader, with a count if lines are counted. Texts are
 -- bytes. `old` and `new` are the output before and after, as far as it is known.
-use Rattle.std.specs.Prelude.{◌≡◌, ℕ, Bool, List, [], ◌++◌, codes, decimal, nat_lt, IfSome, Option}
+use Rattle.std.specs.Prelude.{◌≡◌, ℕ, List, [], ◌++◌, codes, decimal, nat_lt, IfSome, Option}
 use Rattle.std.specs.Io.KnownBytes.{Appends}
 use Rattle.urlpat_matching.specs.LineAnswers.{AreAnswersTo, lines_of}
+use Rattle.urlpat_matching.specs.Status.{status_of}
 use Rattle.urlpat_matching.specs.declared.answers.Verdict.{Verdict}
 use Rattle.urlpat_matching.specs.declared.command.Shape.{Shape}
 use Rattle.urlpat_matching.specs.declared.command.Shape.TheVariants as shapes
@@ -19,17 +20,16 @@ count_line (shapes.Group component name) selected = []
 count_line shapes.Json selected = []
 
 -- The output of the rule `Answers` for the lines of a text is written, and after it the count if
--- lines are counted. `any` says whether a line is selected.
+-- lines are counted. The exit status says whether a line is selected.
 abbrev pub FiltersText : (Answers : (text line : List ℕ) → Verdict → (written : List ℕ) → Type 0)
-    → Shape
-    → (text : List ℕ) → (any : Bool) → (old new : Option (List ℕ)) → Type 0
-FiltersText Answers shape text any old new =
+    → Shape → (status : ℕ) → (text : List ℕ) → (old new : Option (List ℕ)) → Type 0
+FiltersText Answers shape status text old new =
     (selected : ℕ) × (written : List ℕ) × AreAnswersTo Answers (lines_of text) selected written
-    × Appends old new (written ++ count_line shape selected) × (any ≡ nat_lt 0 selected)
+    × Appends old new (written ++ count_line shape selected)
+    × (status ≡ status_of (nat_lt 0 selected))
 
 -- `FiltersText` for the lines of a reader, if the contents of the reader (`input`) are known.
 abbrev pub Filters : (Answers : (text line : List ℕ) → Verdict → (written : List ℕ) → Type 0)
-    → Shape
-    → (input old new : Option (List ℕ)) → (any : Bool) → Type 0
-Filters Answers shape input old new any =
-    IfSome input (λ text. FiltersText Answers shape text any old new)
+    → Shape → (status : ℕ) → (input old new : Option (List ℕ)) → Type 0
+Filters Answers shape status input old new =
+    IfSome input (λ text. FiltersText Answers shape status text old new)

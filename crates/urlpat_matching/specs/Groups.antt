@@ -1,5 +1,5 @@
 -- The groups of a pattern, and the words that name them. Texts are bytes.
-use Rattle.std.specs.Prelude.{◌≡◌, ◌⊎◌, ◌<◌, ◌==◌, ℕ, Bool, List, [], ◌∷◌, bytes_eq, codes, length, slice_index}
+use Rattle.std.specs.Prelude.{◌≡◌, ◌⊎◌, ◌<◌, ◌==◌, ℕ, Bool, IsTrue, List, [], ◌∷◌, bytes_eq, codes, length, slice_index}
 use Rattle.std.specs.{List.filter, Str.chars}
 use Rattle.std.specs.List.{after_first, before_first, list_any, position_or_len}
 use Rattle.urlpattern_components.specs.declared.eight.ComponentName.{ComponentName}
@@ -50,3 +50,16 @@ IsGroupNamed pattern word component name =
 abbrev pub NamesNoGroup : {E : Type 0} → PatternView E → (word : List ℕ) → Type 0
 NamesNoGroup pattern word =
     (component : ComponentName) (name : List ℕ) → ¬ IsGroupNamed pattern word component name
+
+-- `word` names the group `name` of the component, and the pattern has it.
+abbrev pub IsOwnGroup : {E : Type 0} → PatternView E → (word : List ℕ) → ComponentName
+    → (name : List ℕ) → Type 0
+IsOwnGroup pattern word component name =
+    IsGroupNamed pattern word component name × IsTrue (has_group pattern (chars name) component)
+
+-- `word` names no group of the pattern: no group at all, or one that the pattern lacks.
+abbrev pub LacksGroup : {E : Type 0} → PatternView E → (word : List ℕ) → Type 0
+LacksGroup pattern word =
+    NamesNoGroup pattern word
+    ⊎ ((component : ComponentName) × (name : List ℕ) × IsGroupNamed pattern word component name
+    × ¬ IsTrue (has_group pattern (chars name) component))

@@ -6,7 +6,7 @@ use Rattle.std.specs.Io.KnownBytes.{Appends}
 use Rattle.bstr.specs.Records.{records}
 use Rattle.bstr.specs.Text.{without_terminator}
 use Rattle.std.specs.Str.{IsUtf8}
-use Rattle.urlpat_matching.specs.declared.lines.TheConstants.{LONGEST}
+use Rattle.urlpat_matching.specs.Lines.{longest}
 use Rattle.urlpat_matching.specs.declared.answers.Tally.{Tally}
 use Rattle.urlpat_matching.specs.declared.answers.Verdict.{Verdict}
 use Rattle.urlpat_matching.specs.declared.answers.Verdict.TheVariants as verdicts
@@ -24,7 +24,7 @@ AppendsAnswer Answers text line old new verdict =
 
 -- The line is rejected before the rule sees it: it is too long, or not UTF-8.
 abbrev pub IsRejectedLine : List ℕ → Type 0
-IsRejectedLine line = (LONGEST < length line) ⊎ ¬ IsUtf8 (without_terminator line)
+IsRejectedLine line = (longest < length line) ⊎ ¬ IsUtf8 (without_terminator line)
 
 -- 1 if the verdict is that its line is selected, else 0.
 abbrev pub selected_by : Verdict → ℕ
@@ -34,10 +34,10 @@ selected_by verdict = 0
 
 module _ (Answers : (text line : List ℕ) → Verdict → (written : List ℕ) → Type 0) where
   -- The verdict on a line and what is written for it: by the rule, or, for a line that is rejected,
-  -- `Refused` and nothing.
+  -- `Rejected` and nothing.
   abbrev pub IsAnswerTo : (line : List ℕ) → Verdict → (written : List ℕ) → Type 0
   IsAnswerTo line verdict written =
-      (IsRejectedLine line × (verdict ≡ verdicts.Refused) × (written ≡ []))
+      (IsRejectedLine line × (verdict ≡ verdicts.Rejected) × (written ≡ []))
       ⊎ ((¬ IsRejectedLine line) × Answers (without_terminator line) line verdict written)
 
   -- The number of selected lines among these lines, and what is written for them, line by line.

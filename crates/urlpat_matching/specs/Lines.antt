@@ -2,17 +2,20 @@
 use Rattle.std.specs.Prelude.{◌≡◌, ◌≢◌, ◌⊎◌, ℕ, ◌<◌, Bool, List, ◌++◌, All, length, Option, OnSome, MatchBool}
 use Rattle.std.specs.Io.{StopsAt, IsEmptyOrEndsWith}
 use Rattle.std.specs.Io.KnownBytes.{Consumes, IsAtEnd}
-use Rattle.urlpat_matching.specs.declared.lines.TheConstants.{LONGEST}
 
--- `kept` is what `read_line` keeps of the line: all of it, or, of a line longer than `LONGEST`,
--- some text that is longer than `LONGEST` too.
+-- The maximum length of a line in bytes, its end included.
+abbrev pub longest : ℕ
+longest = 16777216
+
+-- `kept` is what `read_line` keeps of the line: all of it, or, of a line longer than `longest`,
+-- some text that is longer than `longest` too.
 abbrev pub IsLineKept : (kept line : List ℕ) → Type 0
-IsLineKept kept line = (kept ≡ line) ⊎ ((LONGEST < length kept) × (LONGEST < length line))
+IsLineKept kept line = (kept ≡ line) ⊎ ((longest < length kept) × (longest < length line))
 
--- `new` is the line `old` with `part` appended; or `old` itself, which is longer than `LONGEST`, so
+-- `new` is the line `old` with `part` appended; or `old` itself, which is longer than `longest`, so
 -- that `part` is dropped.
 abbrev pub IsAppended : (old new part : List ℕ) → Type 0
-IsAppended old new part = (new ≡ old ++ part) ⊎ ((LONGEST < length old) × (new ≡ old))
+IsAppended old new part = (new ≡ old ++ part) ⊎ ((longest < length old) × (new ≡ old))
 
 -- A part of the bytes that a reader has left is consumed and appended to the line `old`. `ended`
 -- says whether the line is complete: the part ends with a line end, or is empty at the end of the

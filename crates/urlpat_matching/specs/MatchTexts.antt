@@ -3,7 +3,7 @@ use Rattle.std.specs.Prelude.{◌⊎◌, ℕ, All, Bool, true, false, List, Opti
 use Rattle.std.specs.declared.alloc.Global.{Global}
 use Rattle.url.specs.Parts.{Parts}
 use Rattle.urlpat_matching.specs.GroupLines.{AreLines, all_named_results}
-use Rattle.urlpattern_canonical.specs.BaseUrls.{BaseView, IsRejectedUnder, IsUrlOf, IsUrlUnder, base_view}
+use Rattle.urlpattern_canonical.specs.BaseUrls.{BaseView, IsRejectedText, IsUrlOf, IsUrlUnder, base_view}
 use Rattle.urlpat_matching.specs.MatchJson.{IsMatchJson}
 use Rattle.urlpat_matching.specs.PatternWords.{IsPatternOf}
 use Rattle.urlpat_matching.specs.declared.command.Flags.{Flags}
@@ -38,20 +38,19 @@ IsMatchText flags pattern input base text =
     (compiled : PatternView PatternRegexp) × IsPatternOf flags.ignore_case pattern base compiled
     × IsMatchTextBy flags.json compiled input base text
 
+-- The input is a URL under the base URL, and the pattern has no match on it.
+abbrev pub HasNoMatchUnder : (compiled : PatternView PatternRegexp) → (input : List ℕ) → BaseView
+    → Type 0
+HasNoMatchUnder compiled input base =
+    (url : Parts) × IsUrlUnder input base url
+    × HasNoMatch pattern_result compiled (match_inputs.Url url)
+
 -- The pattern does not match the input: the input is not a URL under the base URL, or may be too
 -- long for `url`, or the pattern has no match on the URL.
-abbrev pub IsUnmatchedUnder : (compiled : PatternView PatternRegexp) → (input : List ℕ) → BaseView
-    → Type 0
-IsUnmatchedUnder compiled input base =
-    IsRejectedUnder input base
-    ⊎ ((url : Parts) × IsUrlUnder input base url
-    × HasNoMatch pattern_result compiled (match_inputs.Url url))
-
--- The pattern does not match the input (`IsUnmatchedUnder`), given the text of the base URL, or
--- `None` if there is no base URL.
 abbrev pub IsUnmatchedBy : (compiled : PatternView PatternRegexp) → (input : List ℕ)
     → (base : Option (List ℕ)) → Type 0
-IsUnmatchedBy compiled input base = IsUnmatchedUnder compiled input (base_view base)
+IsUnmatchedBy compiled input base =
+    IsRejectedText input base ⊎ HasNoMatchUnder compiled input (base_view base)
 
 -- The constructor string `pattern` is compiled to a pattern that does not match the input.
 abbrev pub IsUnmatched : (ignores : Bool) → (pattern input : List ℕ)
@@ -60,14 +59,12 @@ IsUnmatched ignores pattern input base =
     (compiled : PatternView PatternRegexp) × IsPatternOf ignores pattern base compiled
     × IsUnmatchedBy compiled input base
 
--- No pattern of the list matches the input: the input is not a URL under the base URL, or may be
--- too long for `url`, or no pattern has a match on the URL.
-abbrev pub IsUnmatchedByAllUnder : (compiled : List (PatternView PatternRegexp)) → (input : List ℕ)
+-- The input is a URL under the base URL, and no pattern of the list has a match on it.
+abbrev pub HaveNoMatchUnder : (compiled : List (PatternView PatternRegexp)) → (input : List ℕ)
     → BaseView → Type 0
-IsUnmatchedByAllUnder compiled input base =
-    IsRejectedUnder input base
-    ⊎ ((url : Parts) × IsUrlUnder input base url
-    × All (λ pattern. HasNoMatch pattern_result pattern (match_inputs.Url url)) compiled)
+HaveNoMatchUnder compiled input base =
+    (url : Parts) × IsUrlUnder input base url
+    × All (λ pattern. HasNoMatch pattern_result pattern (match_inputs.Url url)) compiled
 
 -- `found` is what is printed of the match of the input by the pattern to which the constructor
 -- string `pattern` is compiled. `None`: the input does not match.

@@ -22,7 +22,7 @@ pub enum Verdict {
     /// The line is selected, and not a URL.
     SelectedNoUrl,
     /// The line is not UTF-8, or too long.
-    Refused,
+    Rejected,
 }
 
 /// A rule that decides what is written for a line, and whether the line is selected, such as those
@@ -46,7 +46,7 @@ pub struct Tally {
     /// The number of lines that are not URLs.
     pub no_url: u64,
     /// The number of lines that are not UTF-8, or too long.
-    pub refused: u64,
+    pub rejected: u64,
 }
 
 /// The reason why not all lines were processed.
@@ -90,7 +90,7 @@ pub fn answer_lines<In: BufRead, Out: Write, Err: Write, R: Rule>(
     let mut tally = Tally {
         selected: 0,
         no_url: 0,
-        refused: 0,
+        rejected: 0,
     };
     let mut line = Vec::new(alloc);
     let mut written = Vec::new(alloc);
@@ -124,18 +124,18 @@ fn answer_line<R: Rule>(rule: &R, line: &[u8], written: &mut Vec<u8>) -> Result<
         (AppendsAnswerTo (R.Answers rule.now) line.now written.old.items written.new.items) }
 {
     if line.len() > LONGEST {
-        return Ok(Verdict::Refused);
+        return Ok(Verdict::Rejected);
     }
     match str::from_utf8(without_end(line)) {
         Ok(text) => rule.answer(text, line, written),
-        Err(_) => Ok(Verdict::Refused),
+        Err(_) => Ok(Verdict::Rejected),
     }
 }
 
-/// Reports that a line is too long or not UTF-8, if the verdict is `Refused`. `number` is how many
+/// Reports that a line is too long or not UTF-8, if the verdict is `Rejected`. `number` is how many
 /// lines are before it.
 fn report<Err: Write>(verdict: Verdict, number: u64, line: &[u8], err: &mut Err) {
-    if verdict == Verdict::Refused {
+    if verdict == Verdict::Rejected {
         let number = number.saturating_add(1);
         let _ = if line.len() > LONGEST {
             writeln!(err, "urlpat: line {number} is longer than {LONGEST} bytes")
@@ -165,8 +165,8 @@ fn counted(tally: Tally, verdict: Verdict) -> Tally
             no_url: tally.no_url.saturating_add(1),
             ..tally
         },
-        Verdict::Refused => Tally {
-            refused: tally.refused.saturating_add(1),
+        Verdict::Rejected => Tally {
+            rejected: tally.rejected.saturating_add(1),
             ..tally
         },
     }

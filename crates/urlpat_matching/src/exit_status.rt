@@ -12,8 +12,8 @@ use urlpattern_syntax::Error;
 pub const DONE: u8 = 0;
 
 /// The exit status of a run with a negative outcome: the input does not match, no line is selected,
-/// a pattern does not cover the other one, no pattern of a table is covered by an earlier one, or
-/// there is no URL for given groups.
+/// a pattern does not cover the other one, each pattern of a table is the first match of something,
+/// or there is no URL for given groups, as where an argument of `link` gives no group a text.
 pub const NO_MATCH: u8 = 1;
 
 /// The exit status of any other run.

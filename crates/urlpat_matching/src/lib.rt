@@ -24,10 +24,9 @@ pub use command::{
     TableArguments,
 };
 pub use exit_status::{DONE, FAILED, NO_MATCH, fail, print, report, status_of};
-pub use group_names::{has_group, named_group};
+pub use group_names::own_group;
 pub use json_output::{json_line, match_json, match_tree};
-pub use lines::{LONGEST, read_line, without_end};
-pub use notes::{first_diagnosis, match_diagnosis, note_of, write_refusal};
+pub use notes::{compiled_or_report, first_diagnosis, match_diagnosis, note_of, write_refusal};
 pub use pattern_matching::{capture_of, compiled, matched_groups, push_match};
 pub use table::{Entry, NoTable, entries_of};
 pub use writing::write_answers;

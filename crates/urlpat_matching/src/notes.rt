@@ -2,9 +2,12 @@
 //! a URL.
 
 ghost use Rattle.std.specs.Prelude.{◌≡◌, option_copied, IfOk, IfSome};
+ghost use Rattle.urlpat_matching.specs.PatternWords.{IsPatternOf, KeepsPartsOfWord};
 ghost use Rattle.urlpattern_canonical.specs.BaseUrls.{IsRejectedText};
+ghost use Rattle.urlpattern_pattern.specs.Patterns.{pattern_view};
 
 use crate::exit_status::FAILED;
+use crate::pattern_matching::compiled;
 use std::alloc::Global;
 use std::fmt;
 use std::io::Write;
@@ -94,6 +97,32 @@ pub fn write_refusal<Err: Write>(
     }
     drop(error);
     FAILED
+}
+
+/// Compiles a constructor string, under a base URL if there is one, with the engine
+/// `PatternRegexp`. `None`: the string or its base is rejected, or memory ran out, which is
+/// reported as by `write_refusal`.
+pub fn compiled_or_report<Err: Write>(
+    alloc: Global,
+    line: Option<u64>,
+    pattern: &str,
+    base: Option<&str>,
+    ignore_case: bool,
+    err: &mut Err,
+) -> Option<UrlPattern<PatternRegexp>>
+    ensures compiled { IfSome result (λ compiled.
+        IsPatternOf ignore_case pattern.now (option_copied base.entry) (pattern_view compiled)) }
+    ensures kept { IfSome result
+        (KeepsPartsOfWord ignore_case pattern.now (option_copied base.entry)) }
+    ensures quiet { IfSome result (λ compiled. err.new ≡ err.old) }
+{
+    match compiled(alloc, pattern, base, ignore_case) {
+        Ok(compiled) => Some(compiled),
+        Err(error) => {
+            write_refusal(alloc, line, pattern, base, error, err);
+            None
+        }
+    }
 }
 
 /// Returns a diagnosis of a constructor string and its base, as lines of text. `None`: neither is

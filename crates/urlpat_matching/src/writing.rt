@@ -1,17 +1,19 @@
 //! Writes the output of a rule for lines, and what is said of all of them.
 ghost use Rattle.std.specs.Io.KnownBytes.{Appends};
-ghost use Rattle.std.specs.Prelude.{◌≡◌, IfSome, OnOk, None, nat_lt};
+ghost use Rattle.std.specs.Prelude.{◌≡◌, ◌≢◌, ◌⊎◌, OnOk, nat_lt};
 ghost use Rattle.urlpat_matching.specs.Filters.{Filters, count_line};
+ghost use Rattle.urlpat_matching.specs.Status.{status_of};
 
 use crate::answers::{LinesError, Rule, Tally, answer_lines};
 use crate::command::Shape;
+use crate::exit_status::{DONE, FAILED, NO_MATCH, status_of};
 use std::alloc::Global;
 use std::io;
 use std::io::{BufRead, Write};
 
 /// Writes the output of a rule for the lines of a reader, and the number of selected lines if the
-/// shape is a count. Returns whether a line is selected. `None`: an error occurred, which is
-/// reported to `err` unless it is an error of the output.
+/// shape is a count. Returns the exit status: `NO_MATCH` if no line is selected, and `FAILED` after
+/// an error, which is reported to `err` unless it is an error of the output.
 pub fn write_answers<In: BufRead, Out: Write, Err: Write, R: Rule>(
     alloc: Global,
     rule: &R,
@@ -19,9 +21,10 @@ pub fn write_answers<In: BufRead, Out: Write, Err: Write, R: Rule>(
     input: &mut In,
     out: &mut Out,
     err: &mut Err,
-) -> Option<bool>
-    ensures { IfSome result (Filters (R.Answers rule.now) shape.entry (In.remaining input.old)
-        (Out.contents out.old) (Out.contents out.new)) }
+) -> u8
+    ensures status { (result ≡ DONE) ⊎ (result ≡ NO_MATCH) ⊎ (result ≡ FAILED) }
+    ensures written { result ≢ FAILED → Filters (R.Answers rule.now) shape.entry result
+        (In.remaining input.old) (Out.contents out.old) (Out.contents out.new) }
 {
     match answer_lines(alloc, rule, input, out, err) {
         Ok(tally) => finish(shape, tally, out, err),
@@ -30,24 +33,25 @@ pub fn write_answers<In: BufRead, Out: Write, Err: Write, R: Rule>(
 }
 
 /// Writes the count, if lines are counted, and reports how many lines were not URLs or were
-/// rejected. Returns whether a line is selected. `None`: the output failed.
+/// rejected. Returns the exit status: `NO_MATCH` if no line is selected, and `FAILED` if the output
+/// failed.
 fn finish<Out: Write, Err: Write>(
     shape: Shape<'_>,
     tally: Tally,
     out: &mut Out,
     err: &mut Err,
-) -> Option<bool>
-    ensures written { IfSome result (λ any.
-        Appends (Out.contents out.old) (Out.contents out.new)
-        (count_line shape.entry tally.selected)) }
-    ensures any { IfSome result (λ any. any ≡ nat_lt 0 tally.selected) }
+) -> u8
+    ensures status { (result ≡ DONE) ⊎ (result ≡ NO_MATCH) ⊎ (result ≡ FAILED) }
+    ensures written { result ≢ FAILED → Appends (Out.contents out.old) (Out.contents out.new)
+        (count_line shape.entry tally.selected) }
+    ensures any { result ≢ FAILED → result ≡ status_of (nat_lt 0 tally.selected) }
 {
     match write_count(shape, tally.selected, out) {
         Ok(()) => {
             report_tally(tally, err);
-            Some(tally.selected > 0)
+            status_of(tally.selected > 0)
         }
-        Err(_) => None,
+        Err(_) => FAILED,
     }
 }
 
@@ -70,24 +74,25 @@ fn report_tally<Err: Write>(tally: Tally, err: &mut Err) {
     let Tally {
         selected: _,
         no_url,
-        refused,
+        rejected,
     } = tally;
     if no_url > 0 {
         let _ = writeln!(err, "urlpat: lines that are no URL: {no_url}");
     }
-    if refused > 0 {
-        let _ = writeln!(err, "urlpat: lines that are refused: {refused}");
+    if rejected > 0 {
+        let _ = writeln!(err, "urlpat: lines that are rejected: {rejected}");
     }
 }
 
-/// Reports why not all lines were processed, unless the output failed. Always returns `None`.
-fn report_fault<Err: Write>(fault: &LinesError, err: &mut Err) -> Option<bool>
-    ensures { result ≡ None }
+/// Reports why not all lines were processed, unless the output failed. Returns the exit status,
+/// `FAILED`.
+fn report_fault<Err: Write>(fault: &LinesError, err: &mut Err) -> u8
+    ensures { result ≡ FAILED }
 {
     let _ = match fault {
         LinesError::Read(error) => writeln!(err, "urlpat: standard input cannot be read: {error}"),
         LinesError::Write => Ok(()),
         LinesError::OutOfMemory => err.write_all(b"out of memory\n"),
     };
-    None
+    FAILED
 }

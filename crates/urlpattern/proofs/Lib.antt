@@ -3,6 +3,7 @@ pub use Rattle.urlpattern_laws.proofs.UsersExample
 pub use Rattle.urlpattern_laws.proofs.SiteRoutes
 pub use Rattle.urlpattern_laws.proofs.OrdersExample
 pub use Rattle.urlpattern_laws.proofs.DocsExample
+pub mod ContendingLaws
 pub mod CoveredRoutes
 pub mod FixedLemmas
 pub mod ListLemmas

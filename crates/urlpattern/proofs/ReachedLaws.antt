@@ -1,25 +1,21 @@
 -- The patterns of a list that are the first match of some texts, and those that never are.
-use Rattle.std.proofs.Common.{◌≡◌, ◌≢◌, ◌∙◌, ◌↔◌, ◌⊎◌, ◌<◌, ◌++◌, ℕ, Bool, true, false, true≢false, zero, suc, List, [], ◌∷◌, ap, arith, inl, inr, length, map, refl, subst, sym, take}
+use Rattle.std.proofs.Common.{◌≡◌, ◌≢◌, ◌∙◌, ◌↔◌, ◌++◌, ℕ, Bool, true, false, true≢false, zero, suc, List, [], ◌∷◌, ap, inl, inr, map, refl, subst, sym, take}
 use Rattle.std.proofs.lemmas.List.{take-map}
 use Rattle.std.proofs.lemmas.List.Elements.{All-append, All-cons, All-head, All-nil, All-tail, All-weaker}
 use Rattle.std.proofs.lemmas.Option.{slice_get-map}
 use Rattle.std.specs.Prelude.{All, Ok, Option, None, Some, IsTrue, String, Vec, is_some, option_map, slice_get}
 use Rattle.std.specs.declared.alloc.Global.{Global}
-use Rattle.url.specs.Parts.{IsValid, Parts}
-use Rattle.urlpattern.specs.Contending.{AreApart, ContendingMatch, HasNoTexts, HasTexts, IsAnswer, IsContended, IsContention, MatchesAllOf, MatchesAlone, OthersDoNotContend}
-use Rattle.urlpattern.specs.FirstMatch.{FirstView, IsFirstMatch, patterns_view}
+use Rattle.urlpattern.specs.FirstMatch.{patterns_view}
 use Rattle.urlpattern.specs.Reached.{AreReachedBy, HasAutomata, HaveAllAutomata, MatchesStrings, ReachedAreFirst, UnreachedAreNeverFirst}
 use Rattle.urlpattern_compare.proofs.SameParts.{known_or_not, same_flips, same_within}
 use Rattle.urlpattern_compare.proofs.TogetherLemmas.{all_each}
 use Rattle.urlpattern_compare.specs.Candidates.{AreLines, TextAt}
-use Rattle.urlpattern_compare.specs.CommonTexts.{AreCommon, AreMeanings, MeanAlike, MeansByParts, MeansEach, PatternMeaning, parts_of, string_at}
-use Rattle.urlpattern_compare.specs.Comparing.{AreSame, IsKnown}
+use Rattle.urlpattern_compare.specs.CommonTexts.{AreMeanings, MeanAlike, MeansByParts, MeansEach, PatternMeaning, parts_of, string_at}
+use Rattle.urlpattern_compare.specs.Comparing.{AreSame}
 use Rattle.urlpattern_compare.specs.CoveringTogether.{AreCovering, at_each}
 use Rattle.urlpattern_compare.specs.Reaching.{AreReached, IsReach}
 use Rattle.urlpattern_compare.specs.TextSearch.{IsLine}
 use Rattle.urlpattern_compare.specs.declared.candidates.Limits.{Limits}
-use Rattle.urlpattern.specs.declared.contention.Contended.{Contended}
-use Rattle.urlpattern_compare.specs.declared.common_texts.Common.TheVariants.{Texts as CommonTexts}
 use Rattle.urlpattern_compare.specs.declared.common_texts.PatternAutomata.{PatternAutomata}
 use Rattle.urlpattern_compare.specs.declared.pattern_parts.PatternParts.{PatternParts}
 use Rattle.urlpattern_compare.specs.declared.reaching.Reach.{Reach}
@@ -56,11 +52,11 @@ module _ {E : Type 0} (engine : Engine E) where
       (pattern asked : PatternView E) (parts asked_parts : PatternParts) → AreMadeOfParts engine parts pattern → AreMadeOfParts engine asked_parts asked →
       SameAreMatched engine.answer pattern asked parts asked_parts
 
-  abbrev matches : PatternView E → ComponentName → List ℕ → Bool
+  abbrev pub matches : PatternView E → ComponentName → List ℕ → Bool
   matches view name text = is_some (answered engine.answer (view name).matcher text).0
 
   -- The meaning is that of a pattern, made of its parts, for which `Holds` is.
-  abbrev IsMeaningOf : (Holds : PatternView E → Type 0) → PatternMeaning → Type 0
+  abbrev pub IsMeaningOf : (Holds : PatternView E → Type 0) → PatternMeaning → Type 0
   IsMeaningOf Holds it = (view : PatternView E) × AreMadeOfParts engine it.parts view × ((name : ComponentName) (text : List ℕ) → it.means name text ≡ matches view name text) × Holds view
 
   -- A pattern for which `Holds` is was made of the parts.
@@ -71,7 +67,7 @@ module _ {E : Type 0} (engine : Engine E) where
   by_result matcher text None none = (λ never. absurd (true≢false (sym never)), λ matched. absurd (none matched.0 matched.1))
   by_result matcher text (Some captures) is = (λ yes. (captures, is), λ matched. refl)
 
-  matches_are : (view : PatternView E) (name : ComponentName) (text : List ℕ) → IsTrue (matches view name text) ↔ IsMatched engine.answer (view name).matcher text
+  pub matches_are : (view : PatternView E) (name : ComponentName) (text : List ℕ) → IsTrue (matches view name text) ↔ IsMatched engine.answer (view name).matcher text
   matches_are view name text = let all = answered engine.answer (view name).matcher text in by_result (view name).matcher text all.0 all.1
 
   module _ (mean : OwnPartsMean engine) (same_match : SameMatch) where
@@ -122,7 +118,7 @@ module _ {E : Type 0} (engine : Engine E) where
     weaker Holds Also to all each = All-weaker (IsMeaningOf Holds) (IsMeaningOf Also) (λ it is. (is.0, is.1, is.2, to is.0 is.3)) all each
 
     -- Meanings of patterns that the engine made.
-    are_meanings : (Holds Also : PatternView E → Type 0) (all none : List PatternMeaning) (all_of none_of : List PatternAutomata) → map (λ it. it.parts) all ≡ parts_of all_of → map (λ it. it.parts) none ≡ parts_of none_of
+    pub are_meanings : (Holds Also : PatternView E → Type 0) (all none : List PatternMeaning) (all_of none_of : List PatternAutomata) → map (λ it. it.parts) all ≡ parts_of all_of → map (λ it. it.parts) none ≡ parts_of none_of
         → All (IsMeaningOf Holds) all → All (IsMeaningOf Also) none → AreMeanings (parts_of all_of) (parts_of none_of) all none
     are_meanings Holds Also all none all_of none_of all_parts none_parts are also =
         let Any : PatternView E → Type 0 = λ view. Unit {0} in
@@ -137,7 +133,7 @@ module _ {E : Type 0} (engine : Engine E) where
 
     -- ---- texts
 
-    abbrev Matches : TextAt → PatternView E → Type 0
+    abbrev pub Matches : TextAt → PatternView E → Type 0
     Matches texts view = (name : ComponentName) → IsMatched engine.answer (view name).matcher (texts name)
 
     matched_each : (texts : TextAt) (all : List PatternMeaning) → All (IsMeaningOf (Matches texts)) all → All (λ it. MeansEach it texts) all
@@ -162,7 +158,7 @@ module _ {E : Type 0} (engine : Engine E) where
 
     -- ---- patterns at an index
 
-    there : (patterns : List (UrlPattern E)) (all : List PatternAutomata) → HaveAllAutomata engine patterns all → (i : ℕ) (it : PatternAutomata) → slice_get all i ≡ Some it
+    pub there : (patterns : List (UrlPattern E)) (all : List PatternAutomata) → HaveAllAutomata engine patterns all → (i : ℕ) (it : PatternAutomata) → slice_get all i ≡ Some it
         → (pattern : UrlPattern E) × (slice_get patterns i ≡ Some pattern) × HasAutomata engine pattern it
     there [] [] have i it at_i = absurd cc
     there [] (other ∷ all) have i it at_i = absurd have
@@ -170,7 +166,7 @@ module _ {E : Type 0} (engine : Engine E) where
     there (pattern ∷ patterns) (other ∷ all) have zero it at_i = let same : other ≡ it = cc in (pattern, refl, subst (HasAutomata engine pattern) same have.0)
     there (pattern ∷ patterns) (other ∷ all) have (suc i) it at_i = there patterns all have.1 i it at_i
 
-    there_also : (patterns : List (UrlPattern E)) (all : List PatternAutomata) → HaveAllAutomata engine patterns all → (i : ℕ) (pattern : UrlPattern E) → slice_get patterns i ≡ Some pattern
+    pub there_also : (patterns : List (UrlPattern E)) (all : List PatternAutomata) → HaveAllAutomata engine patterns all → (i : ℕ) (pattern : UrlPattern E) → slice_get patterns i ≡ Some pattern
         → (it : PatternAutomata) × (slice_get all i ≡ Some it)
     there_also [] all have i pattern at_i = absurd cc
     there_also (other ∷ patterns) [] have i pattern at_i = absurd have
@@ -301,113 +297,3 @@ module _ {E : Type 0} (engine : Engine E) where
     pub reached_first : ReachedAreFirst engine
     reached_first patterns limits found reached index texts has_texts pattern pattern_there =
         is_first patterns limits found reached.0 reached.1 reached.2 index texts has_texts pattern pattern_there
-
-    -- ---- patterns that contend
-
-    abbrev meaning_of : (it : PatternAutomata) → PatternView E → PatternMeaning
-    meaning_of it view = record { parts = it.parts; means = matches view }
-
-    has_meaning : (it : PatternAutomata) (view : PatternView E) → AreMadeOfParts engine it.parts view → IsMeaningOf Any (meaning_of it view)
-    has_meaning it view made = (view, made, λ name text. refl, tt)
-
-    by_meaning : (it : PatternAutomata) (view : PatternView E) (texts : Eight (String Global)) → MeansEach (meaning_of it view) (string_at texts) → MatchesStrings engine.answer texts view
-    by_meaning it view texts each name = (matches_are view name (string_at texts name)).0 (each name)
-
-    alone_match : (limits : Limits) (one other : PatternAutomata) (view another : PatternView E) → AreMadeOfParts engine one.parts view → AreMadeOfParts engine other.parts another
-        → HasTexts limits (one ∷ []) (other ∷ []) → MatchesAlone engine.answer view another
-    alone_match limits one other view another made made_too has =
-        let own = meaning_of one view in
-        let others = meaning_of other another in
-        let common = has.1.0 (own ∷ []) (others ∷ []) (are_meanings Any Any (own ∷ []) (others ∷ []) (one ∷ []) (other ∷ []) refl refl
-        (All-cons (IsMeaningOf Any) own [] (has_meaning one view made) (All-nil (IsMeaningOf Any))) (All-cons (IsMeaningOf Any) others [] (has_meaning other another made_too) (All-nil (IsMeaningOf Any)))) in (
-          has.0,
-          by_meaning one view has.0 (All-head (λ it. MeansEach it (string_at has.0)) own [] common.meant),
-          λ each. All-head (λ it. ¬ MeansEach it (string_at has.0)) others [] common.unmeant (λ name. (matches_are another name (string_at has.0 name)).1 (each name)),
-        )
-
-    both_match : (limits : Limits) (one other : PatternAutomata) (view another : PatternView E) (texts : Eight (String Global)) → AreMadeOfParts engine one.parts view → AreMadeOfParts engine other.parts another
-        → IsAnswer limits (one ∷ other ∷ []) [] (CommonTexts texts) → MatchesStrings engine.answer texts view × MatchesStrings engine.answer texts another
-    both_match limits one other view another texts made made_too is =
-        let own = meaning_of one view in
-        let others = meaning_of other another in
-        let common = is.0 (own ∷ others ∷ []) [] (are_meanings Any Any (own ∷ others ∷ []) [] (one ∷ other ∷ []) [] refl refl
-        (All-cons (IsMeaningOf Any) own (others ∷ []) (has_meaning one view made) (All-cons (IsMeaningOf Any) others [] (has_meaning other another made_too) (All-nil (IsMeaningOf Any)))) (All-nil (IsMeaningOf Any))) in
-        let Means : PatternMeaning → Type 0 = λ it. MeansEach it (string_at texts) in (
-          by_meaning one view texts (All-head Means own (others ∷ []) common.meant),
-          by_meaning other another texts (All-head Means others [] (All-tail Means own (others ∷ []) common.meant)),
-        )
-
-    made_at : (patterns : List (UrlPattern E)) (all : List PatternAutomata) → HaveAllAutomata engine patterns all → (i : ℕ) (it : PatternAutomata) (pattern : UrlPattern E) → slice_get all i ≡ Some it → slice_get patterns i ≡ Some pattern
-        → AreMadeOfParts engine it.parts (pattern_view pattern)
-    made_at patterns all have i it pattern at_i pattern_there =
-        let (again, again_there, has) = there patterns all have i it at_i in
-        let same : again ≡ pattern = (let both : Some again ≡ Some pattern = sym again_there ∙ pattern_there in cc) in
-        subst (λ (p : UrlPattern E). AreMadeOfParts engine it.parts (pattern_view p)) same has.made
-
-    pub contending_match : ContendingMatch engine
-    contending_match patterns limits found (all, have, are) pair contains texts has_texts first second first_there second_there =
-        let (one, other, lt, at_one, at_other, some) = subst (IsContention limits all) contains.2 (are.contend contains.0 pair contains.1) in
-        let contended = subst (λ (it : Contended). IsContended limits one other (Some it)) has_texts some in
-        let made = made_at patterns all have pair.first one first at_one first_there in
-        let made_too = made_at patterns all have pair.second other second at_other second_there in
-        let both = both_match limits one other (pattern_view first) (pattern_view second) texts made made_too contended.0 in (
-          both.0,
-          both.1,
-          alone_match limits one other (pattern_view first) (pattern_view second) made made_too contended.1,
-          alone_match limits other one (pattern_view second) (pattern_view first) made_too made contended.2,
-        )
-
-    -- ---- patterns that do not contend
-
-    true_or_false : (b : Bool) → IsTrue b ⊎ (b ≡ false)
-    true_or_false true = inl refl
-    true_or_false false = inr refl
-
-    to_meaning : (it : PatternAutomata) (view : PatternView E) (texts : TextAt) → Matches texts view → MeansEach (meaning_of it view) texts
-    to_meaning it view texts each name = (matches_are view name (texts name)).1 (each name)
-
-    apart : (limits : Limits) (one other : PatternAutomata) (view another : PatternView E) → AreMadeOfParts engine one.parts view → AreMadeOfParts engine other.parts another
-        → HasNoTexts limits (one ∷ other ∷ []) [] → AreApart engine.answer view another
-    apart limits one other view another made made_too none texts lines first second =
-        let own = meaning_of one view in
-        let others = meaning_of other another in
-        let Means : PatternMeaning → Type 0 = λ it. MeansEach it texts in
-        none.0 (own ∷ others ∷ []) [] (are_meanings Any Any (own ∷ others ∷ []) [] (one ∷ other ∷ []) [] refl refl
-        (All-cons (IsMeaningOf Any) own (others ∷ []) (has_meaning one view made) (All-cons (IsMeaningOf Any) others [] (has_meaning other another made_too) (All-nil (IsMeaningOf Any)))) (All-nil (IsMeaningOf Any))) texts
-        (record {
-          lines = lines;
-          meant = All-cons Means own (others ∷ []) (to_meaning one view texts first) (All-cons Means others [] (to_meaning other another texts second) (All-nil Means));
-          unmeant = All-nil (λ it. ¬ MeansEach it texts);
-        })
-
-    within : (limits : Limits) (one other : PatternAutomata) (view another : PatternView E) → AreMadeOfParts engine one.parts view → AreMadeOfParts engine other.parts another
-        → HasNoTexts limits (one ∷ []) (other ∷ []) → MatchesAllOf engine.answer view another
-    within limits one other view another made made_too none texts lines first name =
-        let own = meaning_of one view in
-        let others = meaning_of other another in
-        let Means : PatternMeaning → Type 0 = λ it. MeansEach it texts in
-        let Fails : PatternMeaning → Type 0 = λ it. ¬ MeansEach it texts in
-        elim (true_or_false (matches another name (texts name))) [
-          | inl is ↦ (matches_are another name (texts name)).0 is
-          | inr is_not ↦
-              absurd (none.0 (own ∷ []) (others ∷ []) (are_meanings Any Any (own ∷ []) (others ∷ []) (one ∷ []) (other ∷ []) refl refl
-              (All-cons (IsMeaningOf Any) own [] (has_meaning one view made) (All-nil (IsMeaningOf Any))) (All-cons (IsMeaningOf Any) others [] (has_meaning other another made_too) (All-nil (IsMeaningOf Any)))) texts
-              (record {
-                lines = lines;
-                meant = All-cons Means own [] (to_meaning one view texts first) (All-nil Means);
-                unmeant = All-cons Fails others [] (λ each. true≢false (sym (each name) ∙ is_not)) (All-nil Fails);
-              }))
-        ]
-
-    pub others_do_not_contend : OthersDoNotContend engine
-    others_do_not_contend patterns limits found (all, have, are) i j first second lt first_there second_there no_pair =
-        let (one, at_one) = there_also patterns all have i first first_there in
-        let (other, at_other) = there_also patterns all have j second second_there in
-        let made = made_at patterns all have i one first at_one first_there in
-        let made_too = made_at patterns all have j other second at_other second_there in
-        elim (are.others i j one other lt at_one at_other) [
-          | inl pair ↦ absurd (no_pair pair)
-          | inr (inl none) ↦ inl (apart limits one other (pattern_view first) (pattern_view second) made made_too none)
-          | inr (inr (inl none)) ↦ inr (inl (within limits one other (pattern_view first) (pattern_view second) made made_too none))
-          | inr (inr (inr none)) ↦ inr (inr (within limits other one (pattern_view second) (pattern_view first) made_too made none))
-        ]

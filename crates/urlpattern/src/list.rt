@@ -48,16 +48,12 @@ use urlpattern_syntax::Error;
 
 /// A list of patterns in order, such as the routes of a router.
 ///
-/// With `pattern` as a function that compiles a constructor string, and `add` as one that pushes a
-/// pattern:
+/// With `pattern` as a function that compiles a constructor string:
 ///
 /// ```rust list
 /// let mut patterns = UrlPatternList::new(alloc);
-/// add(
-///     &mut patterns,
-///     pattern(alloc, "https://example.com/users/*")?,
-/// )?;
-/// add(&mut patterns, pattern(alloc, "https://example.com/*")?)?;
+/// patterns.try_push(pattern(alloc, "https://example.com/users/*")?)?;
+/// patterns.try_push(pattern(alloc, "https://example.com/*")?)?;
 /// ```
 #[derive(Debug)]
 pub struct UrlPatternList<R: RegExp = regex::Regex> {

@@ -1,4 +1,5 @@
-//! The pointer in a handle of C, to what the handle keeps.
+//! The pointer in a handle of C, to what the handle keeps. One type serves all handles, with two
+//! functions for each, since a function that C calls takes no struct with a type argument.
 ghost use Rattle.std.specs.Prelude.{◌≡◌, IsSome, Option, None, Some};
 ghost use Rattle.urlpattern_c.specs.Memory.{Kept, coded_kept, kept_patterns_box, kept_policy_box, kept_router_box};
 

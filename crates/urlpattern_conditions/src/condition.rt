@@ -16,7 +16,8 @@ use urlpattern_syntax::Error;
 pub enum Condition<R: RegExp = regex::Regex> {
     /// The pattern matches the URL.
     Url(Box<UrlPattern<R>>),
-    /// The attribute at this index has this name. Case counts.
+    /// The attribute at this index has this name. Case counts. Past the attributes of a request it
+    /// never holds, so `Not` of it always does.
     Name(usize, String),
     /// Each of the conditions holds. If there is none, it always holds.
     All(Vec<Condition<R>>),

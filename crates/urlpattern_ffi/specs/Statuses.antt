@@ -1,9 +1,10 @@
 -- The numbers of statuses for C.
 use Rattle.std.specs.Prelude.{ℕ}
 use Rattle.urlpattern_ffi.specs.declared.status.Status.{Status}
-use Rattle.urlpattern_ffi.specs.declared.status.Status.TheVariants.{NoMatch, Done, NoUrl, NoPath, TooLong, NotUtf8, Refused, OutOfMemory, NoPattern, TooSmall, Unknown, Shared, NotAllowed}
+use Rattle.urlpattern_ffi.specs.declared.status.Status.TheVariants.{NoMatch, Done, NoUrl, NoPath, TooLong, NotUtf8, Refused, OutOfMemory, NoPattern, TooSmall, Unknown, Shared, NotAllowed, NameTaken, NotAMethod}
 
--- The number of a status for C. `Done` is not 0, so that a variable of zeros is never `Done`.
+-- The number of a status for C. `Done` is not 0, so that a variable of zeros is never `Done`. No
+-- status has the number 13, by which a policy says that it denies credentials.
 abbrev pub status_number : Status → ℕ
 status_number NoMatch = 0
 status_number Done = 1
@@ -18,3 +19,5 @@ status_number TooSmall = 9
 status_number Unknown = 10
 status_number Shared = 11
 status_number NotAllowed = 12
+status_number NameTaken = 14
+status_number NotAMethod = 15

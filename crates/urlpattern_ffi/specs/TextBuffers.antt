@@ -16,7 +16,9 @@ use Rattle.urlpattern_components.specs.declared.eight.ComponentName.{ComponentNa
 use Rattle.urlpattern_engine.specs.PatternRegexps.{pattern_result}
 use Rattle.urlpattern_engine.specs.declared.pattern_regexp.PatternRegexp.{PatternRegexp}
 use Rattle.urlpattern_init.specs.declared.init.UrlPatternMatchInput.TheVariants as match_inputs
+use Rattle.urlpattern_matches.specs.BorrowedMatches.{IsCopyOfMatch}
 use Rattle.urlpattern_matches.specs.ResultJson.{IsResultTree, plain_results_view}
+use Rattle.urlpattern_matches.specs.declared.captures.UrlPatternCaptures.{UrlPatternCaptures}
 use Rattle.urlpattern_matches.specs.declared.result.UrlPatternResult.{UrlPatternResult}
 use Rattle.urlpattern_pattern.specs.UrlPatterns.{UrlPattern}
 
@@ -86,6 +88,11 @@ abbrev pub IsResultText : UrlPatternResult → (text : List ℕ) → Type 0
 IsResultText result text =
     (tree : Data) × IsResultTree (plain_results_view result) tree × (text ≡ compact_text tree)
     × (read text ≡ Some tree)
+
+-- `text` is the JSON of an owned copy of the match (`IsResultText`).
+abbrev pub IsMatchText : UrlPatternCaptures → (text : List ℕ) → Type 0
+IsMatchText found text =
+    (result : UrlPatternResult) × IsCopyOfMatch found result × IsResultText result text
 
 -- `text` is the JSON of the pattern's match of the URL `url` with the base URL `base`.
 pub record IsJsonOfMatch (pattern : PatternView PatternRegexp) (url base text : List ℕ) : Type 0

@@ -4,7 +4,7 @@ ghost use Rattle.std.specs.Prelude.{◌≢◌, string_bytes, IfErr, IfOk};
 ghost use Rattle.urlpattern.specs.Patterns.{pattern_view};
 ghost use Rattle.urlpattern_ffi.specs.Calls.{IsFirstReported, IsTested, IsUrlTested};
 ghost use Rattle.urlpattern_ffi.specs.KeptPatterns.{boxed_patterns};
-ghost use Rattle.urlpattern_ffi.specs.TextBuffers.{IsExecReported, IsJsonOfMatch, IsResultText, IsUrlExecuted};
+ghost use Rattle.urlpattern_ffi.specs.TextBuffers.{IsExecReported, IsJsonOfMatch, IsMatchText, IsUrlExecuted};
 ghost use Rattle.urlpattern_ffi.specs.declared.status.Status.TheVariants as statuses;
 
 use crate::pattern_box::{PatternBox, pattern_at};
@@ -13,7 +13,7 @@ use crate::text_buffers::write;
 use crate::url_inputs::url_of;
 use std::alloc::Global;
 use urlpattern::regexp::PatternRegexp;
-use urlpattern::{Error, UrlPattern, UrlPatternList, UrlPatternResult};
+use urlpattern::{Error, UrlPattern, UrlPatternCaptures, UrlPatternList};
 
 /// Matches the pattern at an index against a URL. `Done`: it matches. `NoMatch`: it does not.
 /// Any other status says why there is no URL.
@@ -156,7 +156,7 @@ fn match_text(
         (status ≢ statuses.Done) × IsUrlTested (pattern_view pattern.now) url.now base.now status) }
 {
     let url = url_of(alloc, url, base)?;
-    let found = match pattern.exec_url(alloc, &url) {
+    let found = match pattern.captures(alloc, &url) {
         Ok(Some(found)) => found,
         Ok(None) => return Err(Status::NoMatch),
         Err(_) => return Err(Status::OutOfMemory),
@@ -167,9 +167,9 @@ fn match_text(
     }
 }
 
-/// The JSON of a result, as text with no white space between tokens.
-pub(crate) fn json_text(alloc: Global, found: &UrlPatternResult) -> Result<String, Error>
-    ensures { IfOk result (λ text. IsResultText found.now (string_bytes text)) }
+/// The JSON of a match, as text with no white space between tokens.
+pub(crate) fn json_text(alloc: Global, found: &UrlPatternCaptures<'_, '_>) -> Result<String, Error>
+    ensures { IfOk result (λ text. IsMatchText found.now (string_bytes text)) }
 {
     let tree = found.to_json_value(alloc)?;
     let text = tree.to_string(alloc)?;

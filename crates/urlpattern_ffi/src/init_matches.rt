@@ -141,10 +141,7 @@ fn match_text(
         Ok(None) => return Err(Status::NoMatch),
         Err(_) => return Err(Status::OutOfMemory),
     };
-    let Ok(copy) = found.to_result(alloc) else {
-        return Err(Status::OutOfMemory);
-    };
-    match json_text(alloc, &copy) {
+    match json_text(alloc, &found) {
         Ok(text) => Ok(text),
         Err(_) => Err(Status::OutOfMemory),
     }

@@ -36,6 +36,11 @@ pub enum Status {
     Shared,
     /// Some route matches, but none that serves the method of the request.
     NotAllowed,
+    /// A route is not appended, since another one has its name.
+    NameTaken,
+    /// A route is not appended, since its method is no token of HTTP, or it has a name and no
+    /// method.
+    NotAMethod,
 }
 
 impl Status {
@@ -57,6 +62,8 @@ impl Status {
             Status::Unknown => 10,
             Status::Shared => 11,
             Status::NotAllowed => 12,
+            Status::NameTaken => 14,
+            Status::NotAMethod => 15,
         }
     }
 }

@@ -58,17 +58,6 @@ pub methods_written : (allowed : AllowedMethods (Unit {0}) PatternRegexp) (text 
 methods_written allowed text old new needed statuses.OutOfMemory are counted written = absurd written
 methods_written allowed text old new needed status are counted written = (text, are, counted, written)
 
-module _ (AreRead : Texts → Type 0) (AreUnread : Status → Type 0) (router : Router) (method : List ℕ) where
-  pub allowed_read : (texts : Texts) (old new : List ℕ) (needed : ℕ) (status : Status) → router.routes ≢ [] → AreRead texts
-      → AreAllowedMethods router (chars method) texts old new needed status → AreAllowedReported AreRead AreUnread router method old new needed status
-  allowed_read texts old new needed statuses.NoPattern some read answer = absurd answer
-  allowed_read texts old new needed status some read answer = (some, inl (texts, read, answer))
-
-  pub allowed_unread : (old : List ℕ) (needed : ℕ) (status : Status) → router.routes ≢ [] → (¬ AreUnread statuses.NoPattern) → AreUnread status
-      → AreAllowedReported AreRead AreUnread router method old old needed status
-  allowed_unread old needed statuses.NoPattern some never unread = absurd (never unread)
-  allowed_unread old needed status some never unread = (some, inr (inl unread, refl))
-
 -- What is reported for the method and the router as they were read is reported for those that
 -- are passed.
 pub allowed_of : (AreRead : Texts → Type 0) (AreUnread : Status → Type 0) (read given : Router) (method passed : List ℕ) (old new : List ℕ) (needed : ℕ) (status : Status)

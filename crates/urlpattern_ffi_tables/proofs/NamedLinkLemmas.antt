@@ -22,10 +22,9 @@ module _ (router : Router) (name text : List ℕ) (given : List GivenBytes) (old
   reason_written reason statuses.OutOfMemory (other, (groups, cut, refused)) same = ((groups, cut), same)
   reason_written reason status refused written = absurd written
 
-  pub link_reported : (status : Status) → router.routes ≢ [] → IsNamedLinkWritten router name text given old new needed status → IsRouteLinkReported router name text given old new needed status
-  link_reported statuses.NoPattern some (nothing, same) = (inr nothing, same)
-  link_reported statuses.NotUtf8 some written = absurd written
-  link_reported status some written = (some, written)
+  pub link_reported : (status : Status) → IsNamedLinkWritten router name text given old new needed status → IsRouteLinkReported router name text given old new needed status
+  link_reported statuses.NotUtf8 written = absurd written
+  link_reported status written = written
 
 -- What is reported for the router and the name as they were read is reported for those that are
 -- passed.

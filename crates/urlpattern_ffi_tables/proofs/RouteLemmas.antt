@@ -68,15 +68,15 @@ module _ (old new : Router) (pattern : UrlPattern PatternRegexp) where
 pub unnamed_refused : (old : Router) (pattern : UrlPattern PatternRegexp) (method : List ℕ) (error : RouteError) → method ≢ [] → IsRouteError old.routes None method error
     → IsRouteInserted old [] method pattern old (insert_status error)
 unnamed_refused old pattern [] error some why = absurd (some refl)
-unnamed_refused old pattern (byte ∷ bytes) errors.NameTaken some why = (inl why, refl)
-unnamed_refused old pattern (byte ∷ bytes) errors.NotAMethod some why = (inr why, refl)
+unnamed_refused old pattern (byte ∷ bytes) errors.NameTaken some why = (why, refl)
+unnamed_refused old pattern (byte ∷ bytes) errors.NotAMethod some why = (why, refl)
 unnamed_refused old pattern (byte ∷ bytes) errors.OutOfMemory some why = (why, refl)
 
 pub named_refused : (old : Router) (pattern : UrlPattern PatternRegexp) (name method : List ℕ) (error : RouteError) → name ≢ [] → IsRouteError old.routes (Some (chars name)) method error
     → IsRouteInserted old name method pattern old (insert_status error)
 named_refused old pattern [] method error some why = absurd (some refl)
-named_refused old pattern (byte ∷ bytes) method errors.NameTaken some why = (inl why, refl)
-named_refused old pattern (byte ∷ bytes) method errors.NotAMethod some why = (inr why, refl)
+named_refused old pattern (byte ∷ bytes) method errors.NameTaken some why = (why, refl)
+named_refused old pattern (byte ∷ bytes) method errors.NotAMethod some why = (why, refl)
 named_refused old pattern (byte ∷ bytes) method errors.OutOfMemory some why = (why, refl)
 
 pub pushed : (old new : Router) (name method : List ℕ) (pattern : UrlPattern PatternRegexp) (status : Status) → IsRouteInserted old name method pattern new status → IsRoutePushed old name method pattern new status
@@ -88,7 +88,8 @@ pushed old new name method pattern status inserted = inserted
 pub not_inserted : (old new : Router) (name method : List ℕ) (pattern : UrlPattern PatternRegexp) (status : Status) → status ≢ statuses.Done → IsRouteInserted old name method pattern new status
     → IsRouteInserted old name method pattern old status
 not_inserted old new name method pattern statuses.Done other inserted = absurd (other refl)
-not_inserted old new name method pattern statuses.Refused other inserted = (inserted.0, refl)
+not_inserted old new name method pattern statuses.NameTaken other inserted = (inserted.0, refl)
+not_inserted old new name method pattern statuses.NotAMethod other inserted = (inserted.0, refl)
 not_inserted old new name method pattern statuses.OutOfMemory other inserted = (inserted.0, refl)
 not_inserted old new name method pattern status other inserted = inserted
 
@@ -118,19 +119,6 @@ module _ (router : Router) (method : List ℕ) (texts : Texts) (old_index new_in
       subst (λ status. AreRouteCaptures router method texts old_index new_index old new old_spans new_spans needed status) (sym is) (none, some, at, bytes, spans)
   routed_written NotFound status none (is, at, bytes, spans) =
       subst (λ status. AreRouteCaptures router method texts old_index new_index old new old_spans new_spans needed status) (sym is) (none, at, bytes, spans)
-
-module _ (AreRead : Texts → Type 0) (AreUnread : Status → Type 0) (router : Router) (method : List ℕ) where
-  pub request_read : (texts : Texts) (old_index new_index : ℕ) (old new : List ℕ) (old_spans new_spans : List GroupSpan) (needed : Sizes) (status : Status)
-      → router.routes ≢ [] → AreRead texts → AreRouteCaptures router (chars method) texts old_index new_index old new old_spans new_spans needed status
-      → IsRequestReported AreRead AreUnread router method old_index new_index old new old_spans new_spans needed status
-  request_read texts old_index new_index old new old_spans new_spans needed statuses.NoPattern some read answer = absurd answer
-  request_read texts old_index new_index old new old_spans new_spans needed status some read answer = (some, inl (texts, read, answer))
-
-  pub request_unread : (old_index : ℕ) (old : List ℕ) (old_spans : List GroupSpan) (needed : Sizes) (status : Status)
-      → router.routes ≢ [] → (¬ AreUnread statuses.NoPattern) → AreUnread status
-      → IsRequestReported AreRead AreUnread router method old_index old_index old old old_spans old_spans needed status
-  request_unread old_index old old_spans needed statuses.NoPattern some never unread = absurd (never unread)
-  request_unread old_index old old_spans needed status some never unread = (some, inr (inl unread, refl, refl, refl))
 
 -- What is reported for the method and the router as they were read is reported for those that
 -- are passed.

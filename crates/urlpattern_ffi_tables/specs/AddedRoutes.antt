@@ -22,28 +22,30 @@ abbrev pub TakesRoute : Router → (name method : List ℕ) → Type 0
 TakesRoute router [] [] = Unit {0}
 TakesRoute router name method = IsNewName router.routes (given_word name) × IsToken method
 
--- The router rejects a route with this name and this method: a route has the name, or the method is
--- no token.
-abbrev pub RefusesRoute : Router → (name method : List ℕ) → Type 0
-RefusesRoute router [] [] = ⊥
-RefusesRoute router name method =
-    IsRouteError router.routes (given_word name) method errors.NameTaken
-    ⊎ IsRouteError router.routes (given_word name) method errors.NotAMethod
+-- The router rejects a route with this name and this method: a route has the name (`NameTaken`), or
+-- none has it, and the method is no token (`NotAMethod`).
+abbrev pub RejectsRoute : Router → (name method : List ℕ) → RouteError → Type 0
+RejectsRoute router [] [] error = ⊥
+RejectsRoute router name method error = IsRouteError router.routes (given_word name) method error
 
--- The status for a route that is not added: `OutOfMemory`, or `Refused` for any other error.
+-- The status for a route that is not added: it has the name of the error.
 abbrev pub insert_status : RouteError → Status
 insert_status errors.OutOfMemory = statuses.OutOfMemory
-insert_status error = statuses.Refused
+insert_status errors.NameTaken = statuses.NameTaken
+insert_status errors.NotAMethod = statuses.NotAMethod
 
 -- The outcome of appending a route with this name, this method and this pattern. `Done`: it is
--- appended. `Refused`, `OutOfMemory`: the router is unchanged.
+-- appended. `NameTaken`, `NotAMethod`: it is rejected (`RejectsRoute`). Unless `Done`, the router
+-- is unchanged.
 abbrev pub IsRouteInserted : (old : Router) → (name method : List ℕ) → UrlPattern PatternRegexp
     → (new : Router) → Status → Type 0
 IsRouteInserted old name method pattern new statuses.Done =
     AppendsRoute old (given_word name) (given_word method) pattern tt new
     × TakesRoute old name method
-IsRouteInserted old name method pattern new statuses.Refused =
-    RefusesRoute old name method × (new ≡ old)
+IsRouteInserted old name method pattern new statuses.NameTaken =
+    RejectsRoute old name method errors.NameTaken × (new ≡ old)
+IsRouteInserted old name method pattern new statuses.NotAMethod =
+    RejectsRoute old name method errors.NotAMethod × (new ≡ old)
 IsRouteInserted old name method pattern new statuses.OutOfMemory =
     TakesRoute old name method × (new ≡ old)
 IsRouteInserted old name method pattern new status = ⊥

@@ -1,7 +1,7 @@
 -- The methods of the routes that match a request which none of them serves, as a text.
 use Rattle.std.specs.Borrow.{Bor}
 use Rattle.std.specs.List.{join_by}
-use Rattle.std.specs.Prelude.{◌≡◌, ◌≢◌, ◌⊎◌, ◌+◌, ℕ, List, [], ◌∷◌, None, Some, codes, length}
+use Rattle.std.specs.Prelude.{◌≡◌, ◌⊎◌, ◌+◌, ℕ, List, [], ◌∷◌, None, Some, codes, length}
 use Rattle.std.specs.Str.{chars}
 use Rattle.urlpattern.specs.Routes.{CallsEngineOfRequest, IsNextMethod, IsRouted, IsServed, NoneAddsMethod, RoutesLeft, SomeMatches, all_routes, allowed_left}
 use Rattle.urlpattern.specs.declared.router.routed.Routed.{Routed}
@@ -68,19 +68,15 @@ AreAllowedMethods router method texts old new needed statuses.OutOfMemory =
     × (new ≡ old)
 AreAllowedMethods router method texts old new needed status = ⊥
 
--- The outcome of writing the methods for what is passed. `NoPattern`, and only this: the router has
--- no routes. Else either the request is for the texts for which `AreRead` is true
--- (`AreAllowedMethods`), or the status says why it is not read (`IsNoRequest`). For `NoPattern`,
--- and where it is not read, the buffer is unchanged.
+-- The outcome of writing the methods for what is passed. Either the request is for the texts for
+-- which `AreRead` is true (`AreAllowedMethods`), or the status says why it is not read
+-- (`IsNoRequest`), and the buffer is unchanged.
 abbrev pub AreAllowedReported : (AreRead : Texts → Type 0) → (AreUnread : Status → Type 0)
     → Router → (method : List ℕ) → (old new : List ℕ) → (needed : ℕ) → Status → Type 0
-AreAllowedReported AreRead AreUnread router method old new needed statuses.NoPattern =
-    (router.routes ≡ []) × (new ≡ old)
 AreAllowedReported AreRead AreUnread router method old new needed status =
-    (router.routes ≢ [])
-    × (((texts : Texts) × AreRead texts
+    ((texts : Texts) × AreRead texts
     × AreAllowedMethods router (chars method) texts old new needed status)
-    ⊎ (IsNoRequest AreUnread method status × (new ≡ old)))
+    ⊎ (IsNoRequest AreUnread method status × (new ≡ old))
 
 -- ---- steps
 

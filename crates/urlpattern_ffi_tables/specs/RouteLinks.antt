@@ -1,6 +1,6 @@
 -- The URL of the route with a name, for given groups, written to a buffer. Each `GivenBytes` names
 -- a group and cuts the text for it out of one text.
-use Rattle.std.specs.Prelude.{◌≡◌, ◌≢◌, ◌⊎◌, ℕ, Any, List, [], Option, None, Some, length}
+use Rattle.std.specs.Prelude.{◌≡◌, ◌≢◌, ◌⊎◌, ℕ, Any, List, Option, None, Some, length}
 use Rattle.std.specs.List.{AllZip}
 use Rattle.std.specs.Str.{chars, IsUtf8}
 use Rattle.url.specs.Parts.{Parts, serialize}
@@ -80,16 +80,13 @@ IsNamedLinkWritten router name text given old new needed statuses.OutOfMemory =
 IsNamedLinkWritten router name text given old new needed status = ⊥
 
 -- The outcome of writing the link of the first route with this name (`IsNamedLinkWritten`).
--- `NoPattern`: the router has no routes, or some element of `given` gives no group. `NotUtf8`: the
--- name is not UTF-8.
+-- `NotUtf8`: the name is not UTF-8, and the buffer is unchanged.
 abbrev pub IsRouteLinkReported : Router → (name text : List ℕ) → List GivenBytes
     → (old new : List ℕ) → (needed : ℕ) → Status → Type 0
-IsRouteLinkReported router name text given old new needed statuses.NoPattern =
-    ((router.routes ≡ []) ⊎ Any (GivesNothing text) given) × (new ≡ old)
 IsRouteLinkReported router name text given old new needed statuses.NotUtf8 =
-    (router.routes ≢ []) × (¬ IsUtf8 name) × (new ≡ old)
+    (¬ IsUtf8 name) × (new ≡ old)
 IsRouteLinkReported router name text given old new needed status =
-    (router.routes ≢ []) × IsNamedLinkWritten router name text given old new needed status
+    IsNamedLinkWritten router name text given old new needed status
 
 -- ---- steps
 

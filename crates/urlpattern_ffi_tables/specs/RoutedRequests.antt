@@ -1,7 +1,7 @@
 -- Requests, with the routes that serve them. A method and what a request is for are passed as
 -- bytes.
 use Rattle.std.specs.Borrow.{Bor}
-use Rattle.std.specs.Prelude.{◌≡◌, ◌≢◌, ◌⊎◌, ℕ, List, [], None, Some}
+use Rattle.std.specs.Prelude.{◌≡◌, ◌⊎◌, ℕ, List, None, Some}
 use Rattle.std.specs.Str.{chars, IsUtf8}
 use Rattle.url.specs.Parts.{Parts}
 use Rattle.urlpattern.specs.Routes.{CallsEngineOfRequest, IsRouted, IsServed, SomeMatches}
@@ -82,24 +82,19 @@ IsNoRequest AreUnread method status =
     AreUnread status ⊎ ((status ≡ statuses.NotUtf8) × (¬ IsUtf8 method))
 
 -- The outcome of writing the index and the groups of the route that serves a request with this
--- method for what is passed. `NoPattern`, and only this: the router has no routes. Else either the
--- request is for the texts for which `AreRead` is true (`AreRouteCaptures`), or the status says why
--- it is not read (`IsNoRequest`). For `NoPattern`, and where it is not read, index and buffers are
--- unchanged.
+-- method for what is passed. Either the request is for the texts for which `AreRead` is true
+-- (`AreRouteCaptures`), or the status says why it is not read (`IsNoRequest`), and index and
+-- buffers are unchanged.
 abbrev pub IsRequestReported : (AreRead : Texts → Type 0) → (AreUnread : Status → Type 0)
     → Router → (method : List ℕ) → (old_index new_index : ℕ) → (old new : List ℕ)
     → (old_spans new_spans : List GroupSpan) → (needed : Sizes) → Status → Type 0
 IsRequestReported AreRead AreUnread router method old_index new_index old new old_spans new_spans
-    needed statuses.NoPattern =
-    (router.routes ≡ []) × (new_index ≡ old_index) × (new ≡ old) × (new_spans ≡ old_spans)
-IsRequestReported AreRead AreUnread router method old_index new_index old new old_spans new_spans
     needed status =
-    (router.routes ≢ [])
-    × (((texts : Texts) × AreRead texts
+    ((texts : Texts) × AreRead texts
     × AreRouteCaptures router (chars method) texts old_index new_index old new old_spans new_spans
     needed status)
     ⊎ (IsNoRequest AreUnread method status
-    × (new_index ≡ old_index) × (new ≡ old) × (new_spans ≡ old_spans)))
+    × (new_index ≡ old_index) × (new ≡ old) × (new_spans ≡ old_spans))
 
 -- ---- steps
 

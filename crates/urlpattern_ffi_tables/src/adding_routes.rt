@@ -58,8 +58,9 @@ pub fn add_init_route(
 }
 
 /// Appends a route with a pattern to the routes of a handle. `NotUtf8`: the name or the method is
-/// not UTF-8. `Shared`: another handle has the routes. `Refused`: another route has the name, or
-/// the method is no token. `OutOfMemory`: memory ran out. In these cases the routes are unchanged.
+/// not UTF-8. `Shared`: another handle has the routes. `NameTaken`: another route has the name.
+/// `NotAMethod`: the method is no token. `OutOfMemory`: memory ran out. In these cases the routes
+/// are unchanged.
 ///
 /// Handles that have no route share nothing: the first route gets a router of its own.
 fn push_route(
@@ -86,8 +87,8 @@ fn push_route(
 }
 
 /// Appends a route to those of a handle, of which there is one at least. `Shared`: another handle
-/// has the routes. `Refused`: another route has the name, or the method is no token. `OutOfMemory`:
-/// memory ran out. In these cases the routes are unchanged.
+/// has the routes. `NameTaken`: another route has the name. `NotAMethod`: the method is no token.
+/// `OutOfMemory`: memory ran out. In these cases the routes are unchanged.
 fn insert_later(
     alloc: Global,
     kept: &mut Option<Box<RouterBox>>,
@@ -110,8 +111,8 @@ fn insert_later(
 }
 
 /// Appends a route to those in a box, of which there is one at least. `Shared`: another handle has
-/// the routes. `Refused`: another route has the name, or the method is no token. `OutOfMemory`:
-/// memory ran out. In these cases the routes are unchanged.
+/// the routes. `NameTaken`: another route has the name. `NotAMethod`: the method is no token.
+/// `OutOfMemory`: memory ran out. In these cases the routes are unchanged.
 #[tactic(auto, using(crate::proofs::RouteLemmas::pushed))]
 fn insert_unshared(
     alloc: Global,
@@ -130,8 +131,8 @@ fn insert_unshared(
     }
 }
 
-/// Gives a handle without routes a route. `Refused`: the method is no token. `OutOfMemory`: memory
-/// ran out. In both cases the handle has no route.
+/// Gives a handle without routes a route. `NotAMethod`: the method is no token. `OutOfMemory`:
+/// memory ran out. In both cases the handle has no route.
 #[tactic(auto, using(crate::proofs::RouteLemmas::pushed))]
 fn insert_first(
     alloc: Global,
@@ -155,7 +156,7 @@ fn insert_first(
 
 /// Puts a route into a box, by itself, in place of a handle's, which has no route.
 ///
-/// The error is the status that says why there is none: `Refused` if the method is no token, or
+/// The error is the status that says why there is none: `NotAMethod` if the method is no token, or
 /// `OutOfMemory`.
 #[tactic(auto, using(crate::proofs::RouteLemmas::not_inserted, crate::proofs::RouteLemmas::not_boxed))]
 fn boxed_route(
@@ -181,8 +182,8 @@ fn boxed_route(
     }
 }
 
-/// Appends a route with a pattern. `OutOfMemory`: memory ran out. `Refused`: another route has the
-/// name, or the method is no token. In both cases the router is unchanged.
+/// Appends a route with a pattern. `OutOfMemory`: memory ran out. `NameTaken`: another route has
+/// the name. `NotAMethod`: the method is no token. In these cases the router is unchanged.
 #[tactic(auto, using(crate::proofs::RouteLemmas::named, crate::proofs::RouteLemmas::named_refused))]
 fn insert(
     alloc: Global,
@@ -202,7 +203,7 @@ fn insert(
     }
 }
 
-/// Appends a route with a pattern, and without a name. `OutOfMemory`: memory ran out. `Refused`:
+/// Appends a route with a pattern, and without a name. `OutOfMemory`: memory ran out. `NotAMethod`:
 /// the method is no token. In both cases the router is unchanged.
 #[tactic(auto, using(crate::proofs::RouteLemmas::unnamed, crate::proofs::RouteLemmas::unnamed_refused))]
 fn insert_unnamed(
@@ -225,12 +226,13 @@ fn insert_unnamed(
     }
 }
 
-/// The status for a route that is not added: `OutOfMemory`, or `Refused` for any other error.
+/// The status for a route that is not added: it has the name of the error.
 fn insert_status(error: RouteError) -> Status
     ensures { result ≡ insert_status error }
 {
     match error {
         RouteError::OutOfMemory => Status::OutOfMemory,
-        RouteError::NameTaken | RouteError::NotAMethod => Status::Refused,
+        RouteError::NameTaken => Status::NameTaken,
+        RouteError::NotAMethod => Status::NotAMethod,
     }
 }

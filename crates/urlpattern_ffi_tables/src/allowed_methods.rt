@@ -7,11 +7,11 @@ ghost use Rattle.urlpattern_ffi_tables.specs.AllowedMethodTexts.{AreAllowedRepor
 ghost use Rattle.urlpattern_ffi_tables.specs.KeptRouters.{boxed_router};
 ghost use Rattle.urlpattern_ffi_tables.specs.RoutedRequests.{AreTextsOfUrl};
 
-use crate::router_box::{RouterBox, router_of};
+use crate::router_box::{RouterBox, router_of, router_without_routes};
 use std::alloc::Global;
 use std::str;
 use urlpattern::regexp::PatternRegexp;
-use urlpattern::{AllowedMethods, Error, PathError, Routed};
+use urlpattern::{AllowedMethods, Error, PathError, Routed, UrlPatternRouter};
 use urlpattern_ffi::{Status, url_of, write};
 
 /// Writes the methods of the routes that match a path by itself to `buffer`, as the header `Allow`
@@ -28,10 +28,28 @@ pub fn allowed_methods_of_path(
     ensures { AreAllowedReported (AreTextsOfPath path.now) (IsNoPath path.now)
         (boxed_router kept.now) method.now buffer.old buffer.new needed.new result }
 {
-    let router = match router_of(kept) {
-        Some(router) => router,
-        None => return Status::NoPattern,
-    };
+    match router_of(kept) {
+        Some(router) => allowed_at_path(alloc, router, method, path, buffer, needed),
+        None => {
+            let router = router_without_routes(alloc, kept);
+            allowed_at_path(alloc, &router, method, path, buffer, needed)
+        }
+    }
+}
+
+/// Writes the methods of the routes of a router that match a path by itself, as
+/// `allowed_methods_of_path` does.
+fn allowed_at_path(
+    alloc: Global,
+    router: &UrlPatternRouter<(), PatternRegexp>,
+    method: &[u8],
+    path: &[u8],
+    buffer: &mut [u8],
+    needed: &mut usize,
+) -> Status
+    ensures { AreAllowedReported (AreTextsOfPath path.now) (IsNoPath path.now) router.now
+        method.now buffer.old buffer.new needed.new result }
+{
     let Ok(method) = str::from_utf8(method) else {
         return Status::NotUtf8;
     };
@@ -60,10 +78,29 @@ pub fn allowed_methods_of_url(
     ensures { AreAllowedReported (AreTextsOfUrl url.now base.now) (IsNoUrl url.now base.now)
         (boxed_router kept.now) method.now buffer.old buffer.new needed.new result }
 {
-    let router = match router_of(kept) {
-        Some(router) => router,
-        None => return Status::NoPattern,
-    };
+    match router_of(kept) {
+        Some(router) => allowed_at_url(alloc, router, method, url, base, buffer, needed),
+        None => {
+            let router = router_without_routes(alloc, kept);
+            allowed_at_url(alloc, &router, method, url, base, buffer, needed)
+        }
+    }
+}
+
+/// Writes the methods of the routes of a router that match a URL, under a base URL unless `base` is
+/// empty, as `allowed_methods_of_url` does.
+fn allowed_at_url(
+    alloc: Global,
+    router: &UrlPatternRouter<(), PatternRegexp>,
+    method: &[u8],
+    url: &[u8],
+    base: &[u8],
+    buffer: &mut [u8],
+    needed: &mut usize,
+) -> Status
+    ensures { AreAllowedReported (AreTextsOfUrl url.now base.now) (IsNoUrl url.now base.now)
+        router.now method.now buffer.old buffer.new needed.new result }
+{
     let Ok(method) = str::from_utf8(method) else {
         return Status::NotUtf8;
     };

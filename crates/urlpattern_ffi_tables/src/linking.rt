@@ -3,7 +3,7 @@ ghost use Rattle.std.specs.Prelude.{IfErr, IfOk};
 ghost use Rattle.urlpattern_ffi_tables.specs.KeptRouters.{boxed_router};
 ghost use Rattle.urlpattern_ffi_tables.specs.RouteLinks.{IsLinkFound, IsLinkWritten, IsNamedLinkWritten, IsNoLinkFound, IsRouteLinkReported};
 
-use crate::router_box::{RouterBox, router_of};
+use crate::router_box::{RouterBox, router_of, router_without_routes};
 use std::alloc::Global;
 use std::str;
 use url::Url;
@@ -14,8 +14,8 @@ use urlpattern_ffi_links::{Unlinked, groups_of};
 
 /// Writes the URL of the first route with a name, with the groups that `given` cuts out of `text`,
 /// percent-encoded, to `buffer`, and its length in bytes to `needed`. `NoMatch`: no route has the
-/// name. `Refused`: there is no URL, and the reason is written in its place. `NoPattern`: the
-/// handle has no routes, or an element of `given` gives no group.
+/// name. `Refused`: there is no URL, and the reason is written in its place. `NoPattern`: an
+/// element of `given` gives no group.
 pub fn link_route(
     alloc: Global,
     kept: &Option<Box<RouterBox>>,
@@ -28,14 +28,16 @@ pub fn link_route(
     ensures { IsRouteLinkReported (boxed_router kept.now) name.now text.now given.now buffer.old
         buffer.new needed.new result }
 {
-    let router = match router_of(kept) {
-        Some(router) => router,
-        None => return Status::NoPattern,
-    };
     let Ok(name) = str::from_utf8(name) else {
         return Status::NotUtf8;
     };
-    link_named(alloc, router, name, text, given, buffer, needed)
+    match router_of(kept) {
+        Some(router) => link_named(alloc, router, name, text, given, buffer, needed),
+        None => {
+            let router = router_without_routes(alloc, kept);
+            link_named(alloc, &router, name, text, given, buffer, needed)
+        }
+    }
 }
 
 /// Writes the URL of the first route of a router with a name, with the groups that `given` cuts out

@@ -4,11 +4,11 @@ ghost use Rattle.urlpattern_ffi.specs.PassedTexts.{AreTextsOfPath, IsNoPath};
 ghost use Rattle.urlpattern_ffi_tables.specs.KeptRouters.{boxed_router};
 ghost use Rattle.urlpattern_ffi_tables.specs.RoutedRequests.{AreTextsOfUrl, IsRequestReported, IsRoutedWritten};
 
-use crate::router_box::{RouterBox, router_of};
+use crate::router_box::{RouterBox, router_of, router_without_routes};
 use std::alloc::Global;
 use std::str;
 use urlpattern::regexp::PatternRegexp;
-use urlpattern::{PathError, Routed};
+use urlpattern::{PathError, Routed, UrlPatternRouter};
 use urlpattern_ffi::{GroupSpan, Sizes, Status, url_of, write_groups};
 
 /// Finds the route that serves a request with a method for a path by itself. If there is one,
@@ -29,10 +29,30 @@ pub fn route_of_path(
         (boxed_router kept.now) method.now index.old index.new buffer.old buffer.new spans.old
         spans.new needed.new result }
 {
-    let router = match router_of(kept) {
-        Some(router) => router,
-        None => return Status::NoPattern,
-    };
+    match router_of(kept) {
+        Some(router) => routed_path(alloc, router, method, path, index, buffer, spans, needed),
+        None => {
+            let router = router_without_routes(alloc, kept);
+            routed_path(alloc, &router, method, path, index, buffer, spans, needed)
+        }
+    }
+}
+
+/// Finds the route of a router that serves a request with a method for a path by itself, and writes
+/// it as `route_of_path` does.
+fn routed_path(
+    alloc: Global,
+    router: &UrlPatternRouter<(), PatternRegexp>,
+    method: &[u8],
+    path: &[u8],
+    index: &mut usize,
+    buffer: &mut [u8],
+    spans: &mut [GroupSpan],
+    needed: &mut Sizes,
+) -> Status
+    ensures { IsRequestReported (AreTextsOfPath path.now) (IsNoPath path.now) router.now method.now
+        index.old index.new buffer.old buffer.new spans.old spans.new needed.new result }
+{
     let Ok(method) = str::from_utf8(method) else {
         return Status::NotUtf8;
     };
@@ -65,10 +85,36 @@ pub fn route_of_url(
         (boxed_router kept.now) method.now index.old index.new buffer.old buffer.new spans.old
         spans.new needed.new result }
 {
-    let router = match router_of(kept) {
-        Some(router) => router,
-        None => return Status::NoPattern,
-    };
+    match router_of(kept) {
+        Some(router) => routed_url(
+            alloc, router, method, url, base, index, buffer, spans, needed,
+        ),
+        None => {
+            let router = router_without_routes(alloc, kept);
+            routed_url(
+                alloc, &router, method, url, base, index, buffer, spans, needed,
+            )
+        }
+    }
+}
+
+/// Finds the route of a router that serves a request with a method for a URL, under a base URL
+/// unless `base` is empty, and writes it as `route_of_url` does.
+fn routed_url(
+    alloc: Global,
+    router: &UrlPatternRouter<(), PatternRegexp>,
+    method: &[u8],
+    url: &[u8],
+    base: &[u8],
+    index: &mut usize,
+    buffer: &mut [u8],
+    spans: &mut [GroupSpan],
+    needed: &mut Sizes,
+) -> Status
+    ensures { IsRequestReported (AreTextsOfUrl url.now base.now) (IsNoUrl url.now base.now)
+        router.now method.now index.old index.new buffer.old buffer.new spans.old spans.new
+        needed.new result }
+{
     let Ok(method) = str::from_utf8(method) else {
         return Status::NotUtf8;
     };

@@ -20,6 +20,7 @@ use Rattle.urlpattern_inputs.specs.InputValues.{InitView, InputView, init_view, 
 use Rattle.urlpattern_inputs.specs.declared.init.UrlPatternInit.{UrlPatternInit as PlainInit}
 use Rattle.urlpattern_inputs.specs.declared.options.UrlPatternOptions.{UrlPatternOptions}
 use Rattle.urlpattern_matcher.specs.declared.regexp.RegExp.{Ghosts as Engine}
+use Rattle.urlpattern_pattern.specs.KeptParts.{KeepsPartsOf, KeepsPartsOfText}
 use Rattle.urlpattern_pattern.specs.Patterns.{pattern_view}
 use Rattle.urlpattern_pattern.specs.UrlPatterns.{UrlPattern}
 use Rattle.urlpattern_route_rules.specs.Patterns.{Allows, CompilesPattern, GivesInit, IsBaseDiagnosis, IsInitGiven, IsPatternGiven, base_of, first_some, no_options}
@@ -123,15 +124,18 @@ base-rejected engine script given diagnosis is = inl (diagnosis, refl, inl is.0,
 -- ---- patterns that are compiled
 
 pub text-compiled : {E : Type 0} (engine : Engine E) (script text : List ℕ) (asked : UrlPatternOptions) (pattern : UrlPattern E) (result : Result (UrlPattern E) PatternFault) → asked ≡ no_options
-    → IsPatternOfText engine (chars text) (Some script) asked (pattern_view pattern) → Allows pattern result → CompilesPattern engine script (of_text text) result
-text-compiled {E} engine script text asked pattern result same is allows =
-    allowed-compiles engine script (of_text text) pattern result (subst (λ (options : UrlPatternOptions). IsPatternOfText engine (chars text) (Some script) options (pattern_view pattern)) same is) allows
+    → IsPatternOfText engine (chars text) (Some script) asked (pattern_view pattern) → KeepsPartsOfText engine (chars text) (Some script) asked pattern → Allows pattern result → CompilesPattern engine script (of_text text) result
+text-compiled {E} engine script text asked pattern result same is kept allows =
+    allowed-compiles engine script (of_text text) pattern result
+    (subst (λ (options : UrlPatternOptions). IsPatternOfText engine (chars text) (Some script) options (pattern_view pattern) × KeepsPartsOfText engine (chars text) (Some script) options pattern) same (is, kept)) allows
 
 -- A copy of the init that is given.
 pub copy-given : (script : List ℕ) (given : InitView) (init copy : UrlPatternInit) → IsInitGiven script given init → values_view copy ≡ values_view init → copy.base_url ≡ init.base_url → IsInitGiven script given copy
 copy-given script given init copy is texts base = record { has_texts = texts ∙ is.has_texts; has_base = is.has_base ∙ ap Ok (sym base) }
 
 pub init-compiled : {E : Type 0} (engine : Engine E) (script : List ℕ) (given : InitView) (init : UrlPatternInit) (asked : UrlPatternOptions) (pattern : UrlPattern E) (result : Result (UrlPattern E) PatternFault) → asked ≡ no_options
-    → IsInitGiven script given init → IsPatternOfInit engine init asked (pattern_view pattern) → Allows pattern result → CompilesPattern engine script (of_init given) result
-init-compiled {E} engine script given init asked pattern result same given_is is allows =
-    allowed-compiles engine script (of_init given) pattern result (init, given_is, subst (λ (options : UrlPatternOptions). IsPatternOfInit engine init options (pattern_view pattern)) same is) allows
+    → IsInitGiven script given init → IsPatternOfInit engine init asked (pattern_view pattern) → KeepsPartsOf engine init asked pattern → Allows pattern result → CompilesPattern engine script (of_init given) result
+init-compiled {E} engine script given init asked pattern result same given_is is kept allows =
+    let compiled = subst (λ (options : UrlPatternOptions). IsPatternOfInit engine init options (pattern_view pattern)) same is in
+    let keeps = subst (λ (options : UrlPatternOptions). KeepsPartsOf engine init options pattern) same kept in
+    allowed-compiles engine script (of_init given) pattern result (init, given_is, compiled, keeps) allows

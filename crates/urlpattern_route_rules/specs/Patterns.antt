@@ -17,6 +17,7 @@ use Rattle.urlpattern_init.specs.declared.init.UrlPatternInit.{UrlPatternInit}
 use Rattle.urlpattern_inputs.specs.InputValues.{InitView, InputView, of_init, of_text}
 use Rattle.urlpattern_inputs.specs.declared.options.UrlPatternOptions.{UrlPatternOptions}
 use Rattle.urlpattern_matcher.specs.declared.regexp.RegExp.{Ghosts as Engine}
+use Rattle.urlpattern_pattern.specs.KeptParts.{KeepsPartsOf, KeepsPartsOfText}
 use Rattle.urlpattern_pattern.specs.Patterns.{pattern_view}
 use Rattle.urlpattern_pattern.specs.UrlPatterns.{UrlPattern}
 use Rattle.urlpattern_route_rules.specs.declared.fault.PatternFault.{PatternFault}
@@ -41,14 +42,17 @@ pub record IsInitGiven (script : List ℕ) (given : InitView) (init : UrlPattern
   pub has_texts : values_view init ≡ each (λ name. option_map chars (at given.texts name))
   pub has_base : parsed_base (base_of script given) ≡ Ok init.base_url
 
--- What is given is compiled to `pattern`. The URL of the script is the base URL of a text.
+-- What is given is compiled to `pattern`, which keeps the parts that its texts are parsed to. The
+-- URL of the script is the base URL of a text.
 abbrev pub IsPatternGiven : {E : Type 0} → Engine E → (script : List ℕ) → InputView → UrlPattern E
     → Type 0
 IsPatternGiven engine script (of_text text) pattern =
     IsPatternOfText engine (chars text) (Some script) no_options (pattern_view pattern)
+    × KeepsPartsOfText engine (chars text) (Some script) no_options pattern
 IsPatternGiven engine script (of_init given) pattern =
     (init : UrlPatternInit) × IsInitGiven script given init
     × IsPatternOfInit engine init no_options (pattern_view pattern)
+    × KeepsPartsOf engine init no_options pattern
 
 -- ---- what is rejected
 

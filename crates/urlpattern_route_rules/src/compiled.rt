@@ -16,7 +16,8 @@ use urlpattern_conditions::{Condition, Rule};
 use urlpattern_inputs::StringOrInit;
 use urlpattern_matcher::regexp::RegExp;
 use urlpattern_routes::{
-    RouterCondition, RouterFault, RouterLimits, RouterRequest, RouterRule, RuleReading, read_rule,
+    RouterCondition, RouterFault, RouterLimits, RouterRequest, RouterRule, RuleReading,
+    rule_reading,
 };
 
 /// What is compiled, with the faults of its patterns, or that memory ran out.
@@ -34,7 +35,7 @@ pub(crate) fn compiled_rule<R: RegExp>(
     ensures { IfOk result (λ made. CompilesRule R.RegExp script.now index
         (reading_of limits.now (view tree.now)) made.0 made.1.items) }
 {
-    let RuleReading { rule, faults: own } = read_rule(alloc, tree, limits)?;
+    let RuleReading { rule, faults: own } = rule_reading(alloc, tree, limits)?;
     let (condition, inner) = compiled_condition(alloc, &rule.condition, script)?;
     let faults = all_faults(alloc, index, &own, inner)?;
     let made = Rule {

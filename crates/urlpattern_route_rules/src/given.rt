@@ -39,7 +39,7 @@ fn compiled_text<R: RegExp>(alloc: Global, text: &str, script: &str) -> Made<R>
     ensures { IfOk result (CompilesPattern R.RegExp script.now (of_text text.now)) }
 {
     match UrlPattern::<R>::from_constructor_string(alloc, text, Some(script), no_options()) {
-        Ok(pattern) => Ok(allowed(pattern)),
+        Ok(compiled) => Ok(allowed(compiled)),
         Err(_) => match UrlPattern::<R>::diagnose(alloc, text, Some(script), no_options()) {
             Ok(Some(diagnosis)) => Ok(Err(PatternFault::Rejected(diagnosis))),
             _ => Err(AllocError),

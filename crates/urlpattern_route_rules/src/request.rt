@@ -13,6 +13,6 @@ pub struct RouterFetch<'a> {
     pub mode: &'a str,
     /// The destination, such as `image`. It is empty for a call of `fetch`.
     pub destination: &'a str,
-    /// Whether the service worker is running.
+    /// Whether the service worker is running. A worker that is starting is not.
     pub is_running: bool,
 }

@@ -1,5 +1,5 @@
 //! The rules of a service worker.
-ghost use Rattle.std.specs.Prelude.{◌≡◌, ◌==◌, IfOk, [], length, map};
+ghost use Rattle.std.specs.Prelude.{◌≡◌, ◌==◌, IfOk, [], length, map, option_copied, option_map, slice_get};
 ghost use Rattle.serde_json.specs.View.{view};
 ghost use Rattle.url.specs.Parts.{serialize};
 ghost use Rattle.urlpattern_conditions.specs.Tables.{DecidesBy};
@@ -147,6 +147,17 @@ impl<R: RegExp> RouterRules<R> {
         let names = [method, mode, destination, status];
         let names = &names;
         self.table.decide(alloc, &Request { texts, names })
+    }
+
+    /// The rule at an index, as it is given, if there is one.
+    pub fn rule(&self, index: usize) -> Option<&RouterRule>
+        ensures { option_copied result
+            ≡ option_map (λ rule. rule.value) (slice_get self.now.table.rules.items index) }
+    {
+        match self.table.rules.get(index) {
+            Some(rule) => Some(&rule.value),
+            None => None,
+        }
     }
 
     /// The number of rules.

@@ -1,5 +1,5 @@
 -- Rules without a fault, written as JSON, are read as the same rules, without a fault.
-use Rattle.std.proofs.Common.{◌≡◌, ℕ, zero, suc, Bool, true, false, cond, not, ◌||◌, List, [], ◌∷◌, ◌++◌, None, Option, Some, Result, Ok, Err, ◌∙◌, ap, arith, bytes_eq, codes, is_some, map, option_map, refl, sym}
+use Rattle.std.proofs.Common.{◌≡◌, ℕ, zero, suc, Bool, true, false, cond, not, ◌||◌, List, [], ◌∷◌, ◌++◌, None, Option, Some, Result, Ok, Err, ◌∙◌, ap, arith, codes, is_some, map, option_map, refl, subst, sym}
 use Rattle.std.proofs.lemmas.Bool.Decides.{nat_tests}
 use Rattle.std.proofs.lemmas.Slice.Eq.{bytes_eq-Decides}
 use Rattle.std.specs.Char.{to_ascii_lowercase, to_ascii_uppercase}
@@ -16,20 +16,20 @@ use Rattle.urlpattern_routes.specs.Conditions.{all_items, condition_faults, cond
 use Rattle.urlpattern_routes.specs.Conditions.{items_of as items_in}
 use Rattle.urlpattern_routes.specs.Faults.{fault_unless}
 use Rattle.urlpattern_routes.specs.Members.{name_faults, name_in, pattern_faults, pattern_in, pattern_read, request_faults, request_in}
-use Rattle.urlpattern_routes.specs.Methods.{is_same, normalized}
+use Rattle.urlpattern_routes.specs.Methods.{is_same, normalized, normalized_methods}
 use Rattle.urlpattern_routes.specs.Names.{kept_name, member_name, name_of, name_read, rejection, unless_rejected}
-use Rattle.urlpattern_routes.specs.Rules.{condition_of_rule, condition_of_rule_faults, reading_of, readings_of, rule_faults, rule_of, rules_in}
+use Rattle.urlpattern_routes.specs.ReadBack.{RulesAreReadBack}
+use Rattle.urlpattern_routes.specs.Rules.{condition_of_rule, condition_of_rule_faults, reading_of, rule_faults, rule_of, rules_in}
 use Rattle.urlpattern_routes.specs.Sources.{cache_in, cache_named, handled, source_faults, source_in, source_of, source_read}
 use Rattle.urlpattern_routes.specs.Texts.{text_read}
-use Rattle.urlpattern_routes.specs.Trees.{condition_tree, request_members, request_tree, rule_tree, rules_tree, source_tree, tree_items}
-use Rattle.urlpattern_routes.specs.Views.{ConditionView, RequestView, SourceView, cache, fetch_event, listed, named_cache, network, of_not, of_or, race}
+use Rattle.urlpattern_routes.specs.Trees.{condition_tree, request_members, request_tree, rule_tree, source_tree, tree_items}
+use Rattle.urlpattern_routes.specs.Views.{ConditionView, RequestView, RuleView, SourceView, cache, fetch_event, listed, named_cache, network, of_not, of_or, race}
 use Rattle.urlpattern_routes.specs.declared.attribute.RouterAttribute.{RouterAttribute}
 use Rattle.urlpattern_routes.specs.declared.attribute.RouterAttribute.TheVariants.{Destination, Method, Mode, RunningStatus}
 use Rattle.urlpattern_routes.specs.declared.fault.RouterMember.{RouterMember}
 use Rattle.urlpattern_routes.specs.declared.fault.RouterMember.TheVariants as members
 use Rattle.urlpattern_routes.specs.declared.fault.RouterReason.{RouterReason}
 use Rattle.urlpattern_routes.specs.declared.fault.RouterReason.TheVariants as reasons
-use Rattle.urlpattern_routes.specs.declared.method.TheConstants.{NORMALIZED}
 use Rattle.urlpattern_routes.specs.declared.reading.RouterLimits.{RouterLimits}
 
 nil-first : {X : Type 0} (xs ys : List X) → xs ++ ys ≡ [] → xs ≡ []
@@ -69,7 +69,7 @@ choose : {P : Type 0} (a b : Bool) → (a ≡ true → P) → (b ≡ true → P)
 choose true b first second e = first refl
 choose false b first second e = second e
 
-among-capitals : (text : List ℕ) → list_any (λ name. is_same name.now text) NORMALIZED ≡ true → IsKept (map to_ascii_uppercase text)
+among-capitals : (text : List ℕ) → list_any (λ name. is_same name text) normalized_methods ≡ true → IsKept (map to_ascii_uppercase text)
 among-capitals text among =
     choose (is_same (codes "DELETE") text) _ (kept-in_capitals (codes "DELETE") text (refl, refl))
     (choose (is_same (codes "GET") text) _ (kept-in_capitals (codes "GET") text (refl, refl))
@@ -78,7 +78,7 @@ among-capitals text among =
     (choose (is_same (codes "POST") text) _ (kept-in_capitals (codes "POST") text (refl, refl))
     (choose (is_same (codes "PUT") text) false (kept-in_capitals (codes "PUT") text (refl, refl)) (λ e. absurd cc)))))) among
 
-method-chosen : (is_among : Bool) (text : List ℕ) → list_any (λ name. is_same name.now text) NORMALIZED ≡ is_among → rejection Method text ≡ None → IsKept (cond is_among (map to_ascii_uppercase text) text)
+method-chosen : (is_among : Bool) (text : List ℕ) → list_any (λ name. is_same name text) normalized_methods ≡ is_among → rejection Method text ≡ None → IsKept (cond is_among (map to_ascii_uppercase text) text)
 method-chosen true text is fine = among-capitals text is
 method-chosen false text is fine = (fine, rw is refl)
 
@@ -291,14 +291,19 @@ rule-again limits tree none =
     let source = source-of_member limits.has_handler tree (condition_of_rule limits.depth tree) (get (codes "source") tree) refl (nil-second (condition_of_rule_faults limits.depth tree) (source_faults limits.has_handler tree) none) in
     rw (condition.same, condition.fine, source) refl
 
-listed-again : (limits : RouterLimits) (trees : List Data) → flat_map (rule_faults limits) trees ≡ []
-    → map (reading_of limits) (all_items (items_of (map rule_tree (map (rule_of limits) trees)))) ≡ map (λ rule. (rule, [])) (map (rule_of limits) trees)
-listed-again limits [] none = refl
-listed-again limits (tree ∷ rest) none =
-    rw (rule-again limits tree (nil-first (rule_faults limits tree) (flat_map (rule_faults limits) rest) none), listed-again limits rest (nil-second (rule_faults limits tree) (flat_map (rule_faults limits) rest) none)) refl
+listed-again : (limits : RouterLimits) (trees : List Data) (rules : List RuleView) → map (reading_of limits) trees ≡ map (λ rule. (rule, [])) rules
+    → map (reading_of limits) (all_items (items_of (map rule_tree rules))) ≡ map (λ rule. (rule, [])) rules
+listed-again limits [] [] are = refl
+listed-again limits [] (rule ∷ rules) are = absurd cc
+listed-again limits (tree ∷ trees) [] are = absurd cc
+listed-again limits (tree ∷ trees) (rule ∷ rules) are =
+    let first : reading_of limits tree ≡ (rule, []) = cc in
+    let none : rule_faults limits tree ≡ [] = ap (λ reading. reading.1) first in
+    let same : rule_of limits tree ≡ rule = ap (λ reading. reading.0) first in
+    let others : map (reading_of limits) trees ≡ map (λ rule. (rule, [])) rules = cc in
+    let again : reading_of limits (rule_tree rule) ≡ (rule, []) = subst (λ (one : RuleView). reading_of limits (rule_tree one) ≡ (one, [])) same (rule-again limits tree none) in
+    rw (again, listed-again limits trees rules others) refl
 
--- The rules of a call without a fault, written as JSON and read again, are the same rules, and have
--- no fault.
-pub rules-again : (limits : RouterLimits) (tree : Data) → flat_map (rule_faults limits) (rules_in tree) ≡ []
-    → readings_of limits (rules_tree (map (rule_of limits) (rules_in tree))) ≡ map (λ rule. (rule, [])) (map (rule_of limits) (rules_in tree))
-rules-again limits tree none = listed-again limits (rules_in tree) none
+-- Rules without a fault, written as JSON and read again, are the same rules, and have no fault.
+pub rules-again : RulesAreReadBack
+rules-again limits tree rules are = listed-again limits (rules_in tree) rules are

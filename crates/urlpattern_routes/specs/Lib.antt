@@ -8,4 +8,5 @@ pub mod Sources
 pub mod Conditions
 pub mod Rules
 pub mod Trees
+pub mod ReadBack
 pub mod Readers

@@ -1,5 +1,5 @@
 -- The attributes of a request that a condition may name, and their names.
-use Rattle.std.specs.Prelude.{◌≡◌, ℕ, Bool, not, List, Err, None, Ok, Option, Result, Some, codes, if◌then◌else◌}
+use Rattle.std.specs.Prelude.{◌≡◌, ℕ, Bool, not, List, [], ◌∷◌, Err, None, Ok, Option, Result, Some, codes, if◌then◌else◌}
 use Rattle.std.specs.List.{list_any}
 use Rattle.std.specs.Str.{bytes_eq}
 use Rattle.serde_json.specs.Data.{Data}
@@ -7,7 +7,6 @@ use Rattle.urlpattern_routes.specs.Methods.{is_forbidden, is_method, normalized}
 use Rattle.urlpattern_routes.specs.Texts.{text_read}
 use Rattle.urlpattern_routes.specs.declared.attribute.RouterAttribute.{RouterAttribute}
 use Rattle.urlpattern_routes.specs.declared.attribute.RouterAttribute.TheVariants.{Destination, Method, Mode, RunningStatus}
-use Rattle.urlpattern_routes.specs.declared.attribute.TheConstants.{DESTINATIONS, MODES, STATUSES}
 use Rattle.urlpattern_routes.specs.declared.fault.RouterReason.{RouterReason}
 use Rattle.urlpattern_routes.specs.declared.fault.RouterReason.TheVariants as reasons
 
@@ -28,6 +27,24 @@ member_name Mode = codes "requestMode"
 member_name Destination = codes "requestDestination"
 member_name RunningStatus = codes "runningStatus"
 
+-- The modes of a request.
+abbrev pub modes : List (List ℕ)
+modes = codes "cors" ∷ codes "navigate" ∷ codes "no-cors" ∷ codes "same-origin" ∷ []
+
+-- The destinations of a request.
+abbrev pub destinations : List (List ℕ)
+destinations =
+    codes "" ∷ codes "audio" ∷ codes "audioworklet" ∷ codes "compression-dictionary"
+    ∷ codes "document" ∷ codes "embed" ∷ codes "fencedframe" ∷ codes "font" ∷ codes "frame"
+    ∷ codes "iframe" ∷ codes "image" ∷ codes "json" ∷ codes "manifest" ∷ codes "object"
+    ∷ codes "paintworklet" ∷ codes "report" ∷ codes "script" ∷ codes "serviceworker"
+    ∷ codes "sharedworker" ∷ codes "speculationrules" ∷ codes "style" ∷ codes "text"
+    ∷ codes "track" ∷ codes "video" ∷ codes "webbundle" ∷ codes "worker" ∷ codes "xslt" ∷ []
+
+-- Whether a service worker is running.
+abbrev pub statuses : List (List ℕ)
+statuses = codes "running" ∷ codes "not-running" ∷ []
+
 -- Why a text is no name that is known. None: it is known.
 abbrev pub unless_known : (is_known : Bool) → Option RouterReason
 unless_known is_known = if is_known then None else Some reasons.UnknownName
@@ -38,11 +55,9 @@ rejection Method text =
     if not (is_method text) then Some reasons.NotAMethod
     else if is_forbidden text then Some reasons.ForbiddenMethod
     else None
-rejection Mode text = unless_known (list_any (λ name. bytes_eq name.now text) MODES)
-rejection Destination text =
-    unless_known (list_any (λ name. bytes_eq name.now text) DESTINATIONS)
-rejection RunningStatus text =
-    unless_known (list_any (λ name. bytes_eq name.now text) STATUSES)
+rejection Mode text = unless_known (list_any (λ name. bytes_eq name text) modes)
+rejection Destination text = unless_known (list_any (λ name. bytes_eq name text) destinations)
+rejection RunningStatus text = unless_known (list_any (λ name. bytes_eq name text) statuses)
 
 -- A name as it is kept: a method as a request has it, other names as they are.
 abbrev pub kept_name : RouterAttribute → List ℕ → List ℕ

@@ -1,15 +1,17 @@
 -- The rules of a call as read from their JSON, without what is at fault, and all of their faults.
-use Rattle.std.specs.Prelude.{ℕ, true, false, List, [], ◌∷◌, ◌++◌, None, Option, Some, codes, map}
+use Rattle.std.specs.Prelude.{◌≡◌, ℕ, true, false, List, [], ◌∷◌, ◌++◌, Err, None, Ok, Option, Result, Some, Vec, codes, map}
+use Rattle.std.specs.declared.alloc.Global.{Global}
 use Rattle.serde_json.specs.Data.{Data, array}
 use Rattle.serde_json.specs.Find.{get}
 use Rattle.urlpattern_routes.specs.Conditions.{all_items, condition_faults, condition_of}
 use Rattle.urlpattern_routes.specs.Faults.{fault_unless}
 use Rattle.urlpattern_routes.specs.Sources.{source_faults, source_in}
-use Rattle.urlpattern_routes.specs.Views.{ConditionView, RuleView, no_conditions, of_or}
+use Rattle.urlpattern_routes.specs.Views.{ConditionView, RuleView, no_conditions, of_or, rule_view}
 use Rattle.urlpattern_routes.specs.declared.fault.RouterFault.{RouterFault}
 use Rattle.urlpattern_routes.specs.declared.fault.RouterMember.TheVariants as members
 use Rattle.urlpattern_routes.specs.declared.fault.RouterReason.TheVariants as reasons
 use Rattle.urlpattern_routes.specs.declared.reading.RouterLimits.{RouterLimits}
+use Rattle.urlpattern_routes.specs.declared.rule.RouterRule.{RouterRule}
 
 -- The limits of a browser.
 abbrev pub browser_limits : RouterLimits
@@ -42,6 +44,12 @@ rule_faults limits tree =
 -- A rule with its faults.
 abbrev pub reading_of : RouterLimits → Data → RuleView × List RouterFault
 reading_of limits tree = (rule_of limits tree, rule_faults limits tree)
+
+-- What is read is the rule, if it has no fault, or else its faults.
+abbrev pub IsRuleRead : RuleView × List RouterFault → Result RouterRule (Vec RouterFault Global)
+    → Type 0
+IsRuleRead (rule, faults) (Ok read) = (rule_view read ≡ rule) × (faults ≡ [])
+IsRuleRead (rule, faults) (Err found) = (found.items ≡ faults) × ¬ (faults ≡ [])
 
 -- The rules of a call: those of an array, or a single one.
 abbrev pub rules_in : Data → List Data

@@ -1,5 +1,5 @@
 -- The views of rules as they are given. Texts are their bytes.
-use Rattle.std.specs.Prelude.{ℕ, List, [], ◌∷◌, Option, map, option_map, string_bytes}
+use Rattle.std.specs.Prelude.{ℕ, List, [], ◌∷◌, Option, option_map, string_bytes}
 use Rattle.urlpattern_inputs.specs.InputValues.{InputView, input_view}
 use Rattle.urlpattern_routes.specs.declared.condition.RouterCondition.{RouterCondition, fold-RouterCondition}
 use Rattle.urlpattern_routes.specs.declared.condition.RouterCondition.TheOpen.{RouterCondition-F}

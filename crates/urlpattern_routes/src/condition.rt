@@ -18,7 +18,7 @@ pub enum RouterCondition {
 pub struct RouterRequest {
     /// The pattern of the URL: a constructor string or an init.
     pub url_pattern: Option<StringOrInit<'static>>,
-    /// The method, in capitals if `fetch` puts it in capitals.
+    /// The method. A method that was read is in capitals if `fetch` puts it in capitals.
     pub method: Option<String>,
     /// The mode.
     pub mode: Option<String>,

@@ -32,7 +32,8 @@ pub enum RouterReason {
     NotAlone,
     /// The member is no array.
     NotAnArray,
-    /// The member is neither a text nor null, a Boolean or an integer, which are read as texts.
+    /// The member is neither a text, nor null, a Boolean or an integer that is not negative, which
+    /// are read as texts.
     NotAText,
     /// The member is neither a text, null, nor an object with texts.
     NotAPattern,

@@ -3,7 +3,7 @@ ghost use Rattle.std.specs.Prelude.{◌≡◌, IfOk, OnOk, map};
 ghost use Rattle.serde_json.specs.View.{view};
 ghost use Rattle.urlpattern_routes.specs.Faults.{fault_unless};
 ghost use Rattle.urlpattern_routes.specs.Readers.{Finds};
-ghost use Rattle.urlpattern_routes.specs.Rules.{browser_limits, reading_of, rules_in};
+ghost use Rattle.urlpattern_routes.specs.Rules.{IsRuleRead, browser_limits, reading_of, rules_in};
 ghost use Rattle.urlpattern_routes.specs.Views.{reading_view};
 
 mod conditions;
@@ -44,7 +44,8 @@ impl RouterLimits {
 /// A rule as it is read.
 #[derive(Debug, Drop)]
 pub struct RuleReading {
-    /// The rule, without what is at fault.
+    /// The rule, without what is at fault. If there is a fault, the rule may decide about other
+    /// requests than the given one.
     pub rule: RouterRule,
     /// The faults. If there is one, the rule is rejected.
     pub faults: Vec<RouterFault>,
@@ -60,8 +61,25 @@ pub fn rules_in(json: &Value) -> &[Value]
     }
 }
 
-/// Reads a rule from JSON.
+/// Reads a rule from JSON, or returns all of its faults.
 pub fn read_rule(
+    alloc: Global,
+    tree: &Value,
+    limits: &RouterLimits,
+) -> Result<Result<RouterRule, Vec<RouterFault>>, AllocError>
+    ensures { IfOk result (IsRuleRead (reading_of limits.now (view tree.now))) }
+{
+    let RuleReading { rule, faults } = rule_reading(alloc, tree, limits)?;
+    if faults.is_empty() {
+        Ok(Ok(rule))
+    } else {
+        Ok(Err(faults))
+    }
+}
+
+/// Reads a rule from JSON, and returns the rest of it beside its faults, so that a caller can look
+/// for further faults in the rest.
+pub fn rule_reading(
     alloc: Global,
     tree: &Value,
     limits: &RouterLimits,

@@ -2,6 +2,7 @@
 ghost use Rattle.std.specs.Prelude.{◌≡◌, IfOk, OnOk, codes, map, option_map};
 ghost use Rattle.urlpattern_inputs.specs.{InputJson.input_tree, InputValues.input_view, Trees.Gain};
 ghost use Rattle.serde_json.specs.View.{items_view, view};
+ghost use Rattle.urlpattern_routes.specs.ReadBack.{RulesAreReadBack};
 ghost use Rattle.urlpattern_routes.specs.Trees.{condition_tree, request_tree, rule_tree, rules_tree, source_tree, tree_items};
 ghost use Rattle.urlpattern_routes.specs.Views.{condition_view, listed, request_view, rule_view, source_view};
 
@@ -14,7 +15,11 @@ use std::alloc::{AllocError, Global};
 use urlpattern_inputs::StringOrInit;
 use urlpattern_inputs::json_writing::{put_optional, put_text};
 
-/// Returns the JSON of rules, an array, which is read as the same rules.
+/// Returns the JSON of rules, an array.
+///
+/// Rules that were read without a fault are read again as the same rules, as
+/// [`rules_are_read_back`] says. Other rules may be written as JSON that is rejected, or that is
+/// read as others.
 pub fn rules_to_json(alloc: Global, rules: &[RouterRule]) -> Result<Value, AllocError>
     ensures { IfOk result (λ tree. view tree ≡ rules_tree (map rule_view rules.now)) }
 {
@@ -24,6 +29,12 @@ pub fn rules_to_json(alloc: Global, rules: &[RouterRule]) -> Result<Value, Alloc
     }
     Ok(Value::Array(items))
 }
+
+/// Rules that were read without a fault are also read, under the same limits, from the JSON that
+/// [`rules_to_json`] returns for them: the same rules, without a fault.
+pub fn rules_are_read_back()
+    ensures { RulesAreReadBack }
+{}
 
 /// Returns the JSON of a rule.
 fn rule_json(alloc: Global, rule: &RouterRule) -> Made<Value>

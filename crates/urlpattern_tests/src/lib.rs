@@ -1,8 +1,8 @@
 //! Tests that the data replayed by `bench` cannot express: components built by hand, engines that
 //! return what no engine should, the elements of lists and maps, routers, conditions, static routes
 //! that are read and written, borrowed matches, copies and comparisons of small values, calls with
-//! no or a bounded number of requests for memory, and lines that are too long. The crate has tests
-//! only.
+//! no or a bounded number of requests for memory, lines that are too long, and programs that the
+//! pages show. The crate has tests only.
 #![tactic(auto)]
 
 #[cfg(test)]
@@ -15,6 +15,8 @@ mod copies;
 mod decoded;
 #[cfg(test)]
 mod given;
+#[cfg(test)]
+mod guide;
 #[cfg(test)]
 mod hand_built;
 #[cfg(test)]

@@ -4,10 +4,11 @@ use crate::given::{expect_same, url_of};
 use serde_json::Value;
 use std::alloc::Global;
 use std::process::Abort;
+use std::slice;
 use std::test::Fail;
 use urlpattern::Error;
 use urlpattern_route_rules::{PatternFault, RouteFault, RouterFetch, RouterRules, RoutesError};
-use urlpattern_routes::RouterLimits;
+use urlpattern_routes::{RouterLimits, rules_to_json};
 
 /// The URL of the worker's script.
 const SCRIPT: &str = "http://app.example/js/sw.js";
@@ -42,6 +43,15 @@ const CALLS: [(&str, &str); 7] = [
         r#"{"condition":{"runningStatus":"not-running"},"source":"network"}"#,
         "",
     ),
+];
+
+/// Indices, each with its rule as it is written.
+const WRITTEN: [(usize, &str); 2] = [
+    (
+        1,
+        r#"[{"condition":{"not":{"requestMode":"navigate"}},"source":{"cacheName":"v1"}}]"#,
+    ),
+    (3, "none"),
 ];
 
 /// Requests by method, mode and URL, each with the rule that decides and its source.
@@ -111,6 +121,20 @@ fn a_rejected_call_adds_no_rule(rt: HostRuntime) -> Result<(), Fail> {
     let added = rules(&rt)?;
     expect_same(&rt, added.len(), 3, "calls");
     expect_same(&rt, added.is_empty(), false, "calls");
+    Ok(())
+}
+
+#[test]
+fn a_rule_is_written_as_it_was_given(rt: HostRuntime) -> Result<(), Fail> {
+    let alloc = rt.alloc();
+    let added = rules(&rt)?;
+    for (index, expected) in WRITTEN {
+        let written = match added.rule(index) {
+            Some(rule) => rules_to_json(alloc, slice::from_ref(rule))?.to_string(alloc)?,
+            None => String::from_str(alloc, "none")?,
+        };
+        expect_same(&rt, written.as_str(), expected, "calls");
+    }
     Ok(())
 }
 

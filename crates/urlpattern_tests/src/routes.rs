@@ -55,7 +55,7 @@ const FAULTS: [(&str, &str); 6] = [
     ),
 ];
 
-/// The rules of a call, and their faults in words.
+/// The rules of a call that have no fault, and the faults of the others in words.
 fn read(
     alloc: Global,
     json: &str,
@@ -65,12 +65,18 @@ fn read(
     let mut rules = Vec::new(alloc);
     let mut faults = String::new(alloc);
     for (index, item) in rules_in(&tree).iter().enumerate() {
-        let reading = read_rule(alloc, item, limits)?;
-        for fault in &reading.faults {
-            let words = format!(in alloc; "{index} {:?} {:?}, ", fault.member, fault.reason)?;
-            faults.push_str(&words)?;
+        match read_rule(alloc, item, limits)? {
+            Ok(rule) => {
+                rules.push(rule)?;
+            }
+            Err(found) => {
+                for fault in &found {
+                    let (member, reason) = (fault.member, fault.reason);
+                    let words = format!(in alloc; "{index} {member:?} {reason:?}, ")?;
+                    faults.push_str(&words)?;
+                }
+            }
         }
-        rules.push(reading.rule)?;
     }
     Ok((rules, faults))
 }

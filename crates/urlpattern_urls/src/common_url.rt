@@ -23,7 +23,8 @@ pub enum CommonUrl {
     /// No such URL exists.
     Nothing,
     /// Not known, but eight texts without line feeds are: each pattern of `all_of` matches them,
-    /// and no pattern of `none_of` does. The error says why they are not those of a URL.
+    /// and no pattern of `none_of` does. The error says why they are not those of a URL. Such texts
+    /// may be found although there is a URL, as an empty pathname under `wss`.
     Texts(Eight<String>, NoLink),
     /// Not known, for this reason.
     Unknown(Doubt),

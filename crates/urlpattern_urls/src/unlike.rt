@@ -33,7 +33,7 @@ pub(crate) enum Unlike {
 /// pathname, or a pathname that begins with another character than a slash.
 #[derive(Debug, Drop)]
 pub struct UrlFacts {
-    /// The automata of the patterns, in this order.
+    /// The automata of the four patterns, in the order in which the texts are named above.
     pub patterns: Vec<PatternAutomata>,
 }
 

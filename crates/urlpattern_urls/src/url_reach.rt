@@ -18,10 +18,11 @@ pub enum UrlReach {
     /// The pattern is the first one that matches this URL.
     First(Url),
     /// The pattern is the first one of no URL: the patterns at these indices, in order, match each
-    /// URL that it matches. None of the indices can be left out.
+    /// URL that it matches. Without any of the indices this is not known.
     Never(Vec<usize>),
     /// Not known, but the pattern is the first one that matches these eight texts without line
-    /// feeds. The error says why they are not those of a URL.
+    /// feeds. The error says why they are not those of a URL. Such texts may be found although
+    /// there is a URL, as an empty pathname under `wss`.
     Texts(Eight<String>, NoLink),
     /// Not known, for this reason. `AllOf` is of the pattern itself, `NoneOf` of one before it.
     Unknown(Doubt),

@@ -22,3 +22,13 @@ returns-in-Link-clause-answers g c = λ answered.
         | inr failed ↦ absurd (answered failed)
       ]
     ])
+
+pub returns-in-Link-clause-quiet : goal.returns-in-Link-clause-quiet
+returns-in-Link-clause-quiet g c = λ answered.
+    rw c.in-Link.is (elim c.link.ensures.status [
+      | inl done ↦ inl (c.link.ensures.quiet done)
+      | inr other ↦ elim other [
+        | inl none ↦ inr (c.link.ensures.refused none).0
+        | inr failed ↦ absurd (answered failed)
+      ]
+    ])

@@ -1,16 +1,18 @@
-use Rattle.std.proofs.Common.{ap, sym}
+use Rattle.std.proofs.Common.{List, ap, subst, ◌∙◌}
 use Rattle.std.specs.Prelude.{option_copied}
-use Rattle.urlpattern_canonical.specs.BaseUrls.{kept_base}
-use Rattle.urlpat_matching.specs.Status.{status_of}
-use Rattle.urlpat_commands.proofs.RouteLemmas.{routes-by}
+use Rattle.urlpattern_canonical.specs.BaseUrls.{BaseView}
+use Rattle.urlpat_commands.specs.TableRoutes.{AreRoutesOf, IsLineAnswered}
+use Rattle.urlpat_matching.specs.Filters.{Filters}
+use Rattle.urlpat_matching.specs.Tables.{EntryView, entries_view}
+use Rattle.urlpat_matching.specs.declared.command.Shape.TheVariants.{Line}
 use Rattle.urlpat_commands.proofs.routing.route_by.Goals as goal
 
-pub returns-in-Some-true-clause-answers : goal.returns-in-Some-true-clause-answers
-returns-in-Some-true-clause-answers g c = λ answered.
-    routes-by c.args.flags c.args.table.now (option_copied c.args.base) (kept_base c.in-Ok.kept) c.in-Some.entries.items c.deref.result.now c.in-Some-routes_of.routes _ _ _ c.in-Some-true.field-0 _
-    c.in-Some.ensures.entries c.deref.ensures.value c.in-Some-routes_of.ensures c.in-Ok.ensures.read (ap status_of (sym c.in-Some-true.field-0-test)) c.in-Some-true.ensures
-
-pub returns-in-Some-false-clause-answers : goal.returns-in-Some-false-clause-answers
-returns-in-Some-false-clause-answers g c = λ answered.
-    routes-by c.args.flags c.args.table.now (option_copied c.args.base) (kept_base c.in-Ok.kept) c.in-Some.entries.items c.deref.result.now c.in-Some-routes_of.routes _ _ _ c.in-Some-false.field-0 _
-    c.in-Some.ensures.entries c.deref.ensures.value c.in-Some-routes_of.ensures c.in-Ok.ensures.read (ap status_of (sym c.in-Some-false.field-0-test)) c.in-Some-false.ensures
+pub returns-clause-answers : goal.returns-clause-answers
+returns-clause-answers g c = λ answered. (
+  c.in-Some-routes_of.routes,
+  subst (λ (entries : List EntryView). AreRoutesOf c.args.flags.ignore_case (option_copied c.args.base) entries c.in-Some-routes_of.routes)
+      (ap entries_view c.deref.ensures.value ∙ c.in-Some.ensures.entries) c.in-Some-routes_of.ensures,
+  subst (λ (base : BaseView). Filters (IsLineAnswered c.args.flags.json c.in-Some-routes_of.routes base) Line c.write_answers-status.result
+      (g.In.Read.remaining c.args.input.now) (g.Out.Write.contents c.args.out.now) (g.Out.Write.contents c.write_answers-status.new.out))
+      c.in-Ok.ensures.read (c.write_answers-status.ensures.written answered),
+)

@@ -7,5 +7,5 @@ loop-entry-init g c = routes-none c.args.ignore_case (option_copied c.args.base)
 
 pub loop-entry-preserved : goal.loop-entry-preserved
 loop-entry-preserved g c =
-    routes-more c.args.ignore_case (option_copied c.args.base) c.args.entries.now c.loop-entry.entry-index _ c.loop-entry.routes c.try_insert.new.self c.in-Ok.pattern
-    c.loop-entry-test.true c.in-Ok-try_insert.ensures.appended c.loop-entry.invariant c.in-Ok.ensures.compiled
+    routes-more c.args.ignore_case (option_copied c.args.base) c.args.entries.now c.loop-entry.entry-index _ c.loop-entry.routes c.try_insert.new.self c.in_ok-pattern.pattern
+    c.loop-entry-test.true c.in-Ok.ensures.appended c.loop-entry.invariant c.in_ok-pattern.ensures.compiled

@@ -5,7 +5,7 @@ use Rattle.urlpat_explain.proofs.given_words.given_by.Goals as goal
 
 pub returns-in-None-clause-refused : goal.returns-in-None-clause-refused
 returns-in-None-clause-refused c =
-    nothing_given (pattern_view c.args.pattern.now) c.args.words.now c.loop-word.word-index _ (omega arith) c.in-None.ensures.nothing
+    nothing_given (pattern_view c.args.pattern.now) c.args.words.now c.loop-word.word-index _ c.loop-word.groups.items (omega arith) c.in-None.ensures.nothing c.loop-word.invariant
 
 pub loop-word-preserved : goal.loop-word-preserved
 loop-word-preserved c =

@@ -11,3 +11,6 @@ returns-in-Ok-link-clause-linked c = (
   c.in-Ok.ensures.given,
   subst (λ (groups : List Given). IsLink pattern_result c.args.pattern.now (given_groups groups) c.in-Ok-link.url) c.deref.ensures.value c.in-Ok-link.ensures.generated,
 )
+
+pub returns-in-Err-Word-clause-refused : goal.returns-in-Err-Word-clause-refused
+returns-in-Err-Word-clause-refused c = rw c.in-Err-Word.field-0-is (rw c.in-Err-Word.field-0-is at c.in-Err-Word.ensures.refused)

@@ -7,6 +7,6 @@ use Rattle.urlpattern_ffi.proofs.exec_calls.json_text.Goals as goal
 pub returns : goal.returns
 returns c =
     let tree = view c.in_ok-tree.tree in
-    let is_tree = c.in_ok-tree.ensures.tree in
+    let (result, same, is_tree) = c.in_ok-tree.ensures.tree in
     let none = result-none _ tree is_tree in
-    (tree, is_tree, search (rules, none), c.in_ok-text.ensures.reads_back (result-shallow _ tree is_tree))
+    (result, same, (tree, is_tree, search (rules, none), c.in_ok-text.ensures.reads_back (result-shallow _ tree is_tree)))

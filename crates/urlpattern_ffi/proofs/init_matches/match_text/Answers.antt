@@ -14,10 +14,11 @@ pub returns-in-Ok-json_text-clause-text : goal.returns-in-Ok-json_text-clause-te
 returns-in-Ok-json_text-clause-text c =
     let match : IsMatchOf pattern_result (pattern_view c.args.pattern.now) (texts_view c.in-Ok.input) (pattern_captures_view c.in-Ok-Some.found) =
     rw c.in-Ok-Some.field-0-is at c.in-Ok-Some.ensures.matched in
+    let (result, same, is_text) = c.in-Ok-json_text.ensures in
     record {
       texts = texts_view c.in-Ok.input;
-      result = c.in-Ok-to_result.copy;
+      result = result;
       are_texts = c.in-Ok.ensures.found;
-      is_match = match-same pattern_result (pattern_view c.args.pattern.now) (texts_view c.in-Ok.input) (pattern_captures_view c.in-Ok-Some.found) (result_view c.in-Ok-to_result.copy) c.in-Ok-to_result.ensures.same match;
-      is_text = c.in-Ok-json_text.ensures;
+      is_match = match-same pattern_result (pattern_view c.args.pattern.now) (texts_view c.in-Ok.input) (pattern_captures_view c.in-Ok-Some.found) (result_view result) same match;
+      is_text = is_text;
     }

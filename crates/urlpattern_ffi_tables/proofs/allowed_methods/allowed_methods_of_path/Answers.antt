@@ -1,39 +1,13 @@
-use Rattle.std.proofs.Common.{ℕ, List, inl, refl, subst}
-use Rattle.std.specs.Str.{chars}
-use Rattle.urlpattern.specs.Paths.{IsPath}
+use Rattle.std.proofs.Common.{refl}
 use Rattle.urlpattern_ffi.specs.PassedTexts.{AreTextsOfPath, IsNoPath}
-use Rattle.urlpattern_ffi.specs.declared.status.Status.TheVariants.{NoPath, OutOfMemory}
-use Rattle.urlpattern_matches.specs.MatchInput.{pathname_alone}
-use Rattle.urlpattern_ffi_tables.proofs.AllowedLemmas.{allowed_of, allowed_read, allowed_unread, allowed_written}
-use Rattle.urlpattern_ffi_tables.proofs.RouteLemmas.{path_texts}
 use Rattle.urlpattern_ffi_tables.specs.KeptRouters.{boxed_router}
+use Rattle.urlpattern_ffi_tables.proofs.AllowedLemmas.{allowed_of}
 use Rattle.urlpattern_ffi_tables.proofs.allowed_methods.allowed_methods_of_path.Goals as goal
 
-pub returns-in-Ok-at : goal.returns-in-Ok-at
-returns-in-Ok-at c =
-    let router = c.in-Some.router.now in
-    let method = c.in-Ok.method.now in
-    let (same, some) = c.in-Some.ensures.some in
-    let texts = pathname_alone (chars c.in-Ok-from_utf8.path.now) in
-    let answer = allowed_written router (chars method) texts c.args.buffer.now c.write_allowed.new.buffer c.write_allowed.new.needed c.in-Ok-at.routed c.write_allowed.result c.in-Ok-at.ensures.routed.1 c.write_allowed.ensures in
-    let reported = allowed_read (AreTextsOfPath c.args.path.now) (IsNoPath c.args.path.now) router method texts c.args.buffer.now c.write_allowed.new.buffer c.write_allowed.new.needed c.write_allowed.result some (path_texts c.in-Ok-from_utf8.path.now c.args.path.now c.in-Ok-from_utf8.ensures.cases.0 c.in-Ok-at.ensures.routed.0) answer in
-    allowed_of (AreTextsOfPath c.args.path.now) (IsNoPath c.args.path.now) router (boxed_router c.args.kept.now) method c.args.method.now c.args.buffer.now c.write_allowed.new.buffer c.write_allowed.new.needed c.write_allowed.result same c.in-Ok.ensures.cases.0 reported
+pub returns-in-Some : goal.returns-in-Some
+returns-in-Some c =
+    allowed_of (AreTextsOfPath c.args.path.now) (IsNoPath c.args.path.now) c.in-Some.router.now (boxed_router c.args.kept.now) c.args.method.now c.args.method.now c.args.buffer.now c.allowed_at_path.new.buffer c.allowed_at_path.new.needed c.allowed_at_path.result c.in-Some.ensures.some.0 refl c.allowed_at_path.ensures
 
-pub returns-in-Err-NotAPath : goal.returns-in-Err-NotAPath
-returns-in-Err-NotAPath c =
-    let router = c.in-Some.router.now in
-    let method = c.in-Ok.method.now in
-    let (same, some) = c.in-Some.ensures.some in
-    let none = subst (λ (bytes : List ℕ). ¬ IsPath (chars bytes)) c.in-Ok-from_utf8.ensures.cases.0 (rw c.in-Err-NotAPath.field-0-is at c.in-Err-NotAPath.ensures.refused) in
-    let reported = allowed_unread (AreTextsOfPath c.args.path.now) (IsNoPath c.args.path.now) router method c.args.buffer.now c.args.needed.now NoPath some (λ none. none) none in
-    allowed_of (AreTextsOfPath c.args.path.now) (IsNoPath c.args.path.now) router (boxed_router c.args.kept.now) method c.args.method.now c.args.buffer.now c.args.buffer.now c.args.needed.now NoPath same c.in-Ok.ensures.cases.0 reported
-
-pub returns-in-Err-OutOfMemory : goal.returns-in-Err-OutOfMemory
-returns-in-Err-OutOfMemory c =
-    let router = c.in-Some.router.now in
-    let method = c.in-Ok.method.now in
-    let (same, some) = c.in-Some.ensures.some in
-    let (is_path, calls) = rw c.in-Err-OutOfMemory.field-0-is at c.in-Err-OutOfMemory.ensures.refused in
-    let reported = allowed_read (AreTextsOfPath c.args.path.now) (IsNoPath c.args.path.now) router method (pathname_alone (chars c.in-Ok-from_utf8.path.now)) c.args.buffer.now c.args.buffer.now c.args.needed.now OutOfMemory some
-    (path_texts c.in-Ok-from_utf8.path.now c.args.path.now c.in-Ok-from_utf8.ensures.cases.0 is_path) (inl calls, refl) in
-    allowed_of (AreTextsOfPath c.args.path.now) (IsNoPath c.args.path.now) router (boxed_router c.args.kept.now) method c.args.method.now c.args.buffer.now c.args.buffer.now c.args.needed.now OutOfMemory same c.in-Ok.ensures.cases.0 reported
+pub returns-in-None : goal.returns-in-None
+returns-in-None c =
+    allowed_of (AreTextsOfPath c.args.path.now) (IsNoPath c.args.path.now) c.router_without_routes-router.result (boxed_router c.args.kept.now) c.args.method.now c.args.method.now c.args.buffer.now c.allowed_at_path-in-None.new.buffer c.allowed_at_path-in-None.new.needed c.allowed_at_path-in-None.result c.router_without_routes-router.ensures refl c.allowed_at_path-in-None.ensures

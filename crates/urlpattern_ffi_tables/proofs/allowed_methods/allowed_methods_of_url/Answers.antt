@@ -1,36 +1,14 @@
-use Rattle.std.proofs.Common.{inl, refl}
-use Rattle.std.specs.Str.{chars}
+use Rattle.std.proofs.Common.{refl}
 use Rattle.urlpattern_ffi.specs.Calls.{IsNoUrl}
-use Rattle.urlpattern_ffi.specs.declared.status.Status.TheVariants.{OutOfMemory}
-use Rattle.urlpattern_ffi_tables.specs.RoutedRequests.{AreTextsOfUrl}
-use Rattle.urlpattern_init.specs.Inheritance.{texts_of_url}
-use Rattle.urlpattern_ffi_tables.proofs.AllowedLemmas.{allowed_of, allowed_read, allowed_unread, allowed_written}
 use Rattle.urlpattern_ffi_tables.specs.KeptRouters.{boxed_router}
+use Rattle.urlpattern_ffi_tables.specs.RoutedRequests.{AreTextsOfUrl}
+use Rattle.urlpattern_ffi_tables.proofs.AllowedLemmas.{allowed_of}
 use Rattle.urlpattern_ffi_tables.proofs.allowed_methods.allowed_methods_of_url.Goals as goal
 
-pub returns-in-Ok-at_url : goal.returns-in-Ok-at_url
-returns-in-Ok-at_url c =
-    let router = c.in-Some.router.now in
-    let method = c.in-Ok.method.now in
-    let (same, some) = c.in-Some.ensures.some in
-    let texts = texts_of_url c.in-Ok-url_of.url in
-    let answer = allowed_written router (chars method) texts c.args.buffer.now c.write_allowed.new.buffer c.write_allowed.new.needed c.in-Ok-at_url.routed c.write_allowed.result c.in-Ok-at_url.ensures.routed c.write_allowed.ensures in
-    let reported = allowed_read (AreTextsOfUrl c.args.url.now c.args.base.now) (IsNoUrl c.args.url.now c.args.base.now) router method texts c.args.buffer.now c.write_allowed.new.buffer c.write_allowed.new.needed c.write_allowed.result some (c.in-Ok-url_of.url, c.in-Ok-url_of.ensures.found, refl) answer in
-    allowed_of (AreTextsOfUrl c.args.url.now c.args.base.now) (IsNoUrl c.args.url.now c.args.base.now) router (boxed_router c.args.kept.now) method c.args.method.now c.args.buffer.now c.write_allowed.new.buffer c.write_allowed.new.needed c.write_allowed.result same c.in-Ok.ensures.cases.0 reported
+pub returns-in-Some : goal.returns-in-Some
+returns-in-Some c =
+    allowed_of (AreTextsOfUrl c.args.url.now c.args.base.now) (IsNoUrl c.args.url.now c.args.base.now) c.in-Some.router.now (boxed_router c.args.kept.now) c.args.method.now c.args.method.now c.args.buffer.now c.allowed_at_url.new.buffer c.allowed_at_url.new.needed c.allowed_at_url.result c.in-Some.ensures.some.0 refl c.allowed_at_url.ensures
 
-pub returns-in-Err : goal.returns-in-Err
-returns-in-Err c =
-    let router = c.in-Some.router.now in
-    let method = c.in-Ok.method.now in
-    let (same, some) = c.in-Some.ensures.some in
-    let reported = allowed_unread (AreTextsOfUrl c.args.url.now c.args.base.now) (IsNoUrl c.args.url.now c.args.base.now) router method c.args.buffer.now c.args.needed.now c.in-Err.status some (λ none. none) c.in-Err.ensures.missing in
-    allowed_of (AreTextsOfUrl c.args.url.now c.args.base.now) (IsNoUrl c.args.url.now c.args.base.now) router (boxed_router c.args.kept.now) method c.args.method.now c.args.buffer.now c.args.buffer.now c.args.needed.now c.in-Err.status same c.in-Ok.ensures.cases.0 reported
-
-pub returns : goal.returns
-returns c =
-    let router = c.in-Some.router.now in
-    let method = c.in-Ok.method.now in
-    let (same, some) = c.in-Some.ensures.some in
-    let reported = allowed_read (AreTextsOfUrl c.args.url.now c.args.base.now) (IsNoUrl c.args.url.now c.args.base.now) router method (texts_of_url c.in-Ok-url_of.url) c.args.buffer.now c.args.buffer.now c.args.needed.now OutOfMemory some
-    (c.in-Ok-url_of.url, c.in-Ok-url_of.ensures.found, refl) (inl c.in-Err-at_url.ensures.asked, refl) in
-    allowed_of (AreTextsOfUrl c.args.url.now c.args.base.now) (IsNoUrl c.args.url.now c.args.base.now) router (boxed_router c.args.kept.now) method c.args.method.now c.args.buffer.now c.args.buffer.now c.args.needed.now OutOfMemory same c.in-Ok.ensures.cases.0 reported
+pub returns-in-None : goal.returns-in-None
+returns-in-None c =
+    allowed_of (AreTextsOfUrl c.args.url.now c.args.base.now) (IsNoUrl c.args.url.now c.args.base.now) c.router_without_routes-router.result (boxed_router c.args.kept.now) c.args.method.now c.args.method.now c.args.buffer.now c.allowed_at_url-in-None.new.buffer c.allowed_at_url-in-None.new.needed c.allowed_at_url-in-None.result c.router_without_routes-router.ensures refl c.allowed_at_url-in-None.ensures

@@ -14,7 +14,7 @@ returns-in-Ok-parse g c =
     let given = init_view c.args.given.now in
     let copy = c.in_ok-clone.field-0 in
     init-compiled g.R.RegExp c.args.script.now given copy c.no_options.result c.in-Ok-parse.pattern c.allowed.result c.no_options.ensures
-    (copy-given c.args.script.now given c.in-Ok.init copy (subst (GivesInit c.args.script.now given) c.in-Ok.is c.in_ok-init.ensures) c.in_ok-clone.ensures.cases.0 c.in_ok-clone.ensures.cases.1) c.in-Ok-parse.ensures.compiled c.allowed.ensures
+    (copy-given c.args.script.now given c.in-Ok.init copy (subst (GivesInit c.args.script.now given) c.in-Ok.is c.in_ok-init.ensures) c.in_ok-clone.ensures.cases.0 c.in_ok-clone.ensures.cases.1) c.in-Ok-parse.ensures.compiled c.in-Ok-parse.ensures.kept c.allowed.ensures
 
 pub returns-in-Ok-Some : goal.returns-in-Ok-Some
 returns-in-Ok-Some g c =

@@ -3,7 +3,7 @@ use Rattle.urlpattern_route_rules.proofs.given.compiled_text.Goals as goal
 
 pub returns-in-Ok : goal.returns-in-Ok
 returns-in-Ok g c =
-    text-compiled g.R.RegExp c.args.script.now c.args.text.now c.no_options.result c.in-Ok.pattern c.allowed.result c.no_options.ensures c.in-Ok.ensures.compiled c.allowed.ensures
+    text-compiled g.R.RegExp c.args.script.now c.args.text.now c.no_options.result c.in-Ok.compiled c.allowed.result c.no_options.ensures c.in-Ok.ensures.compiled c.in-Ok.ensures.kept c.allowed.ensures
 
 pub returns-in-Ok-Some : goal.returns-in-Ok-Some
 returns-in-Ok-Some g c =

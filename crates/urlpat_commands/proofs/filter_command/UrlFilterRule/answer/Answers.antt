@@ -1,5 +1,5 @@
 use Rattle.std.proofs.Common.{rules}
-use Rattle.urlpat_commands.proofs.FilterCommandLemmas.{matched_answered, other_answered}
+use Rattle.urlpat_commands.proofs.FilterCommandLemmas.{matched_answered, no_url_answered, other_answered}
 use Rattle.urlpattern.specs.BorrowedMatches.{pattern_captures_view}
 use Rattle.urlpattern.specs.Patterns.{pattern_view}
 use Rattle.urlpattern_canonical.specs.BaseUrls.{kept_base}
@@ -7,7 +7,7 @@ use Rattle.urlpat_commands.proofs.filter_command.UrlFilterRule.answer.Goals as g
 
 pub returns-in_default-found : goal.returns-in_default-found
 returns-in_default-found c =
-    other_answered (pattern_view c.args.self.now.pattern.now) (kept_base c.args.self.now.base.now) c.args.self.now.inverted c.args.self.now.shape
+    no_url_answered (pattern_view c.args.self.now.pattern.now) (kept_base c.args.self.now.base.now) c.args.self.now.inverted c.args.self.now.shape
     c.args.text.now c.args.line.now c.args.written.now.items _ _ (search rules) c.answer_other.ensures
 
 pub returns-in-Ok-Some : goal.returns-in-Ok-Some

@@ -1,4 +1,4 @@
-use Rattle.urlpattern.proofs.ReachedLaws.{contending_match, others_do_not_contend}
+use Rattle.urlpattern.proofs.ContendingLaws.{contending_match, others_do_not_contend}
 use Rattle.urlpattern_engine.proofs.AlikeLaws.{expressions_of_regex, own_expressions}
 use Rattle.urlpattern_engine.specs.PatternRegexps.{pattern_engine}
 use Rattle.urlpattern_laws.proofs.EngineParts.{pattern_parts_mean, regex_parts_mean}

@@ -1,7 +1,8 @@
 //! A component by itself: its tokens, its options, its canonical values and its matcher.
 
-use crate::line_of;
+use crate::guide::{expect_line, line_of};
 use std::alloc::Global;
+use std::test::Fail;
 use urlpattern::canonicalize_and_process::Canonicalizer;
 use urlpattern::component::{Component, generate_matcher};
 use urlpattern::matcher::{InnerMatcher, Matcher};
@@ -11,15 +12,21 @@ use urlpattern::tokenizer::{TokenizePolicy, tokenize};
 use urlpattern::{ComponentName, Eight, Error, RegexSyntax, UrlPatternInit};
 
 /// The component that a text names, if there is one, in words.
-pub fn name_line(alloc: Global, text: &str) -> Result<String, Error> {
+fn name_line(alloc: Global, text: &str) -> Result<String, Error> {
     // docs: names
     let component = ComponentName::from_name(text);
     // docs: end
     line_of(format!(in alloc; "{component:?}"))
 }
 
+#[test]
+fn a_component_by_its_name(rt: HostRuntime) -> Result<(), Fail> {
+    expect_line(&rt, name_line(rt.alloc(), "search"), "Some(Search)")?;
+    Ok(())
+}
+
 /// The path of an init whose texts are made component by component, in words.
-pub fn init_line(alloc: Global) -> Result<String, Error> {
+fn init_line(alloc: Global) -> Result<String, Error> {
     // docs: init_of
     let text_of = |component| -> Result<Option<String>, Error> {
         match component {
@@ -35,17 +42,29 @@ pub fn init_line(alloc: Global) -> Result<String, Error> {
     line
 }
 
+#[test]
+fn an_init_by_its_components(rt: HostRuntime) -> Result<(), Fail> {
+    expect_line(&rt, init_line(rt.alloc()), "Some(\"/users/:id\")")?;
+    Ok(())
+}
+
 /// How many tokens a text has, in words.
-pub fn tokens_line(alloc: Global) -> Result<String, Error> {
+fn tokens_line(alloc: Global) -> Result<String, Error> {
     // docs: tokens
     let tokens = tokenize(alloc, "/users/:id", TokenizePolicy::Strict)?;
     // docs: end
     line_of(format!(in alloc; "{} tokens", tokens.len()))
 }
 
+#[test]
+fn the_tokens_of_a_text(rt: HostRuntime) -> Result<(), Fail> {
+    expect_line(&rt, tokens_line(rt.alloc()), "9 tokens")?;
+    Ok(())
+}
+
 /// The pattern text of a path, compiled with ECMAScript's syntax of regular expressions, with case
 /// ignored.
-pub fn path_line(alloc: Global) -> Result<String, Error> {
+fn path_line(alloc: Global) -> Result<String, Error> {
     // docs: options
     let options = Options {
         // docs: syntax
@@ -62,8 +81,14 @@ pub fn path_line(alloc: Global) -> Result<String, Error> {
     line_of(format!(in alloc; "{}", path.pattern_string))
 }
 
+#[test]
+fn a_compiled_component(rt: HostRuntime) -> Result<(), Fail> {
+    expect_line(&rt, path_line(rt.alloc()), "/:id")?;
+    Ok(())
+}
+
 /// What a matcher compares a text with, in words.
-pub fn matcher_line(alloc: Global) -> Result<String, Error> {
+fn matcher_line(alloc: Global) -> Result<String, Error> {
     let copied = |text: &str| -> Result<String, Error> { Ok(String::from_str(alloc, text)?) };
     // docs: matcher_of
     let options = Options::pathname(alloc)?;
@@ -86,11 +111,23 @@ fn matcher_words(alloc: Global, matcher: &Matcher<PatternRegexp>) -> Result<Stri
     // docs: end
 }
 
+#[test]
+fn a_matcher(rt: HostRuntime) -> Result<(), Fail> {
+    expect_line(&rt, matcher_line(rt.alloc()), "the text /users")?;
+    Ok(())
+}
+
 /// The canonical form of a path.
-pub fn canonical_line(alloc: Global) -> Result<String, Error> {
+fn canonical_line(alloc: Global) -> Result<String, Error> {
     // docs: canonicalizer
     let canonicalizer = Canonicalizer::shared(alloc)?;
     let path = canonicalizer.pathname("/a/../b")?;
     // docs: end
     Ok(path)
+}
+
+#[test]
+fn a_canonical_path(rt: HostRuntime) -> Result<(), Fail> {
+    expect_line(&rt, canonical_line(rt.alloc()), "/b")?;
+    Ok(())
 }

@@ -1,12 +1,13 @@
 //! Cache keys: what a page is kept under, whatever else its URL says.
 
-use crate::{Pattern, pattern};
+use crate::guide::{Pattern, expect_line, pattern};
 use std::alloc::Global;
+use std::test::Fail;
 use url::Url;
 use urlpattern::{ComponentName, Error};
 
 /// The key of a page, in words.
-pub fn key_line(alloc: Global, url: &str) -> Result<String, Error> {
+fn key_line(alloc: Global, url: &str) -> Result<String, Error> {
     // docs: search
     let docs = pattern(
         alloc,
@@ -31,4 +32,16 @@ fn key(alloc: Global, docs: &Pattern, url: &Url) -> Result<String, Error> {
         None => Ok(format!(in alloc; "{path}")?),
     }
     // docs: end
+}
+
+#[test]
+fn the_key_of_a_page(rt: HostRuntime) -> Result<(), Fail> {
+    let line = key_line(
+        rt.alloc(),
+        "https://example.com/docs/start?page=2&lang=fr&ref=mail",
+    );
+    expect_line(&rt, line, "/docs/start fr")?;
+    let line = key_line(rt.alloc(), "https://example.com/docs/start?page=2");
+    expect_line(&rt, line, "/docs/start")?;
+    Ok(())
 }

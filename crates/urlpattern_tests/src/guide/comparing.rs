@@ -2,9 +2,10 @@
 //! list is dead, and what a change of a rule lets in. A pattern as one text, and a hash of its
 //! parts.
 
-use crate::{line_of, parts, pattern, text};
+use crate::guide::{expect_line, line_of, pattern, text};
 use std::alloc::Global;
 use std::hash::{DefaultHasher, Hasher};
+use std::test::Fail;
 use urlpattern::rules::{
     Common, PatternAutomata, PatternCovering, PatternOverlap, PatternParts, Reach, USUAL_LIMITS,
     find_common,
@@ -13,7 +14,7 @@ use urlpattern::{Error, UrlPatternList};
 
 /// Whether a pattern covers another, in words; if not, with a text of a component that only the
 /// other matches.
-pub fn covers_line(alloc: Global) -> Result<String, Error> {
+fn covers_line(alloc: Global) -> Result<String, Error> {
     let users = pattern(alloc, "https://example.com/users/:id")?;
     let pages = pattern(alloc, "https://example.com/users/*")?;
     let covering = match users.covers(alloc, &pages) {
@@ -45,8 +46,15 @@ fn covering_words(alloc: Global, covering: &PatternCovering) -> Result<String, E
     // docs: end
 }
 
+#[test]
+fn whether_a_pattern_covers_another(rt: HostRuntime) -> Result<(), Fail> {
+    let line = covers_line(rt.alloc());
+    expect_line(&rt, line, "not covered: pathname `/users/`")?;
+    Ok(())
+}
+
 /// Whether two patterns have a URL in common, in words; if so, with the path of one.
-pub fn overlaps_line(alloc: Global) -> Result<String, Error> {
+fn overlaps_line(alloc: Global) -> Result<String, Error> {
     let users = pattern(alloc, "https://example.com/users/:id")?;
     let pages = pattern(alloc, "https://example.com/*")?;
     let overlap = match users.overlaps(alloc, &pages) {
@@ -72,8 +80,14 @@ fn overlap_words(alloc: Global, overlap: &PatternOverlap) -> Result<String, Erro
     // docs: end
 }
 
+#[test]
+fn whether_patterns_have_a_text_in_common(rt: HostRuntime) -> Result<(), Fail> {
+    expect_line(&rt, overlaps_line(rt.alloc()), "common: /users/a")?;
+    Ok(())
+}
+
 /// Whether the last rule of a list is the first match of some URL, in words.
-pub fn reach_line(alloc: Global) -> Result<String, Error> {
+fn reach_line(alloc: Global) -> Result<String, Error> {
     // docs: reach
     let mut rules = UrlPatternList::new(alloc);
     rules.try_push(pattern(alloc, "https://example.com/users/*")?)?;
@@ -91,8 +105,22 @@ pub fn reach_line(alloc: Global) -> Result<String, Error> {
     // docs: end
 }
 
+#[test]
+fn which_rules_are_dead(rt: HostRuntime) -> Result<(), Fail> {
+    expect_line(&rt, reach_line(rt.alloc()), "dead, by the rules [0]")?;
+    Ok(())
+}
+
+/// The parts of the pattern of a constructor string.
+fn parts(alloc: Global, text: &str) -> Result<PatternParts, Error> {
+    let Some(parts) = pattern(alloc, text)?.into_parts() else {
+        return Err(Error::OutOfMemory);
+    };
+    Ok(parts)
+}
+
 /// A path that a rule matches after a change, and did not match before, in words.
-pub fn change_line(alloc: Global) -> Result<String, Error> {
+fn change_line(alloc: Global) -> Result<String, Error> {
     let users = parts(alloc, "https://example.com/users/:id")?;
     let pages = parts(alloc, "https://example.com/users/*")?;
     // docs: change
@@ -111,8 +139,14 @@ pub fn change_line(alloc: Global) -> Result<String, Error> {
     // docs: end
 }
 
+#[test]
+fn what_a_change_lets_in(rt: HostRuntime) -> Result<(), Fail> {
+    expect_line(&rt, change_line(rt.alloc()), "lets in /users/")?;
+    Ok(())
+}
+
 /// The constructor string of a pattern that was made of another one, in words.
-pub fn text_line(alloc: Global) -> Result<String, Error> {
+fn text_line(alloc: Global) -> Result<String, Error> {
     // docs: constructor_string
     let users = pattern(alloc, "https://example.com/{users}/:id")?;
     let text = users.to_constructor_string(alloc)?;
@@ -123,8 +157,15 @@ pub fn text_line(alloc: Global) -> Result<String, Error> {
     }
 }
 
+#[test]
+fn a_pattern_as_one_text(rt: HostRuntime) -> Result<(), Fail> {
+    let line = text_line(rt.alloc());
+    expect_line(&rt, line, "as a text: https://example.com/users/:id")?;
+    Ok(())
+}
+
 /// Whether two patterns of equal parts hash alike, in words.
-pub fn hash_line(alloc: Global) -> Result<String, Error> {
+fn hash_line(alloc: Global) -> Result<String, Error> {
     let users = pattern(alloc, "https://example.com/users/:id")?;
     let braced = pattern(alloc, "https://example.com/{users}/:id")?;
     let is_alike = match (users.parts(), braced.parts()) {
@@ -141,4 +182,10 @@ fn hash_of(parts: &PatternParts) -> u64 {
     parts.hash_into(&mut hasher);
     hasher.finish()
     // docs: end
+}
+
+#[test]
+fn equal_parts_hash_alike(rt: HostRuntime) -> Result<(), Fail> {
+    expect_line(&rt, hash_line(rt.alloc()), "hashed alike: true")?;
+    Ok(())
 }

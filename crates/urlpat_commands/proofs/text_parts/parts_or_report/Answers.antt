@@ -1,8 +1,8 @@
 use Rattle.std.proofs.Common.{sym, ◌∙◌}
-use Rattle.urlpat_commands.proofs.text_parts.parts_of_text.Goals as goal
+use Rattle.urlpat_commands.proofs.text_parts.parts_or_report.Goals as goal
 
-pub returns : goal.returns
-returns c = (
+pub returns-clause-parts : goal.returns-clause-parts
+returns-clause-parts g c = (
   c.in_ok-pattern.pattern,
   c.in_ok-pattern.ensures.compiled,
   c.in_ok-pattern.ensures.kept,

@@ -1,11 +1,12 @@
 //! Diagnoses: where a pattern is at fault, and why.
 
-use crate::{Pattern, line_of, text};
+use crate::guide::{Pattern, expect_line, line_of, text};
 use std::alloc::Global;
+use std::test::Fail;
 use urlpattern::{Error, Subject, UrlPatternOptions};
 
 /// Why a pattern is rejected, and where the fault is, in words; or that it is accepted.
-pub fn diagnosis_line(alloc: Global, pattern: &str) -> Result<String, Error> {
+fn diagnosis_line(alloc: Global, pattern: &str) -> Result<String, Error> {
     // docs: diagnose
     let options = UrlPatternOptions::default();
     let diagnosis = Pattern::diagnose(alloc, pattern, None, options)?;
@@ -31,4 +32,14 @@ pub fn diagnosis_line(alloc: Global, pattern: &str) -> Result<String, Error> {
     let reason = &diagnosis.reason;
     // docs: end
     line_of(format!(in alloc; "{subject} at {part:?}, earlier {earlier:?}: {reason}"))
+}
+
+#[test]
+fn why_a_pattern_is_rejected(rt: HostRuntime) -> Result<(), Fail> {
+    let line = diagnosis_line(rt.alloc(), "https://example.com/:id");
+    expect_line(&rt, line, "accepted")?;
+    let line = diagnosis_line(rt.alloc(), "https://example.com/:id/:id");
+    let line = line;
+    expect_line(&rt, line, "pathname at Some(\":id\"), earlier Some(Span { start: 20, end: 23 }): the name `id` occurs twice: first here, and here; rename one of them")?;
+    Ok(())
 }

@@ -1,18 +1,40 @@
 //! Matching: whether a pattern matches a URL, and what its groups capture.
 
-use crate::{line_of, pattern, text};
+use crate::guide::{Pattern, expect_line, line_of, pattern, text};
 use std::alloc::Global;
+use std::test::Fail;
 use url::Url;
 use urlpattern::{
-    ComponentName, Error, UrlPatternList, UrlPatternMap, UrlPatternMatchInput, UrlPatternResult,
-    url_texts,
+    ComponentName, Error, UrlPatternInit, UrlPatternMatchInput, UrlPatternOptions,
+    UrlPatternResult, pathname_texts, url_texts,
 };
 
 /// A pattern of files, with two groups in its path, of which the second may be missing.
 const FILES: &str = "https://example.com/users/:id{/files/:file}?";
 
+/// The user that a path names by a pattern of a path alone, in words.
+fn path_line(alloc: Global, path: &str) -> Result<String, Error> {
+    // docs: init
+    let mut init = UrlPatternInit::default();
+    init.pathname = Some(String::from_str(alloc, "/users/:id")?);
+    let users = Pattern::parse(alloc, init, UrlPatternOptions::default())?;
+    // docs: end
+    let Some(found) = users.captures_of_texts(alloc, &pathname_texts(path))? else {
+        return text(alloc, "no user");
+    };
+    let id = found.get(ComponentName::Pathname, "id");
+    line_of(format!(in alloc; "{id:?}"))
+}
+
+#[test]
+fn a_pattern_of_a_path(rt: HostRuntime) -> Result<(), Fail> {
+    expect_line(&rt, path_line(rt.alloc(), "/users/123"), "Some(\"123\")")?;
+    expect_line(&rt, path_line(rt.alloc(), "/users/123/files"), "no user")?;
+    Ok(())
+}
+
 /// Whether a pattern matches a URL, in words.
-pub fn test_line(alloc: Global) -> Result<String, Error> {
+fn test_line(alloc: Global) -> Result<String, Error> {
     // docs: test
     let users = pattern(alloc, "https://example.com/users/:id")?;
     // docs: url_input
@@ -24,8 +46,14 @@ pub fn test_line(alloc: Global) -> Result<String, Error> {
     line_of(format!(in alloc; "a user: {is_user}"))
 }
 
+#[test]
+fn whether_a_pattern_matches(rt: HostRuntime) -> Result<(), Fail> {
+    expect_line(&rt, test_line(rt.alloc()), "a user: true")?;
+    Ok(())
+}
+
 /// What a group captures of a URL, and the names of all groups of the path, sorted, in words.
-pub fn exec_line(alloc: Global) -> Result<String, Error> {
+fn exec_line(alloc: Global) -> Result<String, Error> {
     // docs: exec
     let users = pattern(alloc, "https://example.com/users/:id")?;
     let url = Url::parse(alloc, "https://example.com/users/123")?;
@@ -50,9 +78,16 @@ fn groups_of(alloc: Global, found: &UrlPatternResult) -> Result<String, Error> {
     line_of(format!(in alloc; "{id:?}, all groups: {names:?}"))
 }
 
+#[test]
+fn an_owned_match(rt: HostRuntime) -> Result<(), Fail> {
+    let line = exec_line(rt.alloc());
+    expect_line(&rt, line, "Some(\"123\"), all groups: [\"id\"]")?;
+    Ok(())
+}
+
 /// The two groups of a path, and the first group of all components, each with its capture, in
 /// words.
-pub fn groups_line(alloc: Global) -> Result<String, Error> {
+fn groups_line(alloc: Global) -> Result<String, Error> {
     let files = pattern(alloc, FILES)?;
     let url = Url::parse(alloc, "https://example.com/users/123")?;
     let Some(found) = files.captures(alloc, &url)? else {
@@ -70,9 +105,17 @@ pub fn groups_line(alloc: Global) -> Result<String, Error> {
     line_of(format!(in alloc; "{id:?}, {file:?}, first {first:?}"))
 }
 
+#[test]
+fn the_groups_of_a_match(rt: HostRuntime) -> Result<(), Fail> {
+    let line = groups_line(rt.alloc());
+    let line = line;
+    expect_line(&rt, line, "Some((\"id\", Some(\"123\"))), Some((\"file\", None)), first Some((Username, \"0\", Some(\"\")))")?;
+    Ok(())
+}
+
 /// The first component of a URL that a pattern does not match, found by the URL and by its eight
 /// texts, in words.
-pub fn mismatch_line(alloc: Global) -> Result<String, Error> {
+fn mismatch_line(alloc: Global) -> Result<String, Error> {
     // docs: mismatch
     let users = pattern(alloc, "https://example.com/users/:id")?;
     let url = Url::parse(alloc, "https://example.org/users/123")?;
@@ -82,8 +125,15 @@ pub fn mismatch_line(alloc: Global) -> Result<String, Error> {
     line_of(format!(in alloc; "{component:?}, {of_texts:?}"))
 }
 
+#[test]
+fn what_a_pattern_does_not_match(rt: HostRuntime) -> Result<(), Fail> {
+    let line = mismatch_line(rt.alloc());
+    expect_line(&rt, line, "Some(Hostname), Some(Hostname)")?;
+    Ok(())
+}
+
 /// The host and the port that a pattern of several hosts and ports captures, in words.
-pub fn hosts_line(alloc: Global, url: &str) -> Result<String, Error> {
+fn hosts_line(alloc: Global, url: &str) -> Result<String, Error> {
     // docs: hosts
     let pages = pattern(alloc, "http{s}?://{:sub.}?example.com::port(8080)?/:page")?;
     let url = Url::parse(alloc, url)?;
@@ -96,33 +146,13 @@ pub fn hosts_line(alloc: Global, url: &str) -> Result<String, Error> {
     line_of(format!(in alloc; "below {sub:?}, port {port:?}"))
 }
 
-/// The index of the first pattern of a list that matches a URL, and the path of the URL, in words.
-pub fn matches_line(alloc: Global) -> Result<String, Error> {
-    let mut patterns = UrlPatternList::new(alloc);
-    patterns.try_push(pattern(alloc, "https://example.com/users/*")?)?;
-    patterns.try_push(pattern(alloc, "https://example.com/*")?)?;
-    let url = Url::parse(alloc, "https://example.com/about")?;
-    // docs: matches
-    let mut matches = patterns.matches(alloc, &url);
-    let Some(first) = matches.next() else {
-        return text(alloc, "no match");
-    };
-    let (index, captures) = first?;
-    // docs: end
-    let path = captures.input(ComponentName::Pathname);
-    line_of(format!(in alloc; "pattern {index} of {path}"))
-}
-
-/// The pattern text of the path of the first pattern of a map, and its value, in words.
-pub fn entry_line(alloc: Global) -> Result<String, Error> {
-    let mut pages = UrlPatternMap::new(alloc);
-    pages.try_insert(pattern(alloc, "https://example.com/*")?, "page")?;
-    // docs: map_entries
-    let mut entries = pages.iter();
-    let first = entries.next();
-    // docs: end
-    match first {
-        Some((pattern, value)) => line_of(format!(in alloc; "{}: {value}", pattern.pathname())),
-        None => text(alloc, "no entry"),
-    }
+#[test]
+fn several_hosts_and_ports(rt: HostRuntime) -> Result<(), Fail> {
+    let line = hosts_line(rt.alloc(), "http://www.example.com/about");
+    expect_line(&rt, line, "below Some(\"www\"), port None")?;
+    let line = hosts_line(rt.alloc(), "https://example.com:8080/about");
+    expect_line(&rt, line, "below None, port Some(\"8080\")")?;
+    let line = hosts_line(rt.alloc(), "https://example.com:81/about");
+    expect_line(&rt, line, "another host or port")?;
+    Ok(())
 }

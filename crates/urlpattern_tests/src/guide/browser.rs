@@ -1,8 +1,9 @@
 //! Calls for a browser: inputs as they are given, and patterns as plain data.
 
-use crate::{line_of, text};
+use crate::guide::{expect_line, line_of, text};
 use std::alloc::Global;
 use std::borrow::CowStr;
+use std::test::Fail;
 use url::Url;
 use urlpattern::quirks::{
     EcmaRegexp, InnerMatcher, StringOrInit, UrlPattern, UrlPatternInit, parse_match_input,
@@ -12,7 +13,7 @@ use urlpattern::{Error, RegexSyntax, UrlPatternMatchInput, UrlPatternOptions};
 
 /// The regular expression of a pattern's path, as plain data, and what its matcher compares a text
 /// with.
-pub fn plain_line(alloc: Global) -> Result<String, Error> {
+fn plain_line(alloc: Global) -> Result<String, Error> {
     // docs: plain_pattern
     // docs: given
     let input = StringOrInit::String(CowStr::Borrowed("https://example.com/users/:id"));
@@ -42,8 +43,15 @@ fn matcher_words(alloc: Global, users: &UrlPattern) -> Result<String, Error> {
     line_of(format!(in alloc; "{expression}: {matched}"))
 }
 
+#[test]
+fn a_pattern_as_plain_data(rt: HostRuntime) -> Result<(), Fail> {
+    let line = plain_line(rt.alloc());
+    expect_line(&rt, line, "^/users(?:/([^/]+?))$: one group")?;
+    Ok(())
+}
+
 /// The path among the eight texts of a URL, or words for a URL without texts.
-pub fn texts_line(alloc: Global) -> Result<String, Error> {
+fn texts_line(alloc: Global) -> Result<String, Error> {
     // docs: texts
     let url = Url::parse(alloc, "https://example.com/users/123")?;
     let texts = parse_match_input(alloc, UrlPatternMatchInput::Url(url))?;
@@ -54,9 +62,15 @@ pub fn texts_line(alloc: Global) -> Result<String, Error> {
     }
 }
 
+#[test]
+fn the_texts_of_a_url(rt: HostRuntime) -> Result<(), Fail> {
+    expect_line(&rt, texts_line(rt.alloc()), "/users/123")?;
+    Ok(())
+}
+
 /// The pattern text of the path of an init as a browser passes it, compiled under options that
 /// ignore case.
-pub fn init_line(alloc: Global) -> Result<String, Error> {
+fn init_line(alloc: Global) -> Result<String, Error> {
     let init = given_init(alloc)?;
     let init = process_construct_pattern_input(alloc, StringOrInit::Init(init), None)?;
     // docs: plain_options
@@ -79,4 +93,10 @@ fn given_init(alloc: Global) -> Result<UrlPatternInit, Error> {
     init.base_url = Some(String::from_str(alloc, "https://example.com/users/")?);
     // docs: end
     Ok(init)
+}
+
+#[test]
+fn an_init_of_a_browser(rt: HostRuntime) -> Result<(), Fail> {
+    expect_line(&rt, init_line(rt.alloc()), "/:id")?;
+    Ok(())
 }

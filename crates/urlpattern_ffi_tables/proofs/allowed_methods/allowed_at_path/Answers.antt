@@ -1,0 +1,32 @@
+use Rattle.std.proofs.Common.{ℕ, List, inl, inr, refl, subst}
+use Rattle.std.specs.Str.{chars}
+use Rattle.urlpattern.specs.Paths.{IsPath}
+use Rattle.urlpattern_ffi.specs.PassedTexts.{AreTextsOfPath, IsNoPath}
+use Rattle.urlpattern_ffi.specs.declared.status.Status.TheVariants.{NoPath, OutOfMemory}
+use Rattle.urlpattern_matches.specs.MatchInput.{pathname_alone}
+use Rattle.urlpattern_ffi_tables.proofs.AllowedLemmas.{allowed_of, allowed_written}
+use Rattle.urlpattern_ffi_tables.proofs.RouteLemmas.{path_texts}
+use Rattle.urlpattern_ffi_tables.proofs.allowed_methods.allowed_at_path.Goals as goal
+
+pub returns-in-Ok-at : goal.returns-in-Ok-at
+returns-in-Ok-at c =
+    let router = c.args.router.now in
+    let method = c.in-Ok.method.now in
+    let texts = pathname_alone (chars c.in-Ok-from_utf8.path.now) in
+    let answer = allowed_written router (chars method) texts c.args.buffer.now c.write_allowed.new.buffer c.write_allowed.new.needed c.in-Ok-at.routed c.write_allowed.result c.in-Ok-at.ensures.routed.1 c.write_allowed.ensures in
+    allowed_of (AreTextsOfPath c.args.path.now) (IsNoPath c.args.path.now) router router method c.args.method.now c.args.buffer.now c.write_allowed.new.buffer c.write_allowed.new.needed c.write_allowed.result refl c.in-Ok.ensures.cases.0 (inl (texts, path_texts c.in-Ok-from_utf8.path.now c.args.path.now c.in-Ok-from_utf8.ensures.cases.0 c.in-Ok-at.ensures.routed.0, answer))
+
+pub returns-in-Err-NotAPath : goal.returns-in-Err-NotAPath
+returns-in-Err-NotAPath c =
+    let router = c.args.router.now in
+    let method = c.in-Ok.method.now in
+    let none = subst (λ (bytes : List ℕ). ¬ IsPath (chars bytes)) c.in-Ok-from_utf8.ensures.cases.0 (rw c.in-Err-NotAPath.field-0-is at c.in-Err-NotAPath.ensures.refused) in
+    allowed_of (AreTextsOfPath c.args.path.now) (IsNoPath c.args.path.now) router router method c.args.method.now c.args.buffer.now c.args.buffer.now c.args.needed.now NoPath refl c.in-Ok.ensures.cases.0 (inr (inl none, refl))
+
+pub returns-in-Err-OutOfMemory : goal.returns-in-Err-OutOfMemory
+returns-in-Err-OutOfMemory c =
+    let router = c.args.router.now in
+    let method = c.in-Ok.method.now in
+    let (is_path, calls) = rw c.in-Err-OutOfMemory.field-0-is at c.in-Err-OutOfMemory.ensures.refused in
+    allowed_of (AreTextsOfPath c.args.path.now) (IsNoPath c.args.path.now) router router method c.args.method.now c.args.buffer.now c.args.buffer.now c.args.needed.now OutOfMemory refl c.in-Ok.ensures.cases.0
+    (inl (pathname_alone (chars c.in-Ok-from_utf8.path.now), path_texts c.in-Ok-from_utf8.path.now c.args.path.now c.in-Ok-from_utf8.ensures.cases.0 is_path, (inl calls, refl)))
