@@ -1,7 +1,0 @@
-pub mod CommandAnswers
-pub mod ComponentAnswers
-pub mod FilterLines
-pub mod FirstJson
-pub mod Coverings
-pub mod TableRoutes
-pub mod Unreached
