@@ -141,11 +141,16 @@ class Answers(unittest.TestCase):
         for _ in range(2):
             text = f"https://example.com/users/{long}"
             self.assertIn(("pathname", "id", long), pattern.captures(text))
+            for id in (long, long + "%C3%A9", "7", "é" * 300, "x" * 990, "x" * 1000):
+                match = pattern.match(f"https://example.com/users/{id}")
+                self.assertEqual(match["id"], id.replace("é", "%C3%A9"))
+                self.assertEqual(match.groups[2], ("pathname", "id", match["id"]))
+                self.assertEqual(match["id"], match.pathname["id"])
             self.assertEqual(pattern.exec(text)["pathname"]["groups"], {"id": long})
             found = wide.captures("https://example.com" + "/a" * many)
             named = [name for component, name, _ in found if component == "pathname"]
             self.assertEqual(named, [f"name{number}" for number in range(many)])
-        self.assertLessEqual(max(len(it.text) for it in _library.FREE), _library.KEPT)
+        self.assertLessEqual(max(len(it.bytes) for it in _library.FREE), _library.KEPT)
 
     def test_one_group_is_that_of_all(self):
         pattern = URLPattern("https://:team.example.com/:lang/:page?/*")

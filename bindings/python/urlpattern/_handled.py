@@ -6,12 +6,13 @@ import json
 from typing import Any, Dict, Iterable, List, Mapping, Optional, Tuple, TypeVar, cast
 
 from ._library import (
-    COMPONENTS, DONE, LOCK, NO_PATTERN, NO_URL, REASONS, REFUSED, SIZE, SPAN, SPAN_SIZE,
-    TOO_SMALL, UNKNOWN, Call, Handle, Memory, calls, checked, matched, memory, put, written,
+    COMPONENTS, DONE, LOCK, NO_PATTERN, NO_TEXT, NO_URL, NONE, REASONS, REFUSED, SIZE, SIZES, SMALL,
+    SPAN, TOO_LONG, UNKNOWN, Call, Handle, Memory, calls, checked, first_matched, matched, put,
+    take, written,
 )
 from ._match import Match, Names
 from ._texts import (
-    Groups, Input, Source, group_texts, init_text, number_of, refusal, url_texts,
+    Groups, Input, Source, encode, group_texts, init_text, number_of, refusal, url_texts,
 )
 
 _test, _exec = calls.test, calls.exec
@@ -25,7 +26,7 @@ Found = TypeVar("Found", bound=Match)
 
 def _is_init(url: Any) -> bool:
     """Whether what is matched is a dict."""
-    return not isinstance(url, str) and isinstance(url, Mapping)
+    return not (url is None or isinstance(url, str)) and isinstance(url, Mapping)
 
 
 def covers(function: Call, *patterns: Any) -> Optional[bool]:
@@ -71,17 +72,17 @@ class Handled:
     def _found(self, match: Found, index: int, room: Memory) -> Found:
         """The match, which is that of this index, as a call wrote it. Leaves the memory to later
         calls."""
-        sizes = room.sizes
-        text, spans = room.text[: sizes.bytes], room.spans[: sizes.spans * SPAN_SIZE]
+        match.index, match._data = index, room.copied()
+        match._names = self._names.get(index) or self._names_of(index, match._data)
         if room.is_kept:
             put(room)
-        match.index = index
-        match._found = self._names.get(index) or self._names_of(index, spans), text, spans
         return match
 
-    def _names_of(self, index: int, spans: bytes) -> Names:
-        """The components and the names of the groups of a match."""
-        groups = ((component, group) for component, _, group, _, _ in SPAN.iter_unpack(spans))
+    def _names_of(self, index: int, data: bytes) -> Names:
+        """The components and the names of the groups of a match, as a call wrote it."""
+        _, count = SIZES.unpack_from(data)
+        spans = SPAN.iter_unpack(data[SIZES.size : SIZES.size + count * SPAN.size])
+        groups = ((component, group) for component, _, group, _, _ in spans)
         names = self._names[index] = Names([self._name(index, *group) for group in groups])
         return names
 
@@ -142,14 +143,36 @@ class Patterns(Handled):
         ...     match.index, match["id"]
         (0, '8')
         """
+        if base is None and path is None:
+            # (as there, with fewer calls)
+            try:
+                text = encode(url)
+                length, room = SMALL[len(text)], take()
+            except (TypeError, IndexError):
+                pass
+            else:
+                status = _first_captures(
+                    self._address, text, length, NO_TEXT, NONE,
+                    room.for_number, room.text, room.room, room.spans, room.count, room.sizes,
+                )
+                if status == DONE:
+                    return self._found(_new(Match), room.number.value, room)
+                put(room)
+                if status < TOO_LONG:
+                    return None
+        return self._first(url, base, path)
+
+    def _first(
+        self, url: Optional[Input], base: Optional[str], path: Optional[str]
+    ) -> Optional[Match]:
+        """The match of the first pattern that matches, or None."""
         if _is_init(url):
             call, texts = calls.first_captures_of_init, init_text(url, base, path)
         else:
             call, texts = _first_captures, url_texts(url, base, path)
-        status, room = matched(call, self._address, *texts)
+        status, room = first_matched(call, self._address, *texts)
         if status == DONE:
-            index = room.number.value
-            return self._found(_new(Match), index, room)
+            return self._found(_new(Match), room.number.value, room)
         room.leave()
         if status != NO_PATTERN:
             checked(status)
@@ -232,11 +255,7 @@ class Patterns(Handled):
             call, texts = calls.captures_of_init, init_text(url, base, path)
         else:
             call, texts = _captures, url_texts(url, base, path)
-        room = memory()
-        status = call(self._address, SIZE[index], *texts, *room.for_match)
-        while status == TOO_SMALL:
-            room = room.larger()
-            status = call(self._address, SIZE[index], *texts, *room.for_match)
+        status, room = matched(call, self._address, SIZE[index], *texts)
         if status == DONE:
             return self._found(_new(Match), index, room)
         room.leave()

@@ -31,12 +31,18 @@ NO_RULE = ctypes.c_size_t(-1).value
 # The version of the interface whose statuses these are.
 VERSION = 2
 
-# How many bytes a text is first given room for, and how many spans a match.
-ROOM = 1024
-SPANS = 16
+# How many bytes the text of a match is first given room for, and how many spans: in all less than
+# 1,000 bytes, which take no longer to copy than a few.
+ROOM = 512
+SPANS = 14
 
-# For how many bytes memory has room at most that is kept for later calls.
+# For how many bytes memory has room at most that is kept for later calls, and how much is kept from
+# the start. (Of a list that is never empty, Python changes no room with each call.)
 KEPT = 1 << 16
+KEPT_AT_FIRST = 4
+
+# How many numbers are made arguments once.
+NUMBERS = 1024
 
 # A call, which returns a status or a number.
 Call = Callable[..., int]
@@ -131,14 +137,13 @@ class Given(ctypes.Structure):
     ]
 
 
-class _Sizes(ctypes.Structure):
-    _fields_ = [("bytes", ctypes.c_size_t), ("spans", ctypes.c_size_t)]
-
+# How much a match takes, as the header declares it: how many bytes its text has, and how many spans
+# there are.
+SIZES = struct.Struct("@NN")
 
 # A span, as the header declares it: the component, whether the group took part, its number, and
 # where its text begins and how long it is.
 SPAN = struct.Struct("@IINNN")
-SPAN_SIZE = SPAN.size
 
 
 def _declared() -> Any:
@@ -146,9 +151,9 @@ def _declared() -> Any:
     handle, text, size = ctypes.POINTER(Handle), ctypes.c_char_p, ctypes.c_size_t
     ignores, string, init = ctypes.c_bool, [text, size, text, size], [text, size]
     reason = [text, size, ctypes.POINTER(size), ctypes.POINTER(Place)]
-    matching = ("test", "mismatch", "exec", "captures", "first_captures")
-    of_init = ("exec_of_init", "captures_of_init", "first_captures_of_init")
-    writing = ("link", "generate", "group_name", "component", "text")
+    matching = ("test", "mismatch", "captures", "first_captures")
+    of_init = ("captures_of_init", "first_captures_of_init")
+    writing = ("exec", "exec_of_init", "link", "generate", "group_name", "component", "text")
     telling = ("has_regexp_groups", "has_meaning", "reach_of_each")
     routing = ("at", "at_url", "allowed", "allowed_at_url", "link", "group_name")
     router = [f"router_{name}" for name in routing]
@@ -177,8 +182,7 @@ calls: Any = _declared()
 
 
 class _Numbers(Dict[int, Any]):
-    """Numbers as arguments of C's type `size_t`, and the largest of those for any other number.
-    Those below ROOM are made once."""
+    """Numbers as arguments of C's type `size_t`, and the largest of those for any other number."""
 
     LARGEST = ctypes.c_size_t(-1).value
 
@@ -186,7 +190,7 @@ class _Numbers(Dict[int, Any]):
         number = operator.index(number)
         within = number if 0 <= number <= self.LARGEST else self.LARGEST
         made = ctypes.c_size_t.from_param(within)
-        if within < ROOM:
+        if within < NUMBERS:
             self[within] = made
         return made
 
@@ -195,25 +199,34 @@ SIZE = _Numbers()
 NONE = SIZE[0]
 NO_TEXT = ctypes.c_char_p.from_param(b"")
 
+# The arguments for small numbers by themselves, which Python finds in less time.
+SMALL = tuple(SIZE[number] for number in range(NUMBERS))
+
+
+def start_of_text(spans: int) -> int:
+    """Where the text of a match begins that has so many spans, as `Memory.copied` has them."""
+    return SIZES.size + max(spans, SPANS) * SPAN.size
+
 
 class Memory:
-    """Memory that one call has: for a text, spans and sizes, with the arguments for them."""
+    """Memory that one call has, with the arguments for it: for the sizes of a match, its spans and
+    its text, one after the other; or for another text alone; and for a number."""
 
     __slots__ = (
-        *("text", "spans", "number", "sizes", "is_kept"),
-        *("for_number", "for_text", "for_match", "for_first"),
+        *("bytes", "number", "is_usual", "is_kept", "_start", "for_number", "for_text"),
+        *("text", "room", "spans", "count", "sizes"),
     )
 
-    def __init__(self, size: int = ROOM, count: int = SPANS) -> None:
-        self.text: Any = (ctypes.c_char * size)()
-        self.spans: Any = (ctypes.c_char * (count * SPAN_SIZE))()
-        self.number, self.sizes = ctypes.c_size_t(), _Sizes()
-        self.is_kept = size + count * SPAN_SIZE <= KEPT
-        text, spans = ctypes.byref(self.text), ctypes.byref(self.spans)
-        self.for_number = ctypes.byref(self.number)
-        self.for_text = text, SIZE[size], self.for_number
-        self.for_match = text, SIZE[size], spans, SIZE[count], ctypes.byref(self.sizes)
-        self.for_first = (self.for_number, *self.for_match)
+    def __init__(self, room: int = ROOM, count: int = SPANS) -> None:
+        self._start = start_of_text(count)
+        self.bytes: Any = (ctypes.c_char * (self._start + room))()
+        self.number = ctypes.c_size_t()
+        self.is_usual = (room, count) == (ROOM, SPANS)
+        self.is_kept = len(self.bytes) <= KEPT
+        self.for_number, self.sizes = ctypes.byref(self.number), ctypes.byref(self.bytes)
+        self.for_text = self.sizes, SIZE[len(self.bytes)], self.for_number
+        self.spans, self.count = ctypes.byref(self.bytes, SIZES.size), SIZE[count]
+        self.text, self.room = ctypes.byref(self.bytes, self._start), SIZE[room]
 
     def leave(self) -> None:
         """Leaves the memory to later calls."""
@@ -222,12 +235,24 @@ class Memory:
 
     def larger(self) -> Memory:
         """Memory with the room that a match needs, as the call says that had this one."""
-        return Memory(max(self.sizes.bytes, ROOM), max(self.sizes.spans, SPANS))
+        length, count = SIZES.unpack_from(self.bytes)
+        return Memory(max(length, ROOM), max(count, SPANS))
+
+    def copied(self) -> bytes:
+        """The sizes, the spans and the text of a match, each at one place whichever room it had.
+        What an earlier call left after them may follow."""
+        if self.is_usual:
+            usual: bytes = self.bytes.raw
+            return usual
+        length, count = SIZES.unpack_from(self.bytes)
+        text: bytes = self.bytes[self._start : self._start + length]
+        spans: bytes = self.bytes[: start_of_text(count)]
+        return spans + text
 
 
 # Memory that no call has; what takes some out, with an IndexError if there is none; and what puts
 # some back. (Calls take less time by these names than by methods of a name that is imported.)
-FREE: List[Memory] = []
+FREE = [Memory() for _ in range(KEPT_AT_FIRST)]
 take, put = FREE.pop, FREE.append
 
 
@@ -261,20 +286,32 @@ def written(function: Call, *arguments: Any) -> Tuple[int, str]:
         room = Memory(room.number.value)
         status = function(*arguments, *room.for_text)
     is_written = status == DONE or status == REFUSED
-    text = room.text[: room.number.value].decode() if is_written else ""
+    text = room.bytes[: room.number.value].decode() if is_written else ""
     room.leave()
     return status, text
 
 
 def matched(function: Call, *arguments: Any) -> Tuple[int, Memory]:
-    """Calls what writes the index and the groups of a match, with as much room as they need. Returns
-    the status, and the memory that has them, which is to be left or read."""
+    """Calls what writes the groups of a match, with as much room as they need. Returns the status,
+    and the memory that has them, which is to be left or read."""
     room = memory()
-    status = function(*arguments, *room.for_first)
-    while status == TOO_SMALL:
+    while True:
+        status = function(*arguments, room.text, room.room, room.spans, room.count, room.sizes)
+        if status != TOO_SMALL:
+            return status, room
         room = room.larger()
-        status = function(*arguments, *room.for_first)
-    return status, room
+
+
+def first_matched(function: Call, *arguments: Any) -> Tuple[int, Memory]:
+    """Calls what writes the index of a match and its groups, as `matched` does."""
+    room = memory()
+    while True:
+        status = function(
+            *arguments, room.for_number, room.text, room.room, room.spans, room.count, room.sizes
+        )
+        if status != TOO_SMALL:
+            return status, room
+        room = room.larger()
 
 
 def decided(*arguments: Any) -> Tuple[int, int]:

@@ -4,42 +4,45 @@ from __future__ import annotations
 import struct
 from typing import Any, Dict, List, Optional, Tuple, Union, cast
 
+from ._library import SIZES, SPAN, start_of_text
 from ._texts import Groups
+
+# Of a span, as the header declares it, whether the group took part, and where its text begins and
+# how long it is.
+_SPAN = "4xI8xNN"
+_span = struct.Struct(f"@{_SPAN}").unpack_from
 
 
 class Names:
     """The groups that each match of a pattern has, in their order: of each the component and the
-    name. `places` has the index of each name, or None for one that components have each."""
+    name. `places` has for each name where its span lies in what a call writes, or None for one that
+    components have each; `spans` reads all of them; and `start` is where the text begins."""
 
-    __slots__ = ("groups", "places")
+    __slots__ = ("groups", "places", "spans", "start")
 
     def __init__(self, groups: List[Tuple[str, str]]) -> None:
-        self.groups = groups
-        self.places: Dict[str, Optional[int]] = {}
+        self.groups, self.start = groups, start_of_text(len(groups))
+        self.spans = struct.Struct(f"@{_SPAN * len(groups)}").unpack_from
+        self.places: Dict[str, Any] = {}
         for at, (_, name) in enumerate(groups):
-            self.places[name] = None if name in self.places else at
+            place = SIZES.size + at * SPAN.size
+            self.places[name] = None if name in self.places else place
 
 
-# What the library writes of a match: the groups that it has, the text, and the spans.
-Written = Tuple[Names, bytes, bytes]
-
-# Of a span, as the header declares it, whether the group took part, and where its text begins and
-# how long it is.
-_SPAN = struct.Struct("@4xI8xNN")
-
-
-def groups_of(names: Names, text: bytes, spans: bytes) -> Groups:
-    """The groups of a match."""
-    read, each = text.decode(), zip(names.groups, _SPAN.iter_unpack(spans))
-    if len(read) == len(text):
-        return [
-            (component, name, read[start : start + length] if took_part else None)
-            for (component, name), (took_part, start, length) in each
-        ]
-    return [
-        (component, name, text[start : start + length].decode() if took_part else None)
-        for (component, name), (took_part, start, length) in each
+def groups_of(names: Names, data: bytes) -> Groups:
+    """The groups of a match, as a call wrote it."""
+    start, (size, _) = names.start, SIZES.unpack_from(data)
+    text: Any = data[start : start + size]
+    read, each = text.decode(), iter(names.spans(data, SIZES.size))
+    is_ascii = len(read) == size
+    text = read if is_ascii else text
+    found = [
+        (component, name, (text[at : at + length] if length else "") if took_part else None)
+        for (component, name), took_part, at, length in zip(names.groups, each, each, each)
     ]
+    if is_ascii:
+        return found
+    return [(component, name, it and it.decode()) for component, name, it in found]
 
 
 def _groups_of(component: str) -> Dict[str, Union[str, Any]]:
@@ -65,11 +68,15 @@ class Match:
     ({'id': '7', '0': 'x'}, 0)
     """
 
-    __slots__ = ("index", "_found", "__weakref__")
+    __slots__ = ("index", "_names", "_data", "__weakref__")
 
-    def __init__(self, index: int, groups: Union[Groups, Written]) -> None:
+    # What a call wrote, with its names; or the groups, once they are read.
+    _names: Names
+    _data: Union[bytes, Groups]
+
+    def __init__(self, index: int, groups: Groups) -> None:
         self.index = index
-        self._found = groups
+        self._data = groups
 
     @property
     def groups(self) -> Groups:
@@ -79,10 +86,10 @@ class Match:
         >>> URLPattern("https://example.com/:id").match("https://example.com/7").groups[2]
         ('pathname', 'id', '7')
         """
-        found = self._found
-        if isinstance(found, tuple):
-            found = self._found = groups_of(*found)
-        return found
+        data = self._data
+        if isinstance(data, bytes):
+            data = self._data = groups_of(self._names, data)
+        return data
 
     def _content(self) -> Tuple[Any, ...]:
         """What equal matches have the same, and what a copy is made of."""
@@ -118,14 +125,17 @@ class Match:
         >>> match.group("lang"), match.group("page")
         ('en', None)
         """
-        written = self._found
-        if isinstance(written, tuple):
+        try:
             # (to read one group takes less time than to read all)
-            names, read, spans = written
-            at = names.places.get(name)
-            if at is not None:
-                took_part, start, length = _SPAN.unpack_from(spans, at * _SPAN.size)
-                return read[start : start + length].decode() if took_part else None
+            data: Any = self._data
+            names = self._names
+            took_part, start, length = _span(data, names.places[name])
+        except (AttributeError, KeyError, TypeError):
+            # (all are read, or no group has the name, or two)
+            pass
+        else:
+            start += names.start
+            return data[start : start + length].decode() if took_part else None
         found = [(component, text) for component, each, text in self.groups if each == name]
         if len(found) == 1:
             return found[0][1]
@@ -143,9 +153,12 @@ class Match:
         >>> match.groupdict("")
         {'lang': 'en', 'page': ''}
         """
-        names = [name for _, name, _ in self.groups if not name[0].isdecimal()]
-        texts = {name: self.group(name) for name in names}
-        return {name: default if text is None else text for name, text in texts.items()}
+        named = [(name, text) for _, name, text in self.groups if not name[0].isdecimal()]
+        texts = {name: default if text is None else text for name, text in named}
+        if len(texts) < len(named):
+            for name in texts:
+                self.group(name)
+        return texts
 
     __getitem__ = group
 

@@ -5,10 +5,10 @@ from typing import Any, Dict, Iterable, Optional, Tuple, Union, cast
 
 from ._handled import Patterns, _new, counterexample, covering_reason, covers, overlaps
 from ._library import (
-    COMPONENTS, DONE, NO_TEXT, NONE, SIZE, TOO_LONG, Memory, calls, checked, take,
+    COMPONENTS, DONE, NO_TEXT, NONE, SIZE, SMALL, TOO_LONG, calls, checked, put, take,
 )
-from ._match import Match
-from ._texts import Groups, Init, Input, Source, source_of
+from ._match import Match, Names
+from ._texts import Groups, Init, Input, Source, encode, source_of
 
 _test, _captures = calls.test, calls.captures
 
@@ -49,7 +49,7 @@ class URLPattern:
     True
     """
 
-    __slots__ = ("_list", "_index", "_address", "_at")
+    __slots__ = ("_list", "_index", "_address", "_at", "_names")
 
     def __init__(
         self,
@@ -65,6 +65,8 @@ class URLPattern:
     def _set(self, patterns: Patterns, index: int) -> None:
         self._list, self._index = patterns, index
         self._address, self._at = patterns._address, SIZE[index]
+        # (from the first match on)
+        self._names: Optional[Names] = None
 
     @classmethod
     def _of(cls, patterns: Patterns, index: int) -> URLPattern:
@@ -137,11 +139,16 @@ class URLPattern:
         >>> pattern.test({"pathname": "/users/7", "baseURL": "https://example.com"})
         True
         """
-        if base is not None or path is not None or not isinstance(url, str):
-            return self._list.test(self._index, url, base, path=path)
-        text = str.encode(url)
-        status: int = _test(self._address, self._at, text, SIZE[len(text)], NO_TEXT, NONE)
-        return status == DONE if status < TOO_LONG else checked(status)
+        if base is None and path is None:
+            try:
+                text = encode(url)
+                length = SMALL[len(text)]
+            except (TypeError, IndexError):
+                pass
+            else:
+                status: int = _test(self._address, self._at, text, length, NO_TEXT, NONE)
+                return status == DONE if status < TOO_LONG else checked(status)
+        return self._list.test(self._index, url, base, path=path)
 
     def match(
         self,
@@ -156,23 +163,35 @@ class URLPattern:
         >>> match["id"], match.groupdict(), match.pathname
         ('7', {'id': '7'}, {'id': '7'})
         """
-        if base is not None or path is not None or not isinstance(url, str):
-            return self._list._match(self._index, url, base, path)
-        # (as there, with fewer calls, and without a list of the arguments)
-        text = str.encode(url)
-        try:
-            room = take()
-        except IndexError:
-            room = Memory()
-        buffer, size, spans, count, sizes = room.for_match
-        status: int = _captures(
-            self._address, self._at, text, SIZE[len(text)], NO_TEXT, NONE,
-            buffer, size, spans, count, sizes,
-        )
-        if status == DONE:
-            return self._list._found(_new(Match), self._index, room)
-        room.leave()
-        return None if status < TOO_LONG else self._list._match(self._index, url, base, path)
+        if base is None and path is None:
+            # (as there, with fewer calls, and without a list of the arguments)
+            try:
+                text = encode(url)
+                length, room = SMALL[len(text)], take()
+            except (TypeError, IndexError):
+                pass
+            else:
+                status: int = _captures(
+                    self._address, self._at, text, length, NO_TEXT, NONE,
+                    room.text, room.room, room.spans, room.count, room.sizes,
+                )
+                if status == DONE:
+                    match = _new(Match)
+                    match._data = data = room.bytes.raw if room.is_usual else room.copied()
+                    put(room)
+                    match.index = self._index
+                    match._names = self._names or self._named(data)
+                    return match
+                put(room)
+                if status < TOO_LONG:
+                    return None
+        return self._list._match(self._index, url, base, path)
+
+    def _named(self, data: bytes) -> Names:
+        """The names of the groups of each match. A call wrote one of them."""
+        names = self._list._names.get(self._index) or self._list._names_of(self._index, data)
+        self._names = names
+        return names
 
     def mismatch(
         self, url: Optional[str] = None, base: Optional[str] = None, *, path: Optional[str] = None
@@ -215,7 +234,8 @@ class URLPattern:
         >>> URLPattern({"pathname": "/users/:id"}).captures("https://example.com/users/7")[4:6]
         [('port', '0', ''), ('pathname', 'id', '7')]
         """
-        return self._list.captures(self._index, url, base, path=path)
+        match = URLPattern.match(self, url, base, path=path)
+        return None if match is None else match.groups
 
     def link(self, groups: Iterable[Tuple[str, str, Optional[str]]] = ()) -> str:
         """The URL that the pattern matches with these groups, each a tuple of the component, the

@@ -4,14 +4,16 @@ from __future__ import annotations
 from dataclasses import dataclass
 from typing import Any, Generic, Iterable, List, Optional, Tuple, TypeVar, Union
 
-from ._handled import Handled
+from ._handled import Handled, _new
 from ._library import (
-    DONE, LOCK, NAME_TAKEN, NO_MATCH, NO_PATH, NO_URL, NOT_A_METHOD, NOT_ALLOWED, REFUSED, SIZE,
-    Call, RouterHandle, calls, checked, matched, written,
+    DONE, LOCK, NAME_TAKEN, NO_MATCH, NO_PATH, NO_URL, NOT_A_METHOD, NOT_ALLOWED, NUMBERS, REFUSED,
+    SIZE, SMALL, Call, Memory, RouterHandle, calls, checked, first_matched, put, take, written,
 )
-from ._match import Match, Written
+from ._match import Match
 from ._pattern import URLPattern, source_of_pattern
-from ._texts import Groups, Init, Source, encoded, refusal, url_texts
+from ._texts import Groups, Init, Source, encode, encoded, refusal, url_texts
+
+_router_at = calls.router_at
 
 Value = TypeVar("Value")
 
@@ -21,7 +23,7 @@ class RouteMatch(Match, Generic[Value]):
 
     __slots__ = ("value",)
 
-    def __init__(self, index: int, groups: Union[Groups, Written], value: Value) -> None:
+    def __init__(self, index: int, groups: Groups, value: Value) -> None:
         super().__init__(index, groups)
         self.value = value
 
@@ -45,8 +47,9 @@ class MethodNotAllowed:
 
 def _sized(text: Any, name: str) -> Tuple[Any, ...]:
     """A text with the number of its bytes, as arguments."""
-    data = encoded(text, name)
-    return data, SIZE[len(data)]
+    data = text.encode() if type(text) is str else encoded(text, name)
+    size = len(data)
+    return data, SMALL[size] if size < NUMBERS else SIZE[size]
 
 
 def _word(text: Any, name: str) -> bytes:
@@ -157,8 +160,24 @@ class URLPatternRouter(Handled, Generic[Value]):
         >>> bool(routes.at("POST", "/users/7")), routes.at("POST", "/users/7").methods
         (False, ['GET'])
         """
+        try:
+            word, text = encode(method), encode(path)
+            of_word, of_text, room = SMALL[len(word)], SMALL[len(text)], take()
+        except (TypeError, IndexError):
+            pass
+        else:
+            # (as below, with fewer calls)
+            status = _router_at(
+                self._address, word, of_word, text, of_text,
+                room.for_number, room.text, room.room, room.spans, room.count, room.sizes,
+            )
+            if status == DONE:
+                return self._route(room)
+            put(room)
+            if status == NO_MATCH:
+                return None
         texts = (*_sized(method, "a method"), *_sized(path, "a path"))
-        return self._routed(calls.router_at, calls.router_allowed, texts)
+        return self._routed(_router_at, calls.router_allowed, texts)
 
     def at_url(
         self,
@@ -182,17 +201,21 @@ class URLPatternRouter(Handled, Generic[Value]):
         texts = (*_sized(method, "a method"), *url_texts(url, base, path))
         return self._routed(calls.router_at_url, calls.router_allowed_at_url, texts)
 
+    def _route(self, room: Memory) -> RouteMatch[Value]:
+        """The match of a route, as a call wrote it."""
+        index = room.number.value
+        match: RouteMatch[Value] = self._found(_new(RouteMatch), index, room)
+        match.value = self._values[index]
+        return match
+
     def _routed(
         self, find: Call, allowed: Call, texts: Tuple[Any, ...]
     ) -> Union[RouteMatch[Value], MethodNotAllowed, None]:
         """What the router has for a request."""
         while True:
-            status, room = matched(find, self._address, *texts)
+            status, room = first_matched(find, self._address, *texts)
             if status == DONE:
-                index = room.number.value
-                match = self._found(RouteMatch.__new__(RouteMatch), index, room)
-                match.value = self._values[index]
-                return match
+                return self._route(room)
             room.leave()
             if status != NOT_ALLOWED:
                 break

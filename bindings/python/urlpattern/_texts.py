@@ -7,7 +7,7 @@ import json
 from typing import Any, Dict, Iterable, List, Mapping, NamedTuple, Optional, Tuple, Union
 
 from ._library import (
-    COMPONENTS, DONE, NONE, NO_TEXT, OUT_OF_MEMORY, ROOM, SIZE, TOO_SMALL,
+    COMPONENTS, DONE, NONE, NO_TEXT, NUMBERS, OUT_OF_MEMORY, ROOM, SIZE, SMALL, TOO_SMALL,
     Call, Given, Place, calls,
 )
 
@@ -23,6 +23,9 @@ Groups = List[Tuple[str, str, Optional[str]]]
 # The keys of a dict, and what other libraries call them.
 KEYS = (*COMPONENTS, "baseURL")
 SYNONYMS = {"scheme": "protocol", "netloc": "hostname", "query": "search", "fragment": "hash"}
+
+# The UTF-8 of a text, and of nothing else. (It takes less time by this name.)
+encode: Any = str.encode
 
 _NUMBERS = {name: number for number, name in enumerate(COMPONENTS)}
 
@@ -75,7 +78,8 @@ def _json(init: Dict[str, str]) -> bytes:
 def encoded(text: Any, name: str, kind: str = "a str") -> bytes:
     """The UTF-8 of a text. TypeError: it is no str."""
     try:
-        return str.encode(text)
+        utf8: bytes = encode(text)
+        return utf8
     except TypeError:
         raise TypeError(f"{name} is {kind}, not {type(text).__name__}") from None
 
@@ -127,23 +131,28 @@ def init_text(init: Any, base: Optional[str], path: Optional[str]) -> Tuple[Any,
 def url_texts(url: Any, base: Optional[str], path: Optional[str]) -> Tuple[Any, ...]:
     """A URL and its base, each with the number of its bytes, as arguments."""
     if path is not None:
-        url = _within(url, base, path)
-    # (most are a str, and a call takes longer than this)
-    text = url.encode() if type(url) is str else encoded(url, "a URL")
+        text = _within(url, base, path)
+    else:
+        # (most are a str, and a call takes longer than this)
+        text = url.encode() if type(url) is str else encoded(url, "a URL")
+    size = len(text)
+    length = SMALL[size] if size < NUMBERS else SIZE[size]
     if base is None:
-        return text, SIZE[len(text)], NO_TEXT, NONE
-    base_text = encoded(base, "a base URL")
-    return text, SIZE[len(text)], base_text, SIZE[len(base_text)]
+        return text, length, NO_TEXT, NONE
+    base_text = base.encode() if type(base) is str else encoded(base, "a base URL")
+    size = len(base_text)
+    return text, length, base_text, SMALL[size] if size < NUMBERS else SIZE[size]
 
 
-def _within(url: Any, base: Optional[str], path: str) -> str:
+def _within(url: Any, base: Optional[str], path: str) -> bytes:
     """A path as a text that has the host of its base. No host begins at `/.`, as one does at `//`,
     and the URL is without this segment."""
     if url is not None or base is None:
         raise TypeError("a path needs a base URL and no other one: `path='/x', base='https://..'`")
-    if not encoded(path, "a path").startswith(b"/"):
+    text = encoded(path, "a path")
+    if not text.startswith(b"/"):
         raise ValueError(f"a path begins with `/`, unlike {path[:40]!r}")
-    return f"/.{path}"
+    return b"/." + text
 
 
 def number_of(component: str) -> int:

@@ -21,6 +21,8 @@ mod matchers;
 mod patterns;
 mod plain;
 mod policies;
+mod policy_json;
+mod policy_texts;
 mod recorded;
 mod replay;
 mod report;

@@ -110,6 +110,10 @@ pub enum Operation {
     Dead,
     /// Adds static routes, and decides about requests.
     Routes,
+    /// Reads a policy from a text, and writes it.
+    PolicyText,
+    /// Reads a policy from JSON, and writes it.
+    PolicyJson,
     /// Decides which components of a pattern have a meaning.
     Meaning,
     /// Writes a plain value as JSON that was parsed from JSON.
@@ -150,6 +154,8 @@ pub const OPERATIONS: &[(&str, Operation)] = &[
     ("within", Operation::Within),
     ("dead", Operation::Dead),
     ("routes", Operation::Routes),
+    ("policy_text", Operation::PolicyText),
+    ("policy_json", Operation::PolicyJson),
     ("meaning", Operation::Meaning),
     ("json", Operation::Json),
     ("equal", Operation::Equal),

@@ -14,16 +14,10 @@ use Rattle.urlpat_commands.specs.TableRoutes.{RoutesLines}
 use Rattle.urlpat_commands.specs.Unreached.{LeaveDoubts, Lists}
 use Rattle.urlpat_explain.specs.declared.explained.Explained.{Explained}
 use Rattle.urlpat_explain.specs.declared.outcome.Outcome.{Outcome}
-use Rattle.urlpat_matching.specs.Tables.{EntryView}
-use Rattle.urlpattern_compare.specs.declared.pattern_parts.PatternCovering.{PatternCovering}
-use Rattle.urlpattern_compare.specs.declared.reaching.Reach.{Reach}
 
--- Which file has which table, and how comparisons, patterns that are never the first match, and
--- explanations are printed.
+-- Which file has which table, and how explanations are printed.
 pub record Surroundings : Type 1 where
   pub Has : (name table : List ℕ) → Type 0
-  pub PrintsCovering : (json : Bool) → PatternCovering → (text : List ℕ) → Type 0
-  pub PrintsUnreached : (json : Bool) → List EntryView → List Reach → (text : List ℕ) → Type 0
   pub PrintsExplained : (json : Bool) → Explained → Option Outcome → (text : List ℕ) → Type 0
 
 -- A command that does not fail ends with the status, and its output turns `old` into `new`.
@@ -45,9 +39,9 @@ RunsCommand given flags (commands.Link asked) status input old new =
     ((status ≡ 0) × WritesLink flags.ignore_case asked old new)
     ⊎ ((status ≡ 1) × HasNoLink flags.ignore_case asked × (new ≡ old))
 RunsCommand given flags (commands.Covers asked) status input old new =
-    PrintsWhether (given.PrintsCovering flags.json) flags.ignore_case asked status old new
+    PrintsWhether flags asked status old new
 RunsCommand given flags (commands.Unreachable asked) status input old new =
-    Lists given.Has (given.PrintsUnreached flags.json) flags.ignore_case asked status old new
+    Lists given.Has flags asked status old new
 
 -- A command that does not fail may report something: that its input is no URL, that there is no
 -- link, or for which patterns it is not known whether they are ever the first match. `filter` and

@@ -38,7 +38,7 @@ const MATCHING: &[&str] = &["base", "ignore-case", "json", "explain-errors"];
 const PROGRAM: &[&str] = MATCHING;
 
 /// The commands, in the order of the help.
-pub(crate) const FORMS: [Form; 9] = [
+pub(crate) const FORMS: [Form; 10] = [
     Form {
         name: "match",
         usage: "urlpat match [OPTIONS] PATTERN BASE INPUT",
@@ -157,6 +157,24 @@ Example: urlpat unreachable routes.txt https://example.com/",
         options: &["base", "ignore-case", "json"],
         least: 1,
         most: 2,
+        is_fixed: false,
+    },
+    Form {
+        name: "policy",
+        usage: "urlpat policy [OPTIONS] decide|check|diff FILE..",
+        about: "Decide about URLs by a policy, check it, or compare two",
+        more: "\
+A file has lines such as `allow PATTERN` and `deny PATTERN`, or JSON.
+
+  decide FILE [URL..]  decide about URLs, or the lines of standard input; the
+                       status is 1 if one is denied
+  check FILE           print what is wrong with the file; then it is 1
+  diff OLD NEW         print what only one policy allows; then it is 1
+
+Example: urlpat policy decide policy.txt https://example.com/users/7",
+        options: &["json"],
+        least: 2,
+        most: usize::MAX,
         is_fixed: false,
     },
     Form {

@@ -1,7 +1,7 @@
 //! The program `urlpat`, which matches URLs against patterns: one URL, the first of several
 //! patterns, or the lines of standard input. It also explains a pattern, prints the URL that a
-//! pattern matches with given groups, compares patterns, and shows what the pattern of one
-//! component is compiled to.
+//! pattern matches with given groups, compares patterns, decides by policies, and shows what the
+//! pattern of one component is compiled to.
 #![tactic(auto)]
 
 ghost use Rattle.std.specs.Prelude.{⊤};
@@ -15,8 +15,8 @@ mod running;
 
 use output::{Output, report_output};
 use parsing::{
-    COMPONENT_USAGE, FIRST_USAGE, MATCH_USAGE, arguments_of, has_fixed_usage, misused, name_fixed,
-    parse,
+    Asked, COMPONENT_USAGE, FIRST_USAGE, MATCH_USAGE, asked_of, has_fixed_usage, misused,
+    name_fixed, parse,
 };
 use printer::Printer;
 use running::run;
@@ -25,8 +25,10 @@ use std::io::{BufReader, BufWriter, IsTerminal};
 use std::process::ExitCode;
 use std::{env, fs, io};
 use urlpat_commands::Tables;
-use urlpat_matching::{Arguments, DONE, FAILED, fail};
+use urlpat_matching::{DONE, FAILED, fail};
+use urlpat_policies::run_on_policies;
 use urlpattern::Error;
+use urlpattern::regexp::PatternRegexp;
 
 /// The files of the host, as a source of tables.
 #[derive(Drop)]
@@ -69,13 +71,13 @@ fn run_words(rt: &HostRuntime, words: &[String]) -> u8 {
         Ok(found) => found,
         Err(error) => return refuse(rt, words, &error),
     };
-    let Some(arguments) = arguments_of(&found) else {
+    let Some(asked) = asked_of(&found) else {
         return match misused(rt.alloc(), &found) {
             Ok(error) => refuse(rt, words, &error),
             Err(AllocError) => fail(&Error::OutOfMemory, &mut rt.stderr()),
         };
     };
-    match run_buffered(rt, arguments) {
+    match run_buffered(rt, asked) {
         Ok(status) => status,
         Err(_) => fail(&Error::OutOfMemory, &mut rt.stderr()),
     }
@@ -108,21 +110,43 @@ fn refuse(rt: &HostRuntime, words: &[String], error: &clap::Error) -> u8 {
 
 /// Runs a command, with buffered input and output. Returns the exit status. If errors are
 /// explained, reports why the output cannot be written.
-fn run_buffered(rt: &HostRuntime, mut arguments: Arguments<'_, '_>) -> io::Result<u8> {
+fn run_buffered(rt: &HostRuntime, asked: Asked<'_, '_>) -> io::Result<u8> {
     let alloc = rt.alloc();
     let mut input = BufReader::new(alloc, rt.stdin())?;
     let mut out = Output::new(BufWriter::new(alloc, rt.stdout())?);
     let mut err = rt.stderr();
-    // At a terminal a person reads the errors.
-    if err.is_terminal() {
-        arguments.flags.explain_errors = true;
-    }
     let files = HostFiles { rt };
-    let status = run(
-        alloc, &files, &Printer, arguments, &mut input, &mut out, &mut err,
-    );
-    if arguments.flags.explain_errors {
+    // At a terminal a person reads the errors.
+    let asked = explained(asked, err.is_terminal());
+    let status = match asked {
+        Asked::Command(arguments) => run(
+            alloc, &files, &Printer, arguments, &mut input, &mut out, &mut err,
+        ),
+        Asked::Policy(command, json) => run_on_policies::<PatternRegexp, _, _, _, _, _>(
+            alloc, &files, &Printer, json, command, &mut input, &mut out, &mut err,
+        ),
+    };
+    if explains_errors(asked) {
         report_output(out.failure(), &mut err);
     }
     Ok(status)
+}
+
+/// What is asked for, with errors explained if they are read by a person.
+fn explained<'m, 'w>(asked: Asked<'m, 'w>, is_read: bool) -> Asked<'m, 'w> {
+    match asked {
+        Asked::Command(mut arguments) => {
+            arguments.flags.explain_errors |= is_read;
+            Asked::Command(arguments)
+        }
+        Asked::Policy(_, _) => asked,
+    }
+}
+
+/// Whether errors are explained.
+fn explains_errors(asked: Asked<'_, '_>) -> bool {
+    match asked {
+        Asked::Command(arguments) => arguments.flags.explain_errors,
+        Asked::Policy(_, _) => true,
+    }
 }

@@ -6,6 +6,7 @@ use urlpat_matching::{
     AskedShape, Command, ComponentArguments, CoversArguments, ExplainArguments, FilterArguments,
     FirstArguments, Kind, LinkArguments, MatchArguments, TableArguments,
 };
+use urlpat_policies::PolicyCommand;
 
 /// The operand for no base URL.
 const NO_BASE: &str = "-";
@@ -28,6 +29,26 @@ pub(crate) fn command_of<'m, 'w>(
         "link" => link_of(words, given),
         "covers" => covers_of(words, given),
         "unreachable" => Some(Command::Unreachable(table_of(words, given)?)),
+        _ => None,
+    }
+}
+
+/// The command on policies with these operands: what is to be done, and files. `given` is the value
+/// of `--base`, which is not accepted.
+pub(crate) fn policy_of<'m, 'w>(
+    words: &'m [&'w str],
+    given: Option<&'w str>,
+) -> Option<PolicyCommand<'m, 'w>> {
+    if given.is_some() {
+        return None;
+    }
+    let [action, file, rest @ ..] = words else {
+        return None;
+    };
+    match (*action, rest) {
+        ("decide", urls) => Some(PolicyCommand::Decide(file, urls)),
+        ("check", []) => Some(PolicyCommand::Check(file)),
+        ("diff", [new]) => Some(PolicyCommand::Diff(file, new)),
         _ => None,
     }
 }

@@ -1,11 +1,12 @@
 //! Parses the words of the program.
 
 use crate::forms::{FORMS, Form, OPERANDS, command, program, short_form};
-use crate::operands::{command_of, short_of};
+use crate::operands::{command_of, policy_of, short_of};
 use clap::error::ErrorKind;
 use clap::{ArgMatches, Command as Parser, Error};
 use std::alloc::{AllocError, Global};
 use urlpat_matching::{Arguments, Flags};
+use urlpat_policies::PolicyCommand;
 
 /// The usage of `component`, the first line that is printed if the words of the commands whose
 /// output is fixed are wrong.
@@ -55,9 +56,32 @@ fn is_word(text: &str) -> bool {
         .all(|byte| byte.is_ascii_lowercase() || byte == b'-')
 }
 
+/// What words ask for.
+#[derive(Clone, Copy, Debug)]
+pub enum Asked<'m, 'w> {
+    /// A command, with its arguments.
+    Command(Arguments<'m, 'w>),
+    /// A command on policies, and whether what it finds is printed as JSON.
+    Policy(PolicyCommand<'m, 'w>, bool),
+}
+
+/// What parsed words ask for. `None`: there is no command, or the operands or the flags are not
+/// those of the command.
+pub fn asked_of<'m, 'w>(found: &'m ArgMatches<'w>) -> Option<Asked<'m, 'w>> {
+    match found.subcommand() {
+        Some(("policy", of_command)) => {
+            let words = of_command.get_strs(OPERANDS)?;
+            let command = policy_of(words, found.get_str("base"))?;
+            let flags = flags_of(found, of_command)?;
+            Some(Asked::Policy(command, flags.json))
+        }
+        _ => Some(Asked::Command(arguments_of(found)?)),
+    }
+}
+
 /// The arguments that parsed words have. `None`: there is no command, or the operands or the flags
 /// are not those of the command.
-pub fn arguments_of<'m, 'w>(found: &'m ArgMatches<'w>) -> Option<Arguments<'m, 'w>> {
+fn arguments_of<'m, 'w>(found: &'m ArgMatches<'w>) -> Option<Arguments<'m, 'w>> {
     let before = found.get_str("base");
     let Some((name, of_command)) = found.subcommand() else {
         let command = short_of(found, before)?;

@@ -1,60 +1,19 @@
-//! How the program prints what `explain`, `covers` and `unreachable` find.
+//! How the program prints what `explain` and `policy` find.
 
 ghost use Rattle.std.specs.Prelude.{⊤};
 
 use std::alloc::{AllocError, Global};
-use urlpat_commands::{
-    ComparisonPrinter, covering_json, covering_text, doubts_text, unreached_json, unreached_text,
-};
 use urlpat_explain::{Explained, ExplanationPrinter, Outcome, explanation_json, explanation_text};
-use urlpat_matching::Entry;
-use urlpattern::rules::{PatternCovering, Reach};
+use urlpat_policies::{
+    NoPolicy, PolicyPrinter, decisions_json, decisions_text, difference_json, difference_text,
+    faults_json, faults_text,
+};
+use urlpattern_policy::Decision;
+use urlpattern_policy_differences::PolicyDifference;
 
 /// The printer of the program. Nothing is promised of its words.
 #[derive(Clone, Copy)]
 pub struct Printer;
-
-impl ComparisonPrinter for Printer {
-    ghost PrintsCovering = { λ printer json covering text. ⊤ };
-
-    ghost PrintsUnreached = { λ printer json entries found text. ⊤ };
-
-    fn print_covering(
-        &self,
-        alloc: Global,
-        json: bool,
-        covering: &PatternCovering,
-    ) -> Result<String, AllocError> {
-        if json {
-            covering_json(alloc, covering)
-        } else {
-            covering_text(alloc, covering)
-        }
-    }
-
-    fn print_unreached(
-        &self,
-        alloc: Global,
-        json: bool,
-        entries: &[Entry<'_>],
-        found: &[Reach],
-    ) -> Result<String, AllocError> {
-        if json {
-            unreached_json(alloc, entries, found)
-        } else {
-            unreached_text(alloc, entries, found)
-        }
-    }
-
-    fn print_doubts(
-        &self,
-        alloc: Global,
-        entries: &[Entry<'_>],
-        found: &[Reach],
-    ) -> Result<String, AllocError> {
-        doubts_text(alloc, entries, found)
-    }
-}
 
 impl ExplanationPrinter for Printer {
     ghost Prints = { λ printer json explained outcome text. ⊤ };
@@ -70,6 +29,53 @@ impl ExplanationPrinter for Printer {
             explanation_json(alloc, explained, outcome)
         } else {
             explanation_text(alloc, explained, outcome)
+        }
+    }
+}
+
+impl PolicyPrinter for Printer {
+    ghost PrintsDecisions = { λ printer json decisions text. ⊤ };
+
+    ghost PrintsFaults = { λ printer json refusal text. ⊤ };
+
+    ghost PrintsDifference = { λ printer json difference text. ⊤ };
+
+    fn print_decisions(
+        &self,
+        alloc: Global,
+        json: bool,
+        decisions: &[Decision],
+    ) -> Result<String, AllocError> {
+        if json {
+            decisions_json(alloc, decisions)
+        } else {
+            decisions_text(alloc, decisions)
+        }
+    }
+
+    fn print_faults(
+        &self,
+        alloc: Global,
+        json: bool,
+        refusal: &NoPolicy,
+    ) -> Result<String, AllocError> {
+        if json {
+            faults_json(alloc, refusal)
+        } else {
+            faults_text(alloc, refusal)
+        }
+    }
+
+    fn print_difference(
+        &self,
+        alloc: Global,
+        json: bool,
+        difference: &PolicyDifference,
+    ) -> Result<String, AllocError> {
+        if json {
+            difference_json(alloc, difference)
+        } else {
+            difference_text(alloc, difference)
         }
     }
 }

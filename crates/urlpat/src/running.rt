@@ -6,8 +6,7 @@ ghost use Rattle.urlpat.specs.Commands.{MayPrintInPart, MayReport, RunsCommand};
 use std::alloc::Global;
 use std::io::{BufRead, Write};
 use urlpat_commands::{
-    ComparisonPrinter, Tables, covers, filter, list_unreachable, print_component, print_first,
-    print_match, route,
+    Tables, covers, filter, list_unreachable, print_component, print_first, print_match, route,
 };
 use urlpat_explain::{ExplanationPrinter, explain, link};
 use urlpat_matching::{Arguments, Command, DONE, FAILED, NO_MATCH};
@@ -15,15 +14,8 @@ use urlpat_matching::{Arguments, Command, DONE, FAILED, NO_MATCH};
 /// Runs a command. Returns the exit status.
 ///
 /// `filter` and `route` read lines from `input`, `route` and `unreachable` a file from `tables`.
-/// Output is written to `out`, errors and notes to `err`. `printer` prints what `explain`, `covers`
-/// and `unreachable` find.
-pub fn run<
-    T: Tables,
-    P: ComparisonPrinter + ExplanationPrinter,
-    In: BufRead,
-    Out: Write,
-    Err: Write,
->(
+/// Output is written to `out`, errors and notes to `err`. `printer` prints what `explain` finds.
+pub fn run<T: Tables, P: ExplanationPrinter, In: BufRead, Out: Write, Err: Write>(
     alloc: Global,
     tables: &T,
     printer: &P,
@@ -36,8 +28,6 @@ pub fn run<
     ensures answers { result ≢ FAILED
         → RunsCommand (record {
           Has = T.Has tables.now;
-          PrintsCovering = P.PrintsCovering printer.now;
-          PrintsUnreached = P.PrintsUnreached printer.now;
           PrintsExplained = P.Prints printer.now;
         }) arguments.entry.flags arguments.entry.command result
         (In.remaining input.old) (Out.contents out.old) (Out.contents out.new) }
@@ -55,9 +45,7 @@ pub fn run<
         Command::Route(asked) => route(alloc, tables, asked, flags, input, out, err),
         Command::Explain(asked) => explain(alloc, printer, asked, flags, out, err),
         Command::Link(asked) => link(alloc, asked, flags, out, err),
-        Command::Covers(asked) => covers(alloc, printer, asked, flags, out, err),
-        Command::Unreachable(asked) => {
-            list_unreachable(alloc, tables, printer, asked, flags, out, err)
-        }
+        Command::Covers(asked) => covers(alloc, asked, flags, out, err),
+        Command::Unreachable(asked) => { list_unreachable(alloc, tables, asked, flags, out, err) }
     }
 }

@@ -5,3 +5,4 @@ pub mod FilterCommandLemmas
 pub mod CommandNoteLemmas
 pub mod AutomataLemmas
 pub mod RouteLemmas
+pub mod ComparisonLemmas

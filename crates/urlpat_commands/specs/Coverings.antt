@@ -1,15 +1,15 @@
 -- Whether a pattern covers another, and what is printed of it. Arguments and texts are bytes. `old`
--- and `new` are the output before and after, as far as it is known. `Prints` says how a comparison
--- is printed.
-use Rattle.std.specs.Prelude.{◌≡◌, ℕ, Bool, List, Option, Some, option_copied}
+-- and `new` are the output before and after, as far as it is known.
+use Rattle.std.specs.Prelude.{◌≡◌, ℕ, Bool, List, Option, None, Some, option_copied}
 use Rattle.std.specs.Io.KnownBytes.{Appends}
-use Rattle.urlpat_matching.specs.declared.command.CoversArguments.{CoversArguments}
+use Rattle.urlpat_commands.specs.ComparisonTexts.{covering_shown}
+use Rattle.urlpat_matching.specs.declared.command.{CoversArguments.CoversArguments, Flags.Flags}
 use Rattle.urlpat_matching.specs.PatternWords.{IsPatternOf, KeepsPartsOfWord}
 use Rattle.urlpattern_engine.specs.declared.pattern_regexp.PatternRegexp.{PatternRegexp}
 use Rattle.urlpattern_pattern.specs.Patterns.{pattern_view}
 use Rattle.urlpattern_pattern.specs.UrlPatterns.{UrlPattern}
 use Rattle.urlpattern_compare.specs.Comparing.{IsPatternCovering}
-use Rattle.urlpattern_compare.specs.declared.pattern_parts.{PatternCovering.PatternCovering, PatternParts.PatternParts}
+use Rattle.urlpattern_compare.specs.declared.pattern_parts.{Parting.Parting, PatternCovering.PatternCovering, PatternParts.PatternParts}
 use Rattle.urlpattern_compare.specs.declared.pattern_parts.PatternCovering.TheVariants.{Covered, NotCovered, Unknown}
 
 -- `parts` are the parts of the pattern to which the constructor string `text` with the base URL
@@ -28,23 +28,29 @@ ComparesWith ignores patterns covering =
     × ArePartsOf ignores patterns.asked.now (option_copied patterns.base) asked_parts
     × IsPatternCovering parts asked_parts covering
 
--- The exit status for a comparison: 0 if the asked pattern is covered, 1 if not, 2 if that is not
--- known.
-abbrev pub covering_status : PatternCovering → ℕ
-covering_status Covered = 0
-covering_status (NotCovered parting) = 1
-covering_status (Unknown component reason) = 2
+-- The exit status: 0 if a pattern covers the asked one, 1 if it does not, which `parting` shows.
+abbrev pub parting_status : (parting : Option Parting) → ℕ
+parting_status None = 0
+parting_status (Some parting) = 1
 
--- The comparison is printed, and the exit status is `status`.
-abbrev pub PrintsWhich : (Prints : PatternCovering → List ℕ → Type 0) → PatternCovering
-    → (status : ℕ) → (old new : Option (List ℕ)) → Type 0
-PrintsWhich Prints covering status old new =
-    (text : List ℕ) × Prints covering text × (status ≡ covering_status covering)
-    × Appends old new text
+-- Whether a pattern covers the asked one is printed, and `status` is the exit status. `parting`
+-- shows that it does not.
+abbrev pub PrintsDecided : (json : Bool) → (parting : Option Parting) → (status : ℕ)
+    → (old new : Option (List ℕ)) → Type 0
+PrintsDecided json parting status old new =
+    (status ≡ parting_status parting) × Appends old new (covering_shown json parting)
+
+-- The comparison is printed, and the exit status is `status`. It is 2 if nothing is decided.
+abbrev pub PrintsWhich : (json : Bool) → PatternCovering → (status : ℕ)
+    → (old new : Option (List ℕ)) → Type 0
+PrintsWhich json Covered status old new = PrintsDecided json None status old new
+PrintsWhich json (NotCovered parting) status old new =
+    PrintsDecided json (Some parting) status old new
+PrintsWhich json (Unknown component reason) status old new = status ≡ 2
 
 -- The output and the exit status of `covers` for its arguments.
-abbrev pub PrintsWhether : (Prints : PatternCovering → List ℕ → Type 0) → (ignores : Bool)
-    → CoversArguments → (status : ℕ) → (old new : Option (List ℕ)) → Type 0
-PrintsWhether Prints ignores patterns status old new =
-    (covering : PatternCovering) × ComparesWith ignores patterns covering
-    × PrintsWhich Prints covering status old new
+abbrev pub PrintsWhether : Flags → CoversArguments → (status : ℕ) → (old new : Option (List ℕ))
+    → Type 0
+PrintsWhether flags patterns status old new =
+    (covering : PatternCovering) × ComparesWith flags.ignore_case patterns covering
+    × PrintsWhich flags.json covering status old new

@@ -1,10 +1,10 @@
 -- The patterns of a table that are never the first match, and what is printed of them. Arguments
 -- and texts are bytes. `old` and `new` are the output before and after, as far as it is known.
--- `Prints` says how the patterns are printed.
 use Rattle.std.specs.Prelude.{◌≡◌, ℕ, Bool, true, false, List, [], ◌∷◌, ◌++◌, IsTrue, Option, option_copied}
 use Rattle.std.specs.List.{AllZip, list_any}
 use Rattle.std.specs.Io.KnownBytes.{Appends}
-use Rattle.urlpat_matching.specs.declared.command.TableArguments.{TableArguments}
+use Rattle.urlpat_commands.specs.ComparisonTexts.{unreached_lines}
+use Rattle.urlpat_matching.specs.declared.command.{Flags.Flags, TableArguments.TableArguments}
 use Rattle.urlpat_commands.specs.Coverings.{ArePartsOf}
 use Rattle.urlpat_matching.specs.Tables.{EntryView, table_entries}
 use Rattle.urlpattern_compare.specs.CommonTexts.{AreAutomata}
@@ -53,30 +53,27 @@ found_status true unknown = 0
 found_status false true = 2
 found_status false false = 1
 
--- The patterns that are never the first match are printed.
-abbrev pub PrintsFound : (Prints : List Reach → List ℕ → Type 0) → List Reach → (status : ℕ)
+-- The patterns of `entries` that are never the first match are printed.
+abbrev pub PrintsFound : (json : Bool) → List EntryView → List Reach → (status : ℕ)
     → (old new : Option (List ℕ)) → Type 0
-PrintsFound Prints found status old new =
-    (text : List ℕ) × Prints found text
-    × (status ≡ found_status (list_any is_never found) (list_any is_unknown found))
-    × Appends old new text
+PrintsFound json entries found status old new =
+    (status ≡ found_status (list_any is_never found) (list_any is_unknown found))
+    × Appends old new (unreached_lines json entries entries found)
 
 -- The output and the exit status of `unreachable` for a table.
-abbrev pub ListsOf : (Prints : List EntryView → List Reach → List ℕ → Type 0) → (ignores : Bool)
-    → (table : List ℕ) → (base : Option (List ℕ)) → (status : ℕ) → (old new : Option (List ℕ))
-    → Type 0
-ListsOf Prints ignores table base status old new =
-    (found : List Reach) × IsReachOf ignores base (table_entries table) found
-    × PrintsFound (Prints (table_entries table)) found status old new
+abbrev pub ListsOf : Flags → (table : List ℕ) → (base : Option (List ℕ)) → (status : ℕ)
+    → (old new : Option (List ℕ)) → Type 0
+ListsOf flags table base status old new =
+    (found : List Reach) × IsReachOf flags.ignore_case base (table_entries table) found
+    × PrintsFound flags.json (table_entries table) found status old new
 
 -- The output and the exit status of `unreachable` for its arguments. `Has` says which file has
 -- which table.
-abbrev pub Lists : (Has : (name table : List ℕ) → Type 0)
-    → (Prints : List EntryView → List Reach → List ℕ → Type 0) → (ignores : Bool) → TableArguments
-    → (status : ℕ) → (old new : Option (List ℕ)) → Type 0
-Lists Has Prints ignores asked status old new =
+abbrev pub Lists : (Has : (name table : List ℕ) → Type 0) → Flags → TableArguments → (status : ℕ)
+    → (old new : Option (List ℕ)) → Type 0
+Lists Has flags asked status old new =
     (table : List ℕ) × Has asked.file.now table
-    × ListsOf Prints ignores table (option_copied asked.base) status old new
+    × ListsOf flags table (option_copied asked.base) status old new
 
 -- The table has a pattern of which it is not known whether it is ever the first match.
 abbrev pub HasDoubts : (ignores : Bool) → (table : List ℕ) → (base : Option (List ℕ)) → Type 0

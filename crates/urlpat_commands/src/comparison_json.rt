@@ -1,75 +1,103 @@
 //! Comparisons of patterns as JSON.
 
-use crate::comparison_text::{covering_text, number_at};
+ghost use Rattle.serde_json.specs.Data.{array, object};
+ghost use Rattle.serde_json.specs.View.{items_of, members_view, view};
+ghost use Rattle.std.specs.Prelude.{◌≡◌, map, option_copied, string_bytes, IfOk};
+ghost use Rattle.urlpat_commands.specs.ComparisonTexts.{covering_tree, known_tree, number_tree, unreached_tree};
+ghost use Rattle.urlpat_matching.specs.MatchJson.{json_line};
+ghost use Rattle.urlpattern_components.specs.Eight.{at};
+ghost use Rattle.urlpattern_inputs.specs.Trees.{each_member, object_of};
+
 use serde_json::{Map, Value, put};
 use std::alloc::{AllocError, Global};
-use urlpat_matching::{Entry, json_line};
-use urlpattern::rules::{PatternCovering, Reach};
+use urlpat_matching::json_line;
+use urlpattern::rules::Parting;
 use urlpattern::{ComponentName, Eight};
-use urlpattern_inputs::json_writing::put_text;
+use urlpattern_inputs::json_writing::{put_optional, put_text};
 
 /// Returns whether a pattern covers another, as a line of JSON: an object with the key `covered`.
-/// If not, it also has the component in which they differ, and a text for each component that is
-/// known of those that the asked pattern matches. That it is not known is not JSON, but text.
-pub fn covering_json(alloc: Global, covering: &PatternCovering) -> Result<String, AllocError> {
-    let mut members = Map::new(alloc);
-    match covering {
-        PatternCovering::Covered => {
-            put(&mut members, alloc, "covered", Value::from(true))?;
-        }
-        PatternCovering::NotCovered(parting) => {
-            put(&mut members, alloc, "covered", Value::from(false))?;
-            put_text(&mut members, alloc, "component", parting.component.as_str())?;
-            let texts = texts_tree(alloc, &parting.texts)?;
-            put(&mut members, alloc, "texts", texts)?;
-        }
-        PatternCovering::Unknown(_, _) => return covering_text(alloc, covering),
-    }
-    json_line(alloc, &Value::Object(members))
+/// If not, which `parting` shows, it also has the component in which they differ, and a text for
+/// each component that is known of those that the asked pattern matches.
+pub fn covering_json(alloc: Global, parting: Option<&Parting>) -> Result<String, AllocError>
+    ensures { IfOk result (λ text.
+        string_bytes text ≡ json_line (covering_tree (option_copied parting.entry))) }
+{
+    let tree = covering_tree(alloc, parting)?;
+    json_line(alloc, &tree)
 }
 
-/// An object with the texts that are known.
-fn texts_tree(alloc: Global, texts: &Eight<Option<String>>) -> Result<Value, AllocError> {
+/// The object of `covering_json`.
+fn covering_tree(alloc: Global, parting: Option<&Parting>) -> Result<Value, AllocError>
+    ensures { IfOk result (λ tree. view tree ≡ covering_tree (option_copied parting.entry)) }
+{
     let mut members = Map::new(alloc);
-    for name in ComponentName::all() {
-        if let Some(text) = texts.get(name) {
-            put_text(&mut members, alloc, name.as_str(), text)?;
-        }
-    }
+    let Some(parting) = parting else {
+        put(&mut members, alloc, "covered", Value::from(true))?;
+        return Ok(Value::Object(members));
+    };
+    let texts = texts_tree(alloc, &parting.texts)?;
+    put(&mut members, alloc, "covered", Value::from(false))?;
+    put_text(&mut members, alloc, "component", parting.component.as_str())?;
+    put(&mut members, alloc, "texts", texts)?;
     Ok(Value::Object(members))
 }
 
-/// Returns a line of JSON for each pattern that is never the first match: an object with the number
-/// of its line in the table, and those of the patterns that cover it together.
-pub fn unreached_json(
-    alloc: Global,
-    entries: &[Entry<'_>],
-    found: &[Reach],
-) -> Result<String, AllocError> {
-    let mut text = String::new(alloc);
-    for (entry, reach) in entries.iter().zip(found) {
-        if let Reach::Never(by) = reach {
-            let line = unreached_line(alloc, entries, entry.number, by)?;
-            text.push_str(&line)?;
-        }
-    }
-    Ok(text)
+/// An object with the texts that are known.
+fn texts_tree(alloc: Global, texts: &Eight<Option<String>>) -> Result<Value, AllocError>
+    ensures { IfOk result (λ tree.
+        view tree ≡ object_of (each_member (λ name. known_tree (at texts.now name)))) }
+{
+    Ok(Value::Object(known_members(alloc, texts)?))
 }
 
-/// The line for the pattern of the line `number`, which those of the entries at the indices `by`
-/// cover together.
-fn unreached_line(
+/// The members of an object with the texts that are known.
+fn known_members(
     alloc: Global,
-    entries: &[Entry<'_>],
-    number: u64,
-    by: &[usize],
-) -> Result<String, AllocError> {
-    let mut others = Vec::new(alloc);
-    for index in by {
-        others.push(Value::from(number_at(entries, *index)))?;
-    }
+    texts: &Eight<Option<String>>,
+) -> Result<Map<String, Value>, AllocError>
+    ensures { IfOk result (λ members. object (members_view members.entries)
+        ≡ object_of (each_member (λ name. known_tree (at texts.now name)))) }
+{
     let mut members = Map::new(alloc);
-    put(&mut members, alloc, "number", Value::from(number))?;
-    put(&mut members, alloc, "covered_by", Value::Array(others))?;
-    json_line(alloc, &Value::Object(members))
+    for name in ComponentName::all() {
+        put_optional(
+            &mut members,
+            alloc,
+            name.as_str(),
+            texts.get(name).as_deref(),
+        )?;
+    }
+    Ok(members)
+}
+
+/// Returns a line of JSON for a pattern that is never the first match: an object with the number of
+/// its line in the table, and those of the patterns that cover it together.
+pub fn numbers_json(alloc: Global, line: u64, others: &[u64]) -> Result<String, AllocError>
+    ensures { IfOk result (λ text.
+        string_bytes text ≡ json_line (unreached_tree line others.now)) }
+{
+    let tree = unreached_tree(alloc, line, others)?;
+    json_line(alloc, &tree)
+}
+
+/// The object of `numbers_json`.
+fn unreached_tree(alloc: Global, line: u64, others: &[u64]) -> Result<Value, AllocError>
+    ensures { IfOk result (λ tree. view tree ≡ unreached_tree line others.now) }
+{
+    let others = numbers_tree(alloc, others)?;
+    let mut members = Map::new(alloc);
+    put(&mut members, alloc, "number", Value::from(line))?;
+    put(&mut members, alloc, "covered_by", others)?;
+    Ok(Value::Object(members))
+}
+
+/// An array of numbers.
+fn numbers_tree(alloc: Global, numbers: &[u64]) -> Result<Value, AllocError>
+    ensures { IfOk result (λ tree. view tree ≡ array (items_of (map number_tree numbers.now))) }
+{
+    let mut items = Vec::with_capacity(alloc, numbers.len())?;
+    for number in numbers {
+        items.push(Value::from(*number))?;
+    }
+    Ok(Value::Array(items))
 }

@@ -1,20 +1,20 @@
 //! The command `covers`: whether a pattern matches everything that another one matches.
 
-ghost use Rattle.std.specs.Prelude.{◌≡◌, ◌≢◌, ◌⊎◌, IfSome};
-ghost use Rattle.urlpat_commands.specs.Coverings.{ComparesWith, PrintsWhether, PrintsWhich, covering_status};
+ghost use Rattle.std.specs.Prelude.{◌≡◌, ◌≢◌, ◌⊎◌, option_copied, IfSome};
+ghost use Rattle.urlpat_commands.specs.Coverings.{ComparesWith, PrintsDecided, PrintsWhether, PrintsWhich, parting_status};
 
-use crate::comparison_printer::ComparisonPrinter;
+use crate::comparison_lines::covering_shown;
+use crate::comparison_text::reason_text;
 use crate::text_parts::parts_or_report;
 use std::alloc::Global;
 use std::io::Write;
 use urlpat_matching::{CoversArguments, DONE, FAILED, Flags, NO_MATCH, print};
-use urlpattern::rules::PatternCovering;
+use urlpattern::rules::{Parting, PatternCovering};
 
 /// Runs `covers`. Returns the exit status: `DONE` if the first pattern covers the second, the asked
 /// one, `NO_MATCH` if not, `FAILED` if that is not known, which is reported to `err`.
-pub fn covers<P: ComparisonPrinter, Out: Write, Err: Write>(
+pub fn covers<Out: Write, Err: Write>(
     alloc: Global,
-    printer: &P,
     patterns: CoversArguments<'_>,
     flags: Flags,
     out: &mut Out,
@@ -22,14 +22,13 @@ pub fn covers<P: ComparisonPrinter, Out: Write, Err: Write>(
 ) -> u8
     ensures status { (result ≡ DONE) ⊎ (result ≡ NO_MATCH) ⊎ (result ≡ FAILED) }
     ensures answers { result ≢ FAILED
-        → PrintsWhether (P.PrintsCovering printer.now flags.json) flags.ignore_case patterns.entry
-        result (Out.contents out.old) (Out.contents out.new) }
+        → PrintsWhether flags patterns.entry result (Out.contents out.old) (Out.contents out.new) }
     ensures quiet { result ≢ FAILED → err.new ≡ err.old }
 {
     let Some(covering) = compared(alloc, patterns, flags.ignore_case, err) else {
         return FAILED;
     };
-    let status = print_covering(alloc, printer, flags.json, &covering, out, err);
+    let status = print_covering(alloc, flags.json, &covering, out, err);
     drop(covering);
     status
 }
@@ -66,42 +65,62 @@ fn compared<Err: Write>(
 
 /// Prints whether a pattern covers the asked one, or reports why that is not known. Returns the
 /// exit status.
-fn print_covering<P: ComparisonPrinter, Out: Write, Err: Write>(
+fn print_covering<Out: Write, Err: Write>(
     alloc: Global,
-    printer: &P,
     json: bool,
     covering: &PatternCovering,
     out: &mut Out,
     err: &mut Err,
 ) -> u8
     ensures status { (result ≡ DONE) ⊎ (result ≡ NO_MATCH) ⊎ (result ≡ FAILED) }
-    ensures answers { result ≢ FAILED → PrintsWhich (P.PrintsCovering printer.now json) covering.now
-        result (Out.contents out.old) (Out.contents out.new) }
+    ensures answers { result ≢ FAILED → PrintsWhich json covering.now result
+        (Out.contents out.old) (Out.contents out.new) }
     ensures quiet { result ≢ FAILED → err.new ≡ err.old }
 {
-    let status = covering_status(covering);
-    let Ok(text) = printer.print_covering(alloc, json, covering) else {
+    match covering {
+        PatternCovering::Covered => print_decided(alloc, json, None, out, err),
+        PatternCovering::NotCovered(parting) => {
+            print_decided(alloc, json, Some(parting), out, err)
+        }
+        PatternCovering::Unknown(component, reason) => {
+            let why = reason_text(*reason);
+            let _ = writeln!(err, "urlpat: not known: the {component} {why}");
+            FAILED
+        }
+    }
+}
+
+/// Prints whether a pattern covers the asked one. `parting` shows that it does not. Returns the
+/// exit status.
+fn print_decided<Out: Write, Err: Write>(
+    alloc: Global,
+    json: bool,
+    parting: Option<&Parting>,
+    out: &mut Out,
+    err: &mut Err,
+) -> u8
+    ensures status { (result ≡ DONE) ⊎ (result ≡ NO_MATCH) ⊎ (result ≡ FAILED) }
+    ensures answers { result ≢ FAILED → PrintsDecided json (option_copied parting.entry) result
+        (Out.contents out.old) (Out.contents out.new) }
+    ensures quiet { result ≢ FAILED → err.new ≡ err.old }
+{
+    let Ok(text) = covering_shown(alloc, json, parting) else {
         let _ = err.write_all(b"out of memory\n");
         return FAILED;
     };
-    if status == FAILED {
-        let _ = err.write_all(text.as_bytes());
-        return FAILED;
-    }
     match print(text.as_bytes(), out) {
-        Ok(()) => status,
+        Ok(()) => parting_status(parting),
         Err(_) => FAILED,
     }
 }
 
-/// The exit status for a comparison.
-fn covering_status(covering: &PatternCovering) -> u8
-    ensures either { (result ≡ DONE) ⊎ (result ≡ NO_MATCH) ⊎ (result ≡ FAILED) }
-    ensures is { result ≡ covering_status covering.now }
+/// The exit status: whether a pattern covers the asked one. `parting` shows that it does not.
+fn parting_status(parting: Option<&Parting>) -> u8
+    ensures either { (result ≡ DONE) ⊎ (result ≡ NO_MATCH) }
+    ensures is { result ≡ parting_status (option_copied parting.entry) }
 {
-    match covering {
-        PatternCovering::Covered => DONE,
-        PatternCovering::NotCovered(_) => NO_MATCH,
-        PatternCovering::Unknown(_, _) => FAILED,
+    match parting {
+        None => DONE,
+        Some(_) => NO_MATCH,
     }
 }

@@ -6,7 +6,7 @@
 #![tactic(auto)]
 
 mod comparison_json;
-mod comparison_printer;
+mod comparison_lines;
 mod comparison_text;
 mod component;
 mod covers_command;
@@ -21,9 +21,6 @@ mod tables;
 mod text_parts;
 mod unreachable;
 
-pub use comparison_json::{covering_json, unreached_json};
-pub use comparison_printer::ComparisonPrinter;
-pub use comparison_text::{covering_text, doubts_text, unreached_text};
 pub use component::print_component;
 pub use covers_command::covers;
 pub use filter_command::filter;

@@ -8,7 +8,8 @@ ghost use Rattle.urlpattern_compare.specs.CommonTexts.{AreAutomata};
 ghost use Rattle.urlpattern_compare.specs.Reaching.{AreReached};
 ghost use Rattle.urlpattern_compare.specs.declared.candidates.TheConstants.{USUAL_LIMITS};
 
-use crate::comparison_printer::ComparisonPrinter;
+use crate::comparison_lines::unreached_lines;
+use crate::comparison_text::doubts_text;
 use crate::tables::{Tables, read_entries, read_table};
 use crate::text_parts::parts_or_report;
 use std::alloc::{AllocError, Global};
@@ -19,10 +20,9 @@ use urlpattern::rules::{PatternAutomata, PatternParts, Reach, USUAL_LIMITS, reac
 /// Runs `unreachable`. Returns the exit status: `NO_MATCH` if each pattern is the first match of
 /// some texts. Patterns for which that is not known are reported to `err`; if none is found that is
 /// never the first match, the exit status is then `FAILED`.
-pub fn list_unreachable<T: Tables, P: ComparisonPrinter, Out: Write, Err: Write>(
+pub fn list_unreachable<T: Tables, Out: Write, Err: Write>(
     alloc: Global,
     tables: &T,
-    printer: &P,
     asked: TableArguments<'_>,
     flags: Flags,
     out: &mut Out,
@@ -30,24 +30,23 @@ pub fn list_unreachable<T: Tables, P: ComparisonPrinter, Out: Write, Err: Write>
 ) -> u8
     ensures status { (result ≡ DONE) ⊎ (result ≡ NO_MATCH) ⊎ (result ≡ FAILED) }
     ensures answers { result ≢ FAILED
-        → Lists (T.Has tables.now) (P.PrintsUnreached printer.now flags.json) flags.ignore_case
-        asked.entry result (Out.contents out.old) (Out.contents out.new) }
+        → Lists (T.Has tables.now) flags asked.entry result (Out.contents out.old)
+        (Out.contents out.new) }
     ensures quiet { result ≢ FAILED → (err.new ≡ err.old)
         ⊎ LeaveDoubts (T.Has tables.now) flags.ignore_case asked.entry }
 {
     let Some(table) = read_table(tables, asked.file, err) else {
         return FAILED;
     };
-    let status = print_unreachable(alloc, printer, &table, asked.base, flags, out, err);
+    let status = print_unreachable(alloc, &table, asked.base, flags, out, err);
     drop(table);
     status
 }
 
 /// Prints which patterns of a table are never the first match, and reports those for which that is
 /// not known. Returns the exit status.
-fn print_unreachable<P: ComparisonPrinter, Out: Write, Err: Write>(
+fn print_unreachable<Out: Write, Err: Write>(
     alloc: Global,
-    printer: &P,
     table: &[u8],
     base: Option<&str>,
     flags: Flags,
@@ -56,8 +55,8 @@ fn print_unreachable<P: ComparisonPrinter, Out: Write, Err: Write>(
 ) -> u8
     ensures status { (result ≡ DONE) ⊎ (result ≡ NO_MATCH) ⊎ (result ≡ FAILED) }
     ensures answers { result ≢ FAILED
-        → ListsOf (P.PrintsUnreached printer.now flags.json) flags.ignore_case table.now
-        (option_copied base.entry) result (Out.contents out.old) (Out.contents out.new) }
+        → ListsOf flags table.now (option_copied base.entry) result (Out.contents out.old)
+        (Out.contents out.new) }
     ensures quiet { result ≢ FAILED → (err.new ≡ err.old)
         ⊎ HasDoubts flags.ignore_case table.now (option_copied base.entry) }
 {
@@ -73,14 +72,13 @@ fn print_unreachable<P: ComparisonPrinter, Out: Write, Err: Write>(
         let _ = err.write_all(b"out of memory\n");
         return FAILED;
     };
-    print_found(alloc, printer, flags.json, &entries, &found, out, err)
+    print_found(alloc, flags.json, &entries, &found, out, err)
 }
 
 /// Prints which patterns are never the first match, and reports those for which that is not known.
 /// Returns the exit status.
-fn print_found<P: ComparisonPrinter, Out: Write, Err: Write>(
+fn print_found<Out: Write, Err: Write>(
     alloc: Global,
-    printer: &P,
     json: bool,
     entries: &[Entry<'_>],
     found: &[Reach],
@@ -89,16 +87,16 @@ fn print_found<P: ComparisonPrinter, Out: Write, Err: Write>(
 ) -> u8
     ensures status { (result ≡ DONE) ⊎ (result ≡ NO_MATCH) ⊎ (result ≡ FAILED) }
     ensures answers { result ≢ FAILED
-        → PrintsFound (P.PrintsUnreached printer.now json (entries_view entries.now)) found.now
-        result (Out.contents out.old) (Out.contents out.new) }
+        → PrintsFound json (entries_view entries.now) found.now result (Out.contents out.old)
+        (Out.contents out.new) }
     ensures quiet { result ≢ FAILED → (err.new ≡ err.old)
         ⊎ IsTrue (list_any is_unknown found.now) }
 {
-    let Ok(text) = printer.print_unreached(alloc, json, entries, found) else {
+    let Ok(text) = unreached_lines(alloc, json, entries, found) else {
         let _ = err.write_all(b"out of memory\n");
         return FAILED;
     };
-    let Ok(doubts) = printer.print_doubts(alloc, entries, found) else {
+    let Ok(doubts) = doubts_text(alloc, entries, found) else {
         let _ = err.write_all(b"out of memory\n");
         return FAILED;
     };

@@ -1,4 +1,4 @@
-use Rattle.std.proofs.Common.{ap₂, inl, inr, string_bytes, subst, sym, ◌∙◌}
+use Rattle.std.proofs.Common.{ap₂, inl, inr, subst, sym, ◌∙◌}
 use Rattle.std.specs.Io.KnownBytes.{Appends}
 use Rattle.urlpat_commands.specs.Unreached.{found_status}
 use Rattle.urlpat_commands.proofs.unreachable.print_found.Goals as goal
@@ -6,10 +6,8 @@ use Rattle.urlpat_commands.proofs.unreachable.print_found.Goals.{else-unknown, t
 
 pub returns-clause-answers : goal.returns-clause-answers
 returns-clause-answers g c = λ answered. (
-  string_bytes c.in-Ok.text,
-  c.in-Ok.ensures,
   c.found_status.ensures.is ∙ ap₂ found_status c.any_never.ensures c.any_unknown-unknown.ensures,
-  subst (Appends (g.Out.Write.contents c.args.out.now) (g.Out.Write.contents c.print.new.out)) c.as_bytes.ensures.value c.in-Ok-print.ensures,
+  subst (Appends (g.Out.Write.contents c.args.out.now) (g.Out.Write.contents c.print.new.out)) (c.as_bytes.ensures.value ∙ c.in-Ok.ensures) c.in-Ok-print.ensures,
 )
 
 pub returns-clause-quiet : goal.returns-clause-quiet

@@ -19,9 +19,9 @@ returns-clause-answers g c = λ answered. (
   c.in-Ok.found.items,
   reach-of c.args.flags.ignore_case c.args.table.now (option_copied c.args.base) c.in-Some.entries.items c.deref.result.now c.in-Some-automata_of_each.automata.items c.deref-2.result.now c.in-Ok.found.items
       c.in-Some.ensures.entries c.deref.ensures.value c.deref-2.ensures.value c.in-Some-automata_of_each.ensures.automata c.in-Ok.ensures,
-  subst (λ (entries : List EntryView). PrintsFound (g.P.ComparisonPrinter.PrintsUnreached c.args.printer.now c.args.flags.json entries) c.in-Ok.found.items c.print_found.result (g.Out.Write.contents c.args.out.now) (g.Out.Write.contents c.print_found.new.out))
+  subst (λ (entries : List EntryView). PrintsFound c.args.flags.json entries c.in-Ok.found.items c.print_found.result (g.Out.Write.contents c.args.out.now) (g.Out.Write.contents c.print_found.new.out))
       (ap entries_view c.deref-3.ensures.value ∙ c.in-Some.ensures.entries)
-      (subst (λ (found : List Reach). PrintsFound (g.P.ComparisonPrinter.PrintsUnreached c.args.printer.now c.args.flags.json (entries_view c.deref-3.result.now)) found c.print_found.result (g.Out.Write.contents c.args.out.now) (g.Out.Write.contents c.print_found.new.out))
+      (subst (λ (found : List Reach). PrintsFound c.args.flags.json (entries_view c.deref-3.result.now) found c.print_found.result (g.Out.Write.contents c.args.out.now) (g.Out.Write.contents c.print_found.new.out))
       c.deref-4.ensures.value (c.print_found.ensures.answers answered)),
 )
 

@@ -1,0 +1,2 @@
+pub mod DecisionLemmas
+pub mod FileLemmas

@@ -1,0 +1,2 @@
+pub mod PolicyCommands
+pub mod PolicyFiles

@@ -1,0 +1,53 @@
+//! How decisions, faults and differences of policies are printed.
+
+ghost use Rattle.std.specs.Prelude.{ℕ, Bool, List, string_bytes, IfOk};
+ghost use Rattle.urlpat_policies.specs.declared.policy_file.NoPolicy.{NoPolicy};
+ghost use Rattle.urlpattern_policy.specs.declared.decision.Decision.{Decision};
+ghost use Rattle.urlpattern_policy_differences.specs.declared.comparing.PolicyDifference.{PolicyDifference};
+
+use crate::policy_file::NoPolicy;
+use std::alloc::{AllocError, Global};
+use urlpattern_policy::Decision;
+use urlpattern_policy_differences::PolicyDifference;
+
+/// A printer of what is found of policies.
+pub trait PolicyPrinter {
+    // `text` is how decisions are printed, as JSON or not.
+    ghost PrintsDecisions: { Self → (json : Bool) → List Decision → (text : List ℕ) → Type 0 };
+
+    // `text` is how it is printed, as JSON or not, why a file has no policy.
+    ghost PrintsFaults: { Self → (json : Bool) → NoPolicy → (text : List ℕ) → Type 0 };
+
+    // `text` is how the difference of two policies is printed, as JSON or not.
+    ghost PrintsDifference: { Self → (json : Bool) → PolicyDifference → (text : List ℕ) → Type 0 };
+
+    /// Returns decisions as they are printed, as JSON or not.
+    fn print_decisions(
+        &self,
+        alloc: Global,
+        json: bool,
+        decisions: &[Decision],
+    ) -> Result<String, AllocError>
+        ensures { IfOk result (λ text.
+            PrintsDecisions self.now json decisions.now (string_bytes text)) };
+
+    /// Returns why a file has no policy, as it is printed, as JSON or not.
+    fn print_faults(
+        &self,
+        alloc: Global,
+        json: bool,
+        refusal: &NoPolicy,
+    ) -> Result<String, AllocError>
+        ensures { IfOk result (λ text.
+            PrintsFaults self.now json refusal.now (string_bytes text)) };
+
+    /// Returns the difference of two policies as it is printed, as JSON or not.
+    fn print_difference(
+        &self,
+        alloc: Global,
+        json: bool,
+        difference: &PolicyDifference,
+    ) -> Result<String, AllocError>
+        ensures { IfOk result (λ text.
+            PrintsDifference self.now json difference.now (string_bytes text)) };
+}

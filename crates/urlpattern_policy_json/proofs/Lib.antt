@@ -1,0 +1,3 @@
+pub mod ReadingExamples
+pub mod RoundTrip
+pub mod TreeLemmas

@@ -1,0 +1,3 @@
+pub mod PolicyTrees
+pub mod PolicyViews
+pub mod ReadPolicies

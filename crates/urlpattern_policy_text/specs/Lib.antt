@@ -1,0 +1,5 @@
+pub mod PolicyJson
+pub mod PolicyTexts
+pub mod Statements
+pub mod WrittenJson
+pub mod WrittenPolicies
