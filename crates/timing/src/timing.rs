@@ -303,6 +303,22 @@ pub fn run_links<R: Files + AllocGlobal + Clock, O: Write>(
     Ok(())
 }
 
+/// Repeats the lookup of paths with a name among the routes of a file. Returns whether there is
+/// such a lookup.
+pub fn repeat_paths<R: Files + AllocGlobal>(
+    rt: &R,
+    path: &str,
+    lookup: &str,
+    is_missing: bool,
+    count: u64,
+) -> io::Result<bool> {
+    let text = fs::read_to_string(rt, path)?;
+    match paths::repeat(rt.alloc(), &text, lookup, is_missing, count) {
+        Ok(is_known) => Ok(is_known),
+        Err(_) => Err(io::Error::from(io::ErrorKind::OutOfMemory)),
+    }
+}
+
 /// Prints the times of the table of a file's routes, and of generated tables: by URLs, and by paths
 /// alone.
 pub fn run_routes<R: Files + AllocGlobal + Clock, O: Write>(
