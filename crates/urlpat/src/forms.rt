@@ -10,6 +10,12 @@ pub(crate) const OPERANDS: &str = "operands";
 /// The id of the option that gives a pattern as an init.
 pub(crate) const INIT: &str = "init";
 
+/// The id of the option that gives a pattern, one of several.
+pub(crate) const PATTERNS: &str = "pattern";
+
+/// The id of the option that names a file with patterns.
+pub(crate) const PATTERN_FILES: &str = "file";
+
 /// The title of the options that give a pattern by component.
 const BY_COMPONENT: &str = "In place of PATTERN, by component (others match any text)";
 
@@ -49,7 +55,7 @@ impl Form {
 const MATCHING: &[&str] = &["base", "ignore-case", "json", "explain-errors", INIT];
 
 /// The commands, in the order of the help.
-pub(crate) const FORMS: [Form; 10] = [
+pub(crate) const FORMS: [Form; 12] = [
     Form {
         name: "match",
         usage: "urlpat match [OPTIONS] PATTERN BASE INPUT",
@@ -85,9 +91,10 @@ Example: urlpat first https://example.com/ /users/7 /about /users/:id",
         usage: "urlpat filter [OPTIONS] PATTERN [BASE] [FILE..]",
         about: "Print the lines whose URLs match",
         more: "\
-BASE is a URL for the pattern and the lines, or - for none. The lines are those
+BASE is a URL for the patterns and the lines, or - for none. The lines are those
 of the files, or of standard input, which is also the file -. A line that is no
-URL does not match. If no line is selected, the status is 1.
+URL does not match. If no line is selected, the status is 1. With -e or -f there
+is no PATTERN.
 
 Example: urlpat filter https://example.com/users/:id --group pathname.id",
         options: &[
@@ -101,6 +108,10 @@ Example: urlpat filter https://example.com/users/:id --group pathname.id",
             "with-filename",
             "no-filename",
             "line-buffered",
+            "field",
+            "format",
+            PATTERNS,
+            PATTERN_FILES,
             INIT,
         ],
         least: 1,
@@ -112,14 +123,44 @@ Example: urlpat filter https://example.com/users/:id --group pathname.id",
         usage: "urlpat route [OPTIONS] TABLE [BASE] [FILE..]",
         about: "Find the pattern of a table that matches the URL of each line",
         more: "\
-TABLE is a file with a pattern a line, and its name after a tab, if it has one.
-Lines that are empty or begin with # are skipped. BASE is a URL for the patterns
-and the lines, or - for none. The lines are those of the files, or of standard
-input, which is also the file -. For each line the number of the pattern's line,
-its name and its groups are printed with tabs between, or - if no pattern
-matches. If none matches any line, the status is 1.
+TABLE is a file with a pattern a line, and its name after spaces or a tab, if it
+has one; or - for standard input. Lines that are empty or begin with # are
+skipped. BASE is a URL for the patterns and the lines, or - for none. The lines
+are those of the files, or of standard input, which is also the file -. For each
+line the number of the pattern's line, its name and its groups are printed with
+tabs between, or - if no pattern matches. If none matches any line, the status
+is 1.
 
 Example: urlpat route routes.txt https://example.com/ urls.txt",
+        options: &[
+            "base",
+            "ignore-case",
+            "json",
+            "line-number",
+            "with-filename",
+            "no-filename",
+            "line-buffered",
+            "field",
+            "format",
+            "with-line",
+            "summary",
+        ],
+        least: 1,
+        most: usize::MAX,
+        is_fixed: false,
+    },
+    Form {
+        name: "rewrite",
+        usage: "urlpat rewrite [OPTIONS] TABLE [BASE] [FILE..]",
+        about: "Write the URL of each line anew, by the rules of a table",
+        more: "\
+TABLE is a file with a rule a line: a pattern, a second pattern, and a status
+code if you like, with spaces or tabs between. A URL that matches the first
+pattern is written by the second, with its groups. The first rule that matches
+counts; other lines are printed as they came. BASE and FILE are as those of
+`route`. If no line is rewritten, the status is 1.
+
+Example: urlpat rewrite redirects.txt https://example.com/ urls.txt",
         options: &[
             "base",
             "ignore-case",
@@ -193,11 +234,29 @@ Example: urlpat unreachable routes.txt https://example.com/",
         is_fixed: false,
     },
     Form {
+        name: "check",
+        usage: "urlpat check [OPTIONS] TABLE..",
+        about: "Find what is wrong with tables of patterns",
+        more: "\
+A line is printed for each fault, with the file, the line and the column: for
+patterns that are rejected, or never the first match; for pairs of patterns
+whose order decides, with what both match; and for names that are given twice.
+If there are faults, the status is 1; if there are none as far as it is known,
+2. TABLE is as that of `route`.
+
+Example: urlpat check routes.txt --base https://example.com/",
+        options: &["base", "ignore-case", "json"],
+        least: 1,
+        most: usize::MAX,
+        is_fixed: false,
+    },
+    Form {
         name: "policy",
         usage: "urlpat policy [OPTIONS] decide|check|diff FILE..",
         about: "Decide about URLs by a policy, check it, or compare two",
         more: "\
-A file has lines such as `allow PATTERN` and `deny PATTERN`, or JSON.
+A file has lines such as `allow PATTERN` and `deny PATTERN`, or JSON. Rules are
+counted from 1.
 
   decide FILE [URL..]  decide about URLs, or the lines of standard input; the
                        status is 1 if one is denied
@@ -238,6 +297,10 @@ fn option<'a>(alloc: Global, id: &'a str) -> Result<Arg<'a>, AllocError> {
             .value_name("GROUP")
             .help("Print what a group captured, such as pathname.id, or id")
             .conflicts_with_all(&["not", "count", "json"])?,
+        "pattern" => several(arg, "PATTERN", "Lines that match this or another one match").short(
+            'e',
+        ),
+        "file" => several(arg, "FILE", "As -e for the patterns of a table").short('f'),
         "ignore-case" => flag(arg, "Ignore case in patterns").short('i'),
         "json" => flag(arg, "Print results as JSON"),
         "explain-errors" => flag(arg, "Print the reason and the place of an error"),
@@ -248,6 +311,20 @@ fn option<'a>(alloc: Global, id: &'a str) -> Result<Arg<'a>, AllocError> {
             .short('H')
             .conflicts_with("json")?,
         "no-filename" => { flag(arg, "Print no names of files").conflicts_with("with-filename")? }
+        "field" => arg
+            .value_name("NAME|NUMBER")
+            .help("Read the URL from a field of each line"),
+        "format" => arg
+            .value_name("csv|tsv|json")
+            .help("The format of lines with fields; without it csv"),
+        "with-line" => flag(arg, "Print each line after the answer for it").conflicts_with_all(&[
+            "json", "field", "summary",
+        ])?,
+        "summary" => flag(arg, "Print how often each pattern matches").conflicts_with_all(&[
+            "json",
+            "line-number",
+            "with-filename",
+        ])?,
         "line-buffered" => flag(arg, "Write the output for each line at once"),
         "not" => flag(arg, "Select the lines that do not match")
             .short('v')
@@ -282,6 +359,11 @@ fn with_patterns<'a>(alloc: Global, parser: Parser<'a>) -> Result<Parser<'a>, Al
 /// An option without a value.
 fn flag<'a>(arg: Arg<'a>, help: &'a str) -> Arg<'a> {
     arg.action(ArgAction::SetTrue).help(help)
+}
+
+/// An option with a value, which may be given several times.
+fn several<'a>(arg: Arg<'a>, value: &'a str, help: &'a str) -> Arg<'a> {
+    arg.action(ArgAction::Append).value_name(value).help(help)
 }
 
 /// Adds options to a command, and beside `--init` those for single components.
@@ -350,6 +432,17 @@ pub(crate) fn program<'a>(
     for form in &FORMS {
         parser = parser.subcommand(command(alloc, form, takes_hyphens & form.is_fixed)?)?;
     }
+    Ok(parser)
+}
+
+/// The command `policy` with what it does as commands below it, in place of the first operand.
+pub(crate) fn policy_actions<'a>(alloc: Global, form: &Form) -> Result<Parser<'a>, AllocError> {
+    let parser = Parser::new(alloc, form.name)
+        .override_usage(form.usage)
+        .disable_help_subcommand(true)
+        .subcommand(Parser::new(alloc, "decide"))?
+        .subcommand(Parser::new(alloc, "check"))?
+        .subcommand(Parser::new(alloc, "diff"))?;
     Ok(parser)
 }
 

@@ -23,11 +23,11 @@ use printer::Printer;
 use running::{run, status_of_both};
 use std::alloc::AllocError;
 use std::fs::File;
-use std::io::{BufRead, BufReader, BufWriter, IsTerminal, Write};
+use std::io::{BufRead, BufReader, BufWriter, IsTerminal, Read, Write};
 use std::process::ExitCode;
 use std::{env, fs, io};
 use urlpat_commands::Tables;
-use urlpat_matching::{Arguments, DONE, FAILED, NO_MATCH, fail};
+use urlpat_matching::{Arguments, Command, DONE, FAILED, NO_MATCH, RouteShape, fail};
 use urlpat_policies::run_on_policies;
 use urlpattern::Error;
 use urlpattern::regexp::PatternRegexp;
@@ -43,7 +43,12 @@ impl Tables for HostFiles<'_> {
     ghost Has = { λ files name table. ⊤ };
 
     fn read(&self, name: &str) -> io::Result<Vec<u8>> {
-        fs::read(self.rt, name)
+        if name != STANDARD_INPUT {
+            return fs::read(self.rt, name);
+        }
+        let mut bytes = Vec::new(self.rt.alloc());
+        self.rt.stdin().read_to_end(&mut bytes)?;
+        Ok(bytes)
     }
 }
 
@@ -77,7 +82,8 @@ fn run_words(rt: &HostRuntime, words: &[String]) -> u8 {
         Ok(init) => init,
         Err(error) => return refuse(rt, words, &error),
     };
-    let Some(asked) = asked_of(&found, init.as_ref()) else {
+    let none: [&str; 0] = [];
+    let Some(asked) = asked_of(&found, init.as_ref(), none.as_slice()) else {
         return match misused(rt.alloc(), &found, init.is_some()) {
             Ok(error) => refuse(rt, words, &error),
             Err(AllocError) => fail(&Error::OutOfMemory, &mut rt.stderr()),
@@ -120,7 +126,10 @@ fn run_buffered(rt: &HostRuntime, asked: Asked<'_, '_>) -> io::Result<u8> {
     let mut out = Output::new(BufWriter::new(rt.alloc(), rt.stdout())?);
     let mut err = rt.stderr();
     // At a terminal a person reads the errors.
-    let asked = explained(asked, err.is_terminal());
+    let asked = with_bars(
+        explained(asked, err.is_terminal()),
+        rt.stdout().is_terminal(),
+    );
     let status = match asked {
         Asked::Command(arguments) => run_on_lines(rt, arguments, &mut out, &mut err)?,
         Asked::Policy(command, json) => {
@@ -220,6 +229,22 @@ fn explained<'m, 'w>(asked: Asked<'m, 'w>, is_read: bool) -> Asked<'m, 'w> {
     match asked {
         Asked::Command(mut arguments) => {
             arguments.flags.explain_errors |= is_read;
+            Asked::Command(arguments)
+        }
+        Asked::Policy(_, _) => asked,
+    }
+}
+
+/// What is asked for, with bars in a summary if it is read by a person.
+fn with_bars<'m, 'w>(asked: Asked<'m, 'w>, is_read: bool) -> Asked<'m, 'w> {
+    match asked {
+        Asked::Command(mut arguments) => {
+            if let Command::Route(mut route) = arguments.command {
+                if let RouteShape::Summary(_) = route.shape {
+                    route.shape = RouteShape::Summary(is_read);
+                }
+                arguments.command = Command::Route(route);
+            }
             Asked::Command(arguments)
         }
         Asked::Policy(_, _) => asked,

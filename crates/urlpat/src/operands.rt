@@ -1,11 +1,12 @@
 //! The operands of a command, which are its arguments without the options.
 
-use crate::forms::OPERANDS;
+use crate::forms::{OPERANDS, PATTERN_FILES, PATTERNS};
 use clap::ArgMatches;
 use urlpat_matching::{
-    Arguments, AskedShape, Command, ComponentArguments, CoversArguments, ExplainArguments,
-    FilterArguments, FirstArguments, GivenPattern, Kind, LineStyle, LinkArguments, MatchArguments,
-    RouteArguments, TableArguments,
+    Arguments, AskedShape, CheckArguments, Command, ComponentArguments, CoversArguments,
+    ExplainArguments, Field, FieldName, FilterArguments, FirstArguments, GivenPattern,
+    GivenPatterns, Kind, LineArguments, LineFormat, LineStyle, LinkArguments, MatchArguments,
+    RewriteArguments, RouteArguments, RouteShape, TableArguments,
 };
 use urlpat_policies::PolicyCommand;
 use urlpattern::quirks::UrlPatternInit;
@@ -25,6 +26,8 @@ pub(crate) struct Given<'m, 'w> {
     pub init: Option<&'m UrlPatternInit>,
     /// Whether results are printed as JSON.
     pub json: bool,
+    /// No operands.
+    pub none: &'m [&'w str],
 }
 
 /// The command with this name, with its arguments, which are those in `found`, and the operands
@@ -34,20 +37,28 @@ pub(crate) fn command_of<'m, 'w>(
     found: &'m ArgMatches<'w>,
     given: Given<'m, 'w>,
 ) -> Option<(Command<'m, 'w>, &'m [&'w str])> {
-    let words = found.get_strs(OPERANDS)?;
+    let words = found.get_strs(OPERANDS).unwrap_or(given.none);
     let command = match name {
         "component" => component_of(words),
         "match" => match_of(words, given),
         "first" => first_of(words, given.base),
         "filter" => return filter_of(found, words, given),
-        "route" => return route_of(found, words, given),
+        "route" => {
+            let (asked, files) = route_of(found, words, given)?;
+            return Some((Command::Route(asked), files));
+        }
+        "rewrite" => {
+            let (asked, files) = rewrite_of(found, words, given)?;
+            return Some((Command::Rewrite(asked), files));
+        }
         "explain" => explain_of(words, given),
         "link" => link_of(words, given),
         "covers" => covers_of(words, given.base),
         "unreachable" => unreachable_of(words, given.base),
+        "check" => check_of(words, given.base),
         _ => None,
     };
-    Some((command?, &words[words.len()..]))
+    Some((command?, given.none))
 }
 
 /// The pattern, and the operands after it: the one that options give, or else the first word.
@@ -174,20 +185,18 @@ pub(crate) fn short_of<'m, 'w>(
     found: &'m ArgMatches<'w>,
     given: Given<'m, 'w>,
 ) -> Option<(Command<'m, 'w>, &'m [&'w str])> {
-    let (pattern, rest) = with_pattern(found.get_strs(OPERANDS)?, given)?;
-    let [input, none @ ..] = rest else {
+    let words = found.get_strs(OPERANDS).unwrap_or(given.none);
+    let (pattern, rest) = with_pattern(words, given)?;
+    let [input] = rest else {
         return None;
     };
-    if !none.is_empty() {
-        return None;
-    }
     let base = base_of(given.base.unwrap_or(NO_BASE));
     let asked = MatchArguments {
         pattern,
         base,
         input,
     };
-    Some((Command::Match(asked), none))
+    Some((Command::Match(asked), given.none))
 }
 
 /// The arguments of `first`: a base URL, an input, and patterns.
@@ -203,23 +212,56 @@ fn first_of<'m, 'w>(words: &'m [&'w str], given: Option<&'w str>) -> Option<Comm
     }
 }
 
-/// The arguments of `filter`, a pattern and a base URL, and the operands after them.
+/// The patterns of `filter`, and the operands after them: those of words and of files, which
+/// options give, or else one.
+fn with_patterns<'m, 'w>(
+    found: &'m ArgMatches<'w>,
+    words: &'m [&'w str],
+    given: Given<'m, 'w>,
+) -> Option<(GivenPatterns<'m, 'w>, &'m [&'w str])> {
+    let (texts, files) = (found.get_strs(PATTERNS), found.get_strs(PATTERN_FILES));
+    if texts.is_none() && files.is_none() {
+        let (pattern, rest) = with_pattern(words, given)?;
+        return Some((GivenPatterns::One(pattern), rest));
+    }
+    if given.init.is_some() {
+        return None;
+    }
+    let texts = texts.unwrap_or(given.none);
+    let files = files.unwrap_or(given.none);
+    Some((GivenPatterns::Several(texts, files), words))
+}
+
+/// The arguments of `filter`, patterns and a base URL, and the operands after them.
 fn filter_of<'m, 'w>(
     found: &'m ArgMatches<'w>,
     words: &'m [&'w str],
     given: Given<'m, 'w>,
 ) -> Option<(Command<'m, 'w>, &'m [&'w str])> {
-    let (pattern, rest) = with_pattern(words, given)?;
+    let (patterns, rest) = with_patterns(found, words, given)?;
     let (base, files) = with_some_base(rest, given.base);
     let inverted = found.get_flag("not");
     let asked = FilterArguments {
-        pattern,
-        base,
+        patterns,
         inverted,
         shape: shape_of(found, given.json, inverted)?,
-        style: style_of(found, given.json, files)?,
+        lines: lines_of(found, base, given.json, files)?,
     };
     Some((Command::Filter(asked), files))
+}
+
+/// How lines are read and written. `None`: the options exclude each other.
+fn lines_of<'w>(
+    found: &ArgMatches<'w>,
+    base: Option<&'w str>,
+    json: bool,
+    files: &[&str],
+) -> Option<LineArguments<'w>> {
+    Some(LineArguments {
+        base,
+        field: field_of(found)?,
+        style: style_of(found, json, files)?,
+    })
 }
 
 /// How output for lines is written. `None`: the options exclude each other.
@@ -229,7 +271,12 @@ fn style_of<'w>(found: &ArgMatches<'w>, json: bool, files: &[&str]) -> Option<Li
     if json && (numbered || named) {
         return None;
     }
-    let several = files.len() > 1 && !json && !found.get_flag("no-filename");
+    let fields = found.get_str("field").is_some();
+    if fields && (numbered || named) {
+        return None;
+    }
+    let unnamed = json || fields || found.get_flag("no-filename") || found.get_flag("summary");
+    let several = files.len() > 1 && !unnamed;
     Some(LineStyle {
         file: None,
         named: named || several,
@@ -253,12 +300,16 @@ fn shape_of<'w>(found: &ArgMatches<'w>, json: bool, inverted: bool) -> Option<As
 pub(crate) fn of_file<'m, 'w>(arguments: Arguments<'m, 'w>, file: &'w str) -> Arguments<'m, 'w> {
     let command = match arguments.command {
         Command::Filter(mut asked) => {
-            asked.style.file = Some(file);
+            asked.lines.style.file = Some(file);
             Command::Filter(asked)
         }
         Command::Route(mut asked) => {
-            asked.style.file = Some(file);
+            asked.lines.style.file = Some(file);
             Command::Route(asked)
+        }
+        Command::Rewrite(mut asked) => {
+            asked.lines.style.file = Some(file);
+            Command::Rewrite(asked)
         }
         other => other,
     };
@@ -273,13 +324,70 @@ fn route_of<'m, 'w>(
     found: &'m ArgMatches<'w>,
     words: &'m [&'w str],
     given: Given<'m, 'w>,
-) -> Option<(Command<'m, 'w>, &'m [&'w str])> {
+) -> Option<(RouteArguments<'w>, &'m [&'w str])> {
     let [file, rest @ ..] = words else {
         return None;
     };
     let (base, files) = with_some_base(rest, given.base);
-    let style = style_of(found, given.json, files)?;
-    Some((Command::Route(RouteArguments { file, base, style }), files))
+    let asked = RouteArguments {
+        file,
+        shape: route_shape_of(found, given.json)?,
+        lines: lines_of(found, base, given.json, files)?,
+    };
+    if asked.lines.field.is_some() && asked.shape == RouteShape::Json {
+        return None;
+    }
+    Some((asked, files))
+}
+
+/// What `route` prints. `None`: the options exclude each other.
+fn route_shape_of(found: &ArgMatches<'_>, json: bool) -> Option<RouteShape> {
+    match (found.get_flag("with-line"), json, found.get_flag("summary")) {
+        (false, false, false) => Some(RouteShape::Rows),
+        (true, false, false) => Some(RouteShape::RowsWithLines),
+        (false, true, false) => Some(RouteShape::Json),
+        (false, false, true) => Some(RouteShape::Summary(false)),
+        _ => None,
+    }
+}
+
+/// The field of lines that has the URL. The outer `None`: the options are not those of a field.
+fn field_of<'w>(found: &ArgMatches<'w>) -> Option<Option<Field<'w>>> {
+    let format = match found.get_str("format") {
+        Some("csv") | None => LineFormat::Csv,
+        Some("tsv") => LineFormat::Tsv,
+        Some("json") => LineFormat::Json,
+        Some(_) => return None,
+    };
+    let Some(word) = found.get_str("field") else {
+        return if found.get_str("format").is_none() {
+            Some(None)
+        } else {
+            None
+        };
+    };
+    let name = match word.parse::<usize>() {
+        Ok(number) if format != LineFormat::Json => FieldName::Number(number),
+        _ => FieldName::Name(word),
+    };
+    match name {
+        FieldName::Number(0) => None,
+        _ => Some(Some(Field { format, name })),
+    }
+}
+
+/// The arguments of `rewrite`, a file and a base URL, and the operands after them.
+fn rewrite_of<'m, 'w>(
+    found: &'m ArgMatches<'w>,
+    words: &'m [&'w str],
+    given: Given<'m, 'w>,
+) -> Option<(RewriteArguments<'w>, &'m [&'w str])> {
+    let [file, rest @ ..] = words else {
+        return None;
+    };
+    let (base, files) = with_some_base(rest, given.base);
+    let lines = lines_of(found, base, given.json, files)?;
+    Some((RewriteArguments { file, lines }, files))
 }
 
 /// The arguments of `unreachable`: a file, and a base URL.
@@ -293,6 +401,15 @@ fn unreachable_of<'m, 'w>(words: &'m [&'w str], given: Option<&'w str>) -> Optio
     } else {
         None
     }
+}
+
+/// The arguments of `check`: files.
+fn check_of<'m, 'w>(files: &'m [&'w str], given: Option<&'w str>) -> Option<Command<'m, 'w>> {
+    if files.is_empty() {
+        return None;
+    }
+    let base = base_of(given.unwrap_or(NO_BASE));
+    Some(Command::Check(CheckArguments { files, base }))
 }
 
 /// The arguments of `explain`: a pattern, a base URL and an input. A single word after a pattern

@@ -1,6 +1,9 @@
 //! Parses the words of the program.
 
-use crate::forms::{FORMS, Form, INIT, OPERANDS, command, program, short_form};
+use crate::forms::{
+    FORMS, Form, INIT, OPERANDS, PATTERN_FILES, PATTERNS, command, policy_actions, program,
+    short_form,
+};
 use crate::operands::{Given, command_of, policy_of, short_of};
 use clap::error::ErrorKind;
 use clap::{ArgMatches, Command as Parser, Error};
@@ -68,11 +71,13 @@ pub enum Asked<'m, 'w> {
     Policy(PolicyCommand<'m, 'w>, bool),
 }
 
-/// What parsed words ask for. `init` is the pattern that options give by component. `None`: there
-/// is no command, or the operands or the flags are not those of the command.
+/// What parsed words ask for. `init` is the pattern that options give by component, and `none` has
+/// no operands. `None`: there is no command, or the operands or the flags are not those of the
+/// command.
 pub fn asked_of<'m, 'w>(
     found: &'m ArgMatches<'w>,
     init: Option<&'m UrlPatternInit>,
+    none: &'m [&'w str],
 ) -> Option<Asked<'m, 'w>> {
     match found.subcommand() {
         Some(("policy", of_command)) => {
@@ -84,15 +89,15 @@ pub fn asked_of<'m, 'w>(
             let flags = flags_of(found, of_command)?;
             Some(Asked::Policy(command, flags.json))
         }
-        _ => Some(Asked::Command(arguments_of(found, init)?)),
+        _ => Some(Asked::Command(arguments_of(found, init, none)?)),
     }
 }
 
-/// The arguments that parsed words have. `init` is the pattern that options give by component.
-/// `None`: there is no command, or the operands or the flags are not those of the command.
+/// The arguments that parsed words have, as `asked_of` returns them.
 fn arguments_of<'m, 'w>(
     found: &'m ArgMatches<'w>,
     init: Option<&'m UrlPatternInit>,
+    none: &'m [&'w str],
 ) -> Option<Arguments<'m, 'w>> {
     let after = after_command(found);
     let mut flags = flags_of(found, after)?;
@@ -100,6 +105,7 @@ fn arguments_of<'m, 'w>(
         base: after.get_str("base").or(found.get_str("base")),
         init,
         json: flags.json,
+        none,
     };
     let (command, files) = match found.subcommand_name() {
         Some(name) => {
@@ -257,6 +263,10 @@ fn parser_of<'a>(alloc: Global, found: &ArgMatches<'_>) -> Result<Parser<'a>, Al
 /// The least and the most operands of the command whose words were parsed. `given` says whether
 /// options give the pattern.
 fn bounds_of(found: &ArgMatches<'_>, given: bool) -> (usize, usize) {
+    let after = after_command(found);
+    let given = given
+        || after.get_strs(PATTERNS).is_some()
+        || after.get_strs(PATTERN_FILES).is_some();
     let (least, most) = match found.subcommand_name() {
         Some(name) => match form_of(name) {
             Some(form) => (form.least, form.most),
@@ -277,6 +287,9 @@ pub fn misused(alloc: Global, found: &ArgMatches<'_>, given: bool) -> Result<Err
     let mut parser = parser_of(alloc, found)?;
     let (least, most) = bounds_of(found, given);
     let words = after_command(found).get_strs(OPERANDS).unwrap_or(&[]);
+    if let Some(error) = no_action(alloc, found.subcommand_name(), words)? {
+        return Ok(error);
+    }
     if words.len() < least {
         return parser.error(ErrorKind::WrongNumberOfValues, "an argument is missing");
     }
@@ -289,5 +302,28 @@ pub fn misused(alloc: Global, found: &ArgMatches<'_>, given: bool) -> Result<Err
             ErrorKind::WrongNumberOfValues,
             "these are not the arguments of the command",
         ),
+    }
+}
+
+/// The error that the first word is nothing that `policy` does. It names what is like it. `None`:
+/// the command is another one, or the word is what it does.
+fn no_action(
+    alloc: Global,
+    command: Option<&str>,
+    words: &[&str],
+) -> Result<Option<Error>, AllocError> {
+    let (Some("policy"), [word, ..]) = (command, words) else {
+        return Ok(None);
+    };
+    let Some(form) = form_of("policy") else {
+        return Ok(None);
+    };
+    if word.starts_with('-') {
+        return Ok(None);
+    }
+    let given = [form.name, *word];
+    match policy_actions(alloc, form)?.try_get_matches_from(given.as_slice()) {
+        Ok(_) => Ok(None),
+        Err(error) => Ok(Some(error)),
     }
 }

@@ -90,7 +90,7 @@ fn rule_outcome<R: RegExp>(
 }
 
 /// Returns where a diagnosis is of a fault in the text: at its beginning, if another text is shown.
-fn place_in(text: &str, diagnosis: &Diagnosis) -> usize
+pub fn place_in(text: &str, diagnosis: &Diagnosis) -> usize
     ensures { result ≡ place_in text.now diagnosis.now }
 {
     if diagnosis.text.as_str() == text {

@@ -1,0 +1,8 @@
+pub mod RowLemmas
+pub mod TableRuleLemmas
+pub mod UnreachedLemmas
+pub mod FirstRuleLemmas
+mod TableExamples
+pub mod EndlessLemmas
+pub mod CheckLemmas
+pub mod FilterPatternLemmas
