@@ -319,16 +319,16 @@ pub fn repeat_paths<R: Files + AllocGlobal>(
     }
 }
 
-/// Prints the times of the table of a file's routes, and of generated tables: by URLs, and by paths
-/// alone.
+/// Prints the times of the table of a file's routes, and of generated tables: by paths alone, and
+/// by URLs.
 pub fn run_routes<R: Files + AllocGlobal + Clock, O: Write>(
     rt: &R,
     path: &str,
     out: &mut O,
 ) -> io::Result<()> {
     let text = fs::read_to_string(rt, path)?;
-    routes::run(rt, &text, out)?;
-    paths::run(rt, &text, out)
+    paths::run(rt, &text, out)?;
+    routes::run(rt, &text, out)
 }
 
 /// Repeats a call for a policy of this many rules, those of the routes of a file first. Returns

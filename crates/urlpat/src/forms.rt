@@ -2,13 +2,17 @@
 
 use clap::{Arg, ArgAction, Command as Parser};
 use std::alloc::{AllocError, Global};
-use urlpattern::ComponentName;
 
 /// The id of the operands.
 pub(crate) const OPERANDS: &str = "operands";
 
 /// The id of the option that gives a pattern as an init.
 pub(crate) const INIT: &str = "init";
+
+/// The names of the components, which the options for their patterns have too.
+const COMPONENTS: &[&str] = &[
+    "protocol", "username", "password", "hostname", "port", "pathname", "search", "hash",
+];
 
 /// The title of the options that give a pattern by component.
 const BY_COMPONENT: &str = "In place of PATTERN, by component (others match any text)";
@@ -197,7 +201,8 @@ Example: urlpat unreachable routes.txt https://example.com/",
         usage: "urlpat policy [OPTIONS] decide|check|diff FILE..",
         about: "Decide about URLs by a policy, check it, or compare two",
         more: "\
-A file has lines such as `allow PATTERN` and `deny PATTERN`, or JSON.
+A file has lines such as `allow PATTERN` and `deny PATTERN`, or JSON. Rules are
+counted from 1.
 
   decide FILE [URL..]  decide about URLs, or the lines of standard input; the
                        status is 1 if one is denied
@@ -239,6 +244,14 @@ fn option<'a>(alloc: Global, id: &'a str) -> Result<Arg<'a>, AllocError> {
             .help("Print what a group captured, such as pathname.id, or id")
             .conflicts_with_all(&["not", "count", "json"])?,
         "ignore-case" => flag(arg, "Ignore case in patterns").short('i'),
+        "init" => arg
+            .value_name("JSON")
+            .help("An init, such as {\"pathname\": \"/users/:id\"}")
+            .help_heading(BY_COMPONENT)
+            .conflicts_with_all(&[
+                "protocol", "username", "password", "hostname", "port", "pathname", "search",
+                "hash",
+            ])?,
         "json" => flag(arg, "Print results as JSON"),
         "explain-errors" => flag(arg, "Print the reason and the place of an error"),
         "line-number" => flag(arg, "Print the number of each line before it")
@@ -258,25 +271,25 @@ fn option<'a>(alloc: Global, id: &'a str) -> Result<Arg<'a>, AllocError> {
     })
 }
 
-/// Adds the options that give a pattern by component.
-fn with_patterns<'a>(alloc: Global, parser: Parser<'a>) -> Result<Parser<'a>, AllocError> {
-    let init = Arg::new(alloc, INIT)
-        .long(INIT)
-        .value_name("JSON")
-        .help("The pattern as an init, such as {\"pathname\": \"/users/:id\"}")
-        .help_heading(BY_COMPONENT)
-        .conflicts_with_all(&[
-            "protocol", "username", "password", "hostname", "port", "pathname", "search", "hash",
-        ])?;
-    let mut parser = parser.arg(init)?;
-    for name in ComponentName::all() {
-        let pattern = Arg::new(alloc, name.as_str())
-            .long(name.as_str())
-            .value_name("PATTERN")
-            .help_heading(BY_COMPONENT);
-        parser = parser.arg(pattern)?;
+/// Adds the options that give the patterns of single components, by their names.
+fn with_components<'a>(
+    alloc: Global,
+    parser: Parser<'a>,
+    names: &[&'a str],
+) -> Result<Parser<'a>, AllocError> {
+    let mut parser = parser;
+    for name in names {
+        parser = parser.arg(component(alloc, name))?;
     }
     Ok(parser)
+}
+
+/// The option that gives the pattern of the component with this name.
+fn component<'a>(alloc: Global, name: &'a str) -> Arg<'a> {
+    Arg::new(alloc, name)
+        .long(name)
+        .value_name("PATTERN")
+        .help_heading(BY_COMPONENT)
 }
 
 /// An option without a value.
@@ -292,10 +305,9 @@ fn with_options<'a>(
 ) -> Result<Parser<'a>, AllocError> {
     let mut parser = parser.args_override_self(true);
     for id in options {
+        parser = parser.arg(option(alloc, id)?)?;
         if *id == INIT {
-            parser = with_patterns(alloc, parser)?;
-        } else {
-            parser = parser.arg(option(alloc, id)?)?;
+            parser = with_components(alloc, parser, COMPONENTS)?;
         }
     }
     Ok(parser)
@@ -350,6 +362,17 @@ pub(crate) fn program<'a>(
     for form in &FORMS {
         parser = parser.subcommand(command(alloc, form, takes_hyphens & form.is_fixed)?)?;
     }
+    Ok(parser)
+}
+
+/// The command `policy` with what it does as commands below it, in place of the first operand.
+pub(crate) fn policy_actions<'a>(alloc: Global, form: &Form) -> Result<Parser<'a>, AllocError> {
+    let parser = Parser::new(alloc, form.name)
+        .override_usage(form.usage)
+        .disable_help_subcommand(true)
+        .subcommand(Parser::new(alloc, "decide"))?
+        .subcommand(Parser::new(alloc, "check"))?
+        .subcommand(Parser::new(alloc, "diff"))?;
     Ok(parser)
 }
 

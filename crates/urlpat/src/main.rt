@@ -77,7 +77,8 @@ fn run_words(rt: &HostRuntime, words: &[String]) -> u8 {
         Ok(init) => init,
         Err(error) => return refuse(rt, words, &error),
     };
-    let Some(asked) = asked_of(&found, init.as_ref()) else {
+    let none: [&str; 0] = [];
+    let Some(asked) = asked_of(&found, init.as_ref(), none.as_slice()) else {
         return match misused(rt.alloc(), &found, init.is_some()) {
             Ok(error) => refuse(rt, words, &error),
             Err(AllocError) => fail(&Error::OutOfMemory, &mut rt.stderr()),

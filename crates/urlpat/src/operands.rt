@@ -25,6 +25,8 @@ pub(crate) struct Given<'m, 'w> {
     pub init: Option<&'m UrlPatternInit>,
     /// Whether results are printed as JSON.
     pub json: bool,
+    /// No operands.
+    pub none: &'m [&'w str],
 }
 
 /// The command with this name, with its arguments, which are those in `found`, and the operands
@@ -34,7 +36,7 @@ pub(crate) fn command_of<'m, 'w>(
     found: &'m ArgMatches<'w>,
     given: Given<'m, 'w>,
 ) -> Option<(Command<'m, 'w>, &'m [&'w str])> {
-    let words = found.get_strs(OPERANDS)?;
+    let words = found.get_strs(OPERANDS).unwrap_or(given.none);
     let command = match name {
         "component" => component_of(words),
         "match" => match_of(words, given),
@@ -47,7 +49,7 @@ pub(crate) fn command_of<'m, 'w>(
         "unreachable" => unreachable_of(words, given.base),
         _ => None,
     };
-    Some((command?, &words[words.len()..]))
+    Some((command?, given.none))
 }
 
 /// The pattern, and the operands after it: the one that options give, or else the first word.
@@ -174,20 +176,18 @@ pub(crate) fn short_of<'m, 'w>(
     found: &'m ArgMatches<'w>,
     given: Given<'m, 'w>,
 ) -> Option<(Command<'m, 'w>, &'m [&'w str])> {
-    let (pattern, rest) = with_pattern(found.get_strs(OPERANDS)?, given)?;
-    let [input, none @ ..] = rest else {
+    let words = found.get_strs(OPERANDS).unwrap_or(given.none);
+    let (pattern, rest) = with_pattern(words, given)?;
+    let [input] = rest else {
         return None;
     };
-    if !none.is_empty() {
-        return None;
-    }
     let base = base_of(given.base.unwrap_or(NO_BASE));
     let asked = MatchArguments {
         pattern,
         base,
         input,
     };
-    Some((Command::Match(asked), none))
+    Some((Command::Match(asked), given.none))
 }
 
 /// The arguments of `first`: a base URL, an input, and patterns.
@@ -252,19 +252,27 @@ fn shape_of<'w>(found: &ArgMatches<'w>, json: bool, inverted: bool) -> Option<As
 /// The arguments, with the name of the file whose lines are read.
 pub(crate) fn of_file<'m, 'w>(arguments: Arguments<'m, 'w>, file: &'w str) -> Arguments<'m, 'w> {
     let command = match arguments.command {
-        Command::Filter(mut asked) => {
-            asked.style.file = Some(file);
-            Command::Filter(asked)
-        }
-        Command::Route(mut asked) => {
-            asked.style.file = Some(file);
-            Command::Route(asked)
-        }
+        Command::Filter(asked) => Command::Filter(FilterArguments {
+            style: style_of_file(asked.style, file),
+            ..asked
+        }),
+        Command::Route(asked) => Command::Route(RouteArguments {
+            style: style_of_file(asked.style, file),
+            ..asked
+        }),
         other => other,
     };
     Arguments {
         command,
         ..arguments
+    }
+}
+
+/// How output is written for the lines of a file.
+fn style_of_file<'w>(style: LineStyle<'w>, file: &'w str) -> LineStyle<'w> {
+    LineStyle {
+        file: Some(file),
+        ..style
     }
 }
 

@@ -1,6 +1,6 @@
 //! Parses the words of the program.
 
-use crate::forms::{FORMS, Form, INIT, OPERANDS, command, program, short_form};
+use crate::forms::{FORMS, Form, INIT, OPERANDS, command, policy_actions, program, short_form};
 use crate::operands::{Given, command_of, policy_of, short_of};
 use clap::error::ErrorKind;
 use clap::{ArgMatches, Command as Parser, Error};
@@ -68,11 +68,13 @@ pub enum Asked<'m, 'w> {
     Policy(PolicyCommand<'m, 'w>, bool),
 }
 
-/// What parsed words ask for. `init` is the pattern that options give by component. `None`: there
-/// is no command, or the operands or the flags are not those of the command.
+/// What parsed words ask for. `init` is the pattern that options give by component, and `none` has
+/// no operands. `None`: there is no command, or the operands or the flags are not those of the
+/// command.
 pub fn asked_of<'m, 'w>(
     found: &'m ArgMatches<'w>,
     init: Option<&'m UrlPatternInit>,
+    none: &'m [&'w str],
 ) -> Option<Asked<'m, 'w>> {
     match found.subcommand() {
         Some(("policy", of_command)) => {
@@ -84,15 +86,15 @@ pub fn asked_of<'m, 'w>(
             let flags = flags_of(found, of_command)?;
             Some(Asked::Policy(command, flags.json))
         }
-        _ => Some(Asked::Command(arguments_of(found, init)?)),
+        _ => Some(Asked::Command(arguments_of(found, init, none)?)),
     }
 }
 
-/// The arguments that parsed words have. `init` is the pattern that options give by component.
-/// `None`: there is no command, or the operands or the flags are not those of the command.
+/// The arguments that parsed words have, as `asked_of` returns them.
 fn arguments_of<'m, 'w>(
     found: &'m ArgMatches<'w>,
     init: Option<&'m UrlPatternInit>,
+    none: &'m [&'w str],
 ) -> Option<Arguments<'m, 'w>> {
     let after = after_command(found);
     let mut flags = flags_of(found, after)?;
@@ -100,6 +102,7 @@ fn arguments_of<'m, 'w>(
         base: after.get_str("base").or(found.get_str("base")),
         init,
         json: flags.json,
+        none,
     };
     let (command, files) = match found.subcommand_name() {
         Some(name) => {
@@ -123,10 +126,13 @@ fn arguments_of<'m, 'w>(
 
 /// The arguments after the command, or all of them in the short form.
 fn after_command<'m, 'w>(found: &'m ArgMatches<'w>) -> &'m ArgMatches<'w> {
-    match found.subcommand() {
-        Some((_, after)) => after,
-        None => found,
-    }
+    second(found.subcommand()).unwrap_or(found)
+}
+
+/// The arguments of a command, without its name.
+fn second<'m, 'w>(command: Option<(&'w str, &'m ArgMatches<'w>)>) -> Option<&'m ArgMatches<'w>> {
+    let (_, after) = command?;
+    Some(after)
 }
 
 /// Reads the pattern that options give by component. `None`: no option gives one.
@@ -277,6 +283,9 @@ pub fn misused(alloc: Global, found: &ArgMatches<'_>, given: bool) -> Result<Err
     let mut parser = parser_of(alloc, found)?;
     let (least, most) = bounds_of(found, given);
     let words = after_command(found).get_strs(OPERANDS).unwrap_or(&[]);
+    if let Some(error) = no_action(alloc, found.subcommand_name(), words)? {
+        return Ok(error);
+    }
     if words.len() < least {
         return parser.error(ErrorKind::WrongNumberOfValues, "an argument is missing");
     }
@@ -289,5 +298,28 @@ pub fn misused(alloc: Global, found: &ArgMatches<'_>, given: bool) -> Result<Err
             ErrorKind::WrongNumberOfValues,
             "these are not the arguments of the command",
         ),
+    }
+}
+
+/// The error that the first word is nothing that `policy` does. It names what is like it. `None`:
+/// the command is another one, or the word is what it does.
+fn no_action(
+    alloc: Global,
+    command: Option<&str>,
+    words: &[&str],
+) -> Result<Option<Error>, AllocError> {
+    let (Some("policy"), [word, ..]) = (command, words) else {
+        return Ok(None);
+    };
+    let Some(form) = form_of("policy") else {
+        return Ok(None);
+    };
+    if word.starts_with('-') {
+        return Ok(None);
+    }
+    let given = ["policy", *word];
+    match policy_actions(alloc, form)?.try_get_matches_from(given.as_slice()) {
+        Ok(_) => Ok(None),
+        Err(error) => Ok(Some(error)),
     }
 }

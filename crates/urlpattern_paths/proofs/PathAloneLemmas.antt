@@ -1,5 +1,5 @@
 -- Lemmas on patterns of a path alone.
-use Rattle.std.proofs.Common.{◌≡◌, ◌∙◌, ℕ, Bool, true, false, List, [], ◌∷◌, IsTrue, None, Option, Some, String, Vec, ap, map, refl, subst, sym, zip}
+use Rattle.std.proofs.Common.{◌≡◌, ◌∙◌, ℕ, true, false, List, [], ◌∷◌, IsTrue, None, Option, Some, String, Vec, ap, map, refl, subst, sym, zip}
 use Rattle.std.proofs.lemmas.List.{append-nil}
 use Rattle.std.specs.Borrow.{Bor}
 use Rattle.std.specs.Prelude.{⊤, Err, IfSome, Ok, Result}

@@ -1,16 +1,15 @@
 -- Parts that can be read in one way only mean what `captured` says.
-use Rattle.std.proofs.Common.{◌≡◌, ◌⊎◌, inl, inr, ℕ, ◌+◌, ◌<◌, Bool, true, false, not, eqb, cond, List, [], ◌∷◌, ◌++◌, refl, sym, ap, subst, ◌∙◌, append_assoc, arith, get_or, length, take, drop, ◌≤◌, ◌↔◌, IsTrue, Some, None, Option}
+use Rattle.std.proofs.Common.{◌≡◌, ℕ, ◌+◌, ◌<◌, Bool, true, false, not, eqb, cond, List, [], ◌∷◌, ◌++◌, refl, sym, ap, subst, ◌∙◌, append_assoc, arith, get_or, length, take, drop, ◌≤◌, ◌↔◌, IsTrue, Some, None, Option}
 use Rattle.std.proofs.lemmas.Bool.Decides.{nat_tests}
 use Rattle.std.proofs.lemmas.Bool.{and_parts}
 use Rattle.std.proofs.lemmas.List.{append-nil, at_drop_all, at_drop_more, take-append-drop}
 use Rattle.std.proofs.lemmas.List.Folds.{list_all-append}
-use Rattle.std.proofs.Math.Dec.{eqb_refl}
 use Rattle.std.proofs.lemmas.Str.{IsUtf8-encode, IsUtf8-take, chars-append, chars-nil}
 use Rattle.std.specs.Borrow.{Bor}
 use Rattle.std.specs.Char.{encode_utf8}
 use Rattle.std.specs.Str.{IsUtf8, chars}
 use Rattle.std.specs.Str.Pattern.{FindsChar, FindsTextPrefix, MatchBeginsAt, StripsPrefix}
-use Rattle.std.specs.Prelude.{MatchOption, is_some, unwrap_or, ◌&&◌, ◌≢◌, option_map, if◌then◌else◌}
+use Rattle.std.specs.Prelude.{MatchOption, unwrap_or, ◌&&◌, ◌≢◌, option_map, if◌then◌else◌}
 use Rattle.url.specs.Ascii.{slash}
 use Rattle.urlpattern_meaning.proofs.MatchingLaws.{IsOnePiece, middle_cancel, wildcard_copies}
 use Rattle.urlpattern_meaning.proofs.MeaningLaws.{one_copy, plain_means}

@@ -1,8 +1,8 @@
 -- The matcher of parts that can be read in one way only returns what they capture.
-use Rattle.std.proofs.Common.{◌≡◌, ℕ, Bool, true, false, cond, codes, List, [], ◌∷◌, sym, ap, subst, ◌∙◌, refl, IsTrue, Some, None, Option, Result}
+use Rattle.std.proofs.Common.{◌≡◌, ℕ, false, cond, codes, List, [], ◌∷◌, sym, ap, subst, refl, IsTrue, Some, None, Option}
 use Rattle.std.proofs.lemmas.Bool.{and_parts}
 use Rattle.std.proofs.lemmas.List.Elements.{All-cons, All-nil}
-use Rattle.std.specs.Prelude.{◌≢◌, Ok}
+use Rattle.std.specs.Prelude.{◌≢◌}
 use Rattle.std.specs.Str.{all_scalars}
 use Rattle.url.specs.Ascii.{slash}
 use Rattle.urlpattern_matcher.specs.Components.{IsEngineOf, engine_flags}

@@ -1,12 +1,12 @@
 -- What parts capture in a path if they can be read in one way only.
-use Rattle.std.specs.Prelude.{◌≡◌, ℕ, Bool, true, false, ◌&&◌, ◌==◌, List, [], ◌∷◌, ◌++◌, Option, Some, None, option_map, if◌then◌else◌}
+use Rattle.std.specs.Prelude.{ℕ, Bool, true, false, ◌&&◌, ◌==◌, List, [], ◌∷◌, ◌++◌, Option, Some, None, option_map, if◌then◌else◌}
 use Rattle.std.specs.{Borrow.Bor, Str.chars}
 use Rattle.url.specs.Ascii.{slash}
 use Rattle.urlpattern_meaning.specs.PartMeaning.{Captures}
 use Rattle.urlpattern_syntax.specs.Parts.{PartView}
 use Rattle.urlpattern_syntax.specs.RegexpText.{is_empty, is_fixed_text, is_unmodified}
 use Rattle.urlpattern_syntax.specs.Text.{begins_with, option_text}
-use Rattle.urlpattern_syntax.specs.declared.parser.{PartModifier.PartModifier, PartType.PartType}
+use Rattle.urlpattern_syntax.specs.declared.parser.PartType.{PartType}
 
 -- ---- texts
 

@@ -1,6 +1,6 @@
 -- Patterns of a path alone, which match every text in each other component. `answer` is what an
 -- engine returns for a text.
-use Rattle.std.specs.Prelude.{◌≡◌, ◌≢◌, ◌∷◌, [], ⊤, ℕ, IsTrue, List, None, Option, Some, false}
+use Rattle.std.specs.Prelude.{◌≢◌, ◌∷◌, [], ⊤, ℕ, IsTrue, List, None, Option, Some, false}
 use Rattle.std.specs.Str.{all_scalars}
 use Rattle.urlpattern_components.specs.Eight.{Texts, at}
 use Rattle.urlpattern_components.specs.declared.eight.ComponentName.{ComponentName}

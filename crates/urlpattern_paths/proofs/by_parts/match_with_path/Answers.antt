@@ -1,4 +1,4 @@
-use Rattle.std.proofs.Common.{String, Vec, List, ℕ, ap, map, refl}
+use Rattle.std.proofs.Common.{String, Vec, ap, map, refl}
 use Rattle.std.specs.declared.alloc.Global.{Global}
 use Rattle.urlpattern_components.proofs.EightLemmas.{by_name}
 use Rattle.urlpattern_matches.specs.GroupTexts.{borrowed_texts, captures_of}

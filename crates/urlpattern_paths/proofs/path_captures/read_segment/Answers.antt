@@ -1,7 +1,7 @@
-use Rattle.std.proofs.Common.{◌≡◌, ◌∷◌, [], Some, ap, sym, ◌∙◌, rules}
+use Rattle.std.proofs.Common.{Some, ap, sym, ◌∙◌, rules}
 use Rattle.std.specs.Str.{IsUtf8, chars}
 use Rattle.urlpattern_paths.proofs.PathLaws.{of_segment, segment-none, segment-read}
-use Rattle.urlpattern_paths.specs.PathCaptures.{Read, after_segment, read_segment, segment}
+use Rattle.urlpattern_paths.specs.PathCaptures.{after_segment, segment}
 use Rattle.urlpattern_paths.proofs.path_captures.read_segment.Goals as goal
 
 pub returns-then-is_empty : goal.returns-then-is_empty

@@ -1,4 +1,4 @@
-use Rattle.std.proofs.Common.{◌∙◌, sym}
+use Rattle.std.proofs.Common.{◌∙◌}
 use Rattle.urlpattern_syntax.proofs.StringTexts.{is_empty-text}
 use Rattle.urlpattern_paths.proofs.PathLaws.{last-view}
 use Rattle.urlpattern_paths.proofs.read_once.is_read_once.Goals as goal

@@ -9,9 +9,10 @@ use Rattle.urlpattern_pattern.specs.Match.{AreGroupsInOrder, IsMatchOf}
 use Rattle.urlpattern_pattern.specs.Patterns.{pattern_view}
 use Rattle.urlpattern.proofs.router.UrlPatternRouter.at_plain_path.Goals as goal
 
-pub match_with_path-requires : goal.match_with_path-requires
-match_with_path-requires g c =
-    subst (λ (texts : Texts). IsRead g.R.RegExp.answer (pattern_view c.in-Served.pattern.now) texts.pathname (captures_of c.in-Served.groups)) (sym c.pathname_texts-texts.ensures) c.in-Served.ensures.1.0.read
+pub match_with_path-found-requires : goal.match_with_path-found-requires
+match_with_path-found-requires g c = record {
+  read = subst (λ (texts : Texts). IsRead g.R.RegExp.answer (pattern_view c.in-Served.pattern.now) texts.pathname (captures_of c.in-Served.groups)) (sym c.pathname_texts-texts.ensures) c.in-Served.ensures.1.read;
+}
 
 pub returns-in-Served-clause-routed : goal.returns-in-Served-clause-routed
 returns-in-Served-clause-routed g c =
