@@ -1,0 +1,10 @@
+pub mod CaseExamples
+pub mod CaseLemmas
+pub mod CaseSteps
+pub mod DecisionLemmas
+pub mod LawLemmas
+pub mod LeftLemmas
+pub mod MeaningLemmas
+pub mod NamingLemmas
+pub mod OrderLemmas
+pub mod WithinLemmas

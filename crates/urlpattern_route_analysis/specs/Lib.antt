@@ -1,0 +1,7 @@
+pub mod Formulas
+pub mod Cases
+pub mod Naming
+pub mod Deciding
+pub mod Making
+pub mod Scopes
+pub mod EngineDecisions
