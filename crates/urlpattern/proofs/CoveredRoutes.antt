@@ -15,6 +15,7 @@ use Rattle.urlpattern.specs.Routes.{DoesNotServe, HasNoOwnHead, IsRouteFound, No
 use Rattle.urlpattern.specs.declared.router.UrlPatternRouter.{UrlPatternRouter}
 use Rattle.urlpattern.specs.declared.router.route.Route.{Route}
 use Rattle.urlpattern.specs.declared.router.route_reaches.RouteReaches.{RouteReaches}
+use Rattle.urlpattern_compare.proofs.TogetherLemmas.{all_each}
 use Rattle.urlpattern_compare.specs.Candidates.{AreLines}
 use Rattle.urlpattern_compare.specs.CoveringTogether.{AreAscending, at_each}
 use Rattle.urlpattern_compare.specs.declared.candidates.Limits.{Limits}
@@ -38,7 +39,7 @@ takes_any : (method other : List ℕ) (own : Option (String Global)) → MatchOp
 takes_any method other None takes lacks = tt
 takes_any method other (Some own) takes lacks = absurd (lacks takes)
 
-module _ {E T : Type 0} (engine : Engine E) (routes : Routes E T) where
+module _ {E T : Type 0} (engine : Engine E) (Keeps : PatternView E → Type 0) (routes : Routes E T) where
   abbrev Fails : Texts → PatternView E → Type 0
   Fails texts view = ¬ ((name : ComponentName) → IsMatched engine.answer (view name).matcher (at texts name))
 
@@ -80,11 +81,12 @@ module _ {E T : Type 0} (engine : Engine E) (routes : Routes E T) where
         (All-cons (Fails texts) (pattern_view own.0) (take place (patterns_view (at_each (keys_of routes) indices))) (fails texts own (none i own less at_i) holds)
         (before_fail texts indices place index ascending.1 (All-tail IsOne i indices are) there none))
 
-    not_found : OwnPartsMean engine → SameMatch engine → (limits : Limits) (found : RouteReaches) → AreReachedRoutes engine limits routes Is found
+    not_found : OwnPartsMean engine Keeps → SameMatch engine Keeps → All (λ pattern. Keeps (pattern_view pattern)) (keys_of routes) → (limits : Limits) (found : RouteReaches) → AreReachedRoutes engine limits routes Is found
         → (place index : ℕ) (by : Vec ℕ Global) → slice_get found.routes.items place ≡ Some index → slice_get found.reaches.items place ≡ Some (Never by)
         → (texts : Texts) → AreLines (λ name. at texts name) → (value : Bor T) (captures : UrlPatternCaptures) → ¬ IsRouteFound engine.answer routes Is texts (Some (index, value, captures))
-    not_found mean same_match limits found (indices, reached) place index by at_place never texts lines value captures ((entry, there, holds, same, match, groups), none) =
-        never_alone engine mean same_match (at_each (keys_of routes) found.routes.items) limits found.reaches.items reached place by never entry.0
+    not_found mean same_match keeps limits found (indices, reached) place index by at_place never texts lines value captures ((entry, there, holds, same, match, groups), none) =
+        never_alone engine Keeps mean same_match (at_each (keys_of routes) found.routes.items) limits found.reaches.items reached
+        (all_each (λ pattern. Keeps (pattern_view pattern)) (keys_of routes) found.routes.items keeps) place by never entry.0
         (pattern_at found.routes.items place index entry indices.are at_place there) (λ name. at texts name) lines (λ name. (match.captures name, match.are_answers name))
         (before_fail texts found.routes.items place index indices.ascending indices.are at_place none)
 
@@ -102,11 +104,11 @@ module _ {E T : Type 0} (engine : Engine E) (routes : Routes E T) where
             (takes_any (codes "HEAD") (codes "GET") own.1.method takes (λ has. not_own (own, own_there, has))) (λ name. (match.captures name, match.are_answers name)))
       ]
 
-module _ {E T : Type 0} (engine : Engine E) (mean : OwnPartsMean engine) (same_match : SameMatch engine) where
-  pub covered_serve_nothing : (router : UrlPatternRouter T E) (method : List ℕ) → CoveredServeNothing engine router method
-  covered_serve_nothing router method limits found reached place index by at_place never texts lines value captures served =
-      let missed = not_found engine router.routes (Takes method) mean same_match limits found reached place index by at_place never texts lines value captures in
-      let here = all_at (IsOne engine router.routes (Takes method)) found.routes.items place index reached.0.are at_place in
+module _ {E T : Type 0} (engine : Engine E) (Keeps : PatternView E → Type 0) (mean : OwnPartsMean engine Keeps) (same_match : SameMatch engine Keeps) where
+  pub covered_serve_nothing : (router : UrlPatternRouter T E) (method : List ℕ) → CoveredServeNothing engine Keeps router method
+  covered_serve_nothing router method limits found reached keeps place index by at_place never texts lines value captures served =
+      let missed = not_found engine Keeps router.routes (Takes method) mean same_match keeps limits found reached place index by at_place never texts lines value captures in
+      let here = all_at (IsOne engine Keeps router.routes (Takes method)) found.routes.items place index reached.0.are at_place in
       missed (served.other (λ head. elim (served.head head) [
         | inl own ↦ missed (subst (λ (m : List ℕ). IsRouteFound engine.answer router.routes (Takes m) texts (Some (index, value, captures))) (sym head.1) own.0)
         | inr (no_own, gets) ↦
@@ -115,6 +117,6 @@ module _ {E T : Type 0} (engine : Engine E) (mean : OwnPartsMean engine) (same_m
             let same_entry : another ≡ entry = same_Some another entry (sym another_there ∙ there) in
             missed (
               (another, another_there, subst (λ (one : UrlPattern E × Route T). Takes method one.1) (sym same_entry) holds, same, match, groups),
-              subst (λ (m : List ℕ). NoneServesBefore engine.answer router.routes (Takes m) texts index) (sym head.1) (also_head engine router.routes texts index value captures no_own gets),
+              subst (λ (m : List ℕ). NoneServesBefore engine.answer router.routes (Takes m) texts index) (sym head.1) (also_head engine Keeps router.routes texts index value captures no_own gets),
             )
       ]))

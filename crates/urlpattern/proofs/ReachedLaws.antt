@@ -3,10 +3,11 @@ use Rattle.std.proofs.Common.{◌≡◌, ◌≢◌, ◌∙◌, ◌↔◌, ◌++�
 use Rattle.std.proofs.lemmas.List.{take-map}
 use Rattle.std.proofs.lemmas.List.Elements.{All-append, All-cons, All-head, All-nil, All-tail, All-weaker}
 use Rattle.std.proofs.lemmas.Option.{slice_get-map}
+use Rattle.std.specs.List.{AllZip}
 use Rattle.std.specs.Prelude.{All, Ok, Option, None, Some, IsTrue, String, Vec, is_some, option_map, slice_get}
 use Rattle.std.specs.declared.alloc.Global.{Global}
 use Rattle.urlpattern.specs.FirstMatch.{patterns_view}
-use Rattle.urlpattern.specs.Reached.{AreReachedBy, HasAutomata, HaveAllAutomata, MatchesStrings, ReachedAreFirst, UnreachedAreNeverFirst}
+use Rattle.urlpattern.specs.Reached.{AreReachedBy, HaveAllAutomata, MatchesStrings, ReachedAreFirst, UnreachedAreNeverFirst}
 use Rattle.urlpattern_compare.proofs.SameParts.{known_or_not, same_flips, same_within}
 use Rattle.urlpattern_compare.proofs.TogetherLemmas.{all_each}
 use Rattle.urlpattern_compare.specs.Candidates.{AreLines, TextAt}
@@ -44,7 +45,22 @@ bools_equal false true to from = from refl
 
 -- ---- what an engine's patterns mean
 
-module _ {E : Type 0} (engine : Engine E) where
+module _ {E : Type 0} (engine : Engine E) (Keeps : PatternView E → Type 0) where
+  -- The engine made the pattern of the parts, and `Keeps` holds of it.
+  abbrev pub Made : PatternParts → PatternView E → Type 0
+  Made parts view = AreMadeOfParts engine parts view × Keeps view
+
+  -- `all` has the automata of parts of which the engine made each pattern, in order.
+  abbrev pub HaveAll : List (UrlPattern E) → List PatternAutomata → Type 0
+  HaveAll patterns all = AllZip (λ pattern it. Made it.parts (pattern_view pattern)) patterns all
+
+  pub have_all : (patterns : List (UrlPattern E)) (all : List PatternAutomata) → HaveAllAutomata engine patterns all → All (λ pattern. Keeps (pattern_view pattern)) patterns → HaveAll patterns all
+  have_all [] [] have keeps = have
+  have_all [] (it ∷ all) have keeps = absurd have
+  have_all (pattern ∷ patterns) [] have keeps = absurd have
+  have_all (pattern ∷ patterns) (it ∷ all) have keeps =
+      ((have.0.made, All-head (λ one. Keeps (pattern_view one)) pattern patterns keeps), have_all patterns all have.1 (All-tail (λ one. Keeps (pattern_view one)) pattern patterns keeps))
+
   -- Two patterns that the engine made of parts match alike where the parts are the same, and not
   -- known.
   abbrev pub SameMatch : Type 0
@@ -57,11 +73,11 @@ module _ {E : Type 0} (engine : Engine E) where
 
   -- The meaning is that of a pattern, made of its parts, for which `Holds` is.
   abbrev pub IsMeaningOf : (Holds : PatternView E → Type 0) → PatternMeaning → Type 0
-  IsMeaningOf Holds it = (view : PatternView E) × AreMadeOfParts engine it.parts view × ((name : ComponentName) (text : List ℕ) → it.means name text ≡ matches view name text) × Holds view
+  IsMeaningOf Holds it = (view : PatternView E) × Made it.parts view × ((name : ComponentName) (text : List ℕ) → it.means name text ≡ matches view name text) × Holds view
 
   -- A pattern for which `Holds` is was made of the parts.
   abbrev HasView : (Holds : PatternView E → Type 0) → PatternAutomata → Type 0
-  HasView Holds it = (view : PatternView E) × AreMadeOfParts engine it.parts view × Holds view
+  HasView Holds it = (view : PatternView E) × Made it.parts view × Holds view
 
   by_result : (matcher : MatcherView E) (text : List ℕ) (found : Option Captures) → Returns engine.answer matcher text found → IsTrue (is_some found) ↔ IsMatched engine.answer matcher text
   by_result matcher text None none = (λ never. absurd (true≢false (sym never)), λ matched. absurd (none matched.0 matched.1))
@@ -70,28 +86,28 @@ module _ {E : Type 0} (engine : Engine E) where
   pub matches_are : (view : PatternView E) (name : ComponentName) (text : List ℕ) → IsTrue (matches view name text) ↔ IsMatched engine.answer (view name).matcher text
   matches_are view name text = let all = answered engine.answer (view name).matcher text in by_result (view name).matcher text all.0 all.1
 
-  module _ (mean : OwnPartsMean engine) (same_match : SameMatch) where
+  module _ (mean : OwnPartsMean engine Keeps) (same_match : SameMatch) where
     plain : (text : List ℕ) → IsLine text → IsPlain text
     plain text line = record { characters = line.scalars; no_line_feed = line.plain }
 
     by_parts : (Holds : PatternView E → Type 0) (it : PatternMeaning) → IsMeaningOf Holds it → MeansByParts it
     by_parts Holds it (view, made, means, holds) name known text line =
         let matched = matches_are view name text in
-        let meant = mean view it.parts made name known text (plain text line) in (
+        let meant = mean view it.parts made.0 made.1 name known text (plain text line) in (
           λ is. meant.0 (matched.0 (sym (means name text) ∙ is)),
           λ is. means name text ∙ matched.1 (meant.1 is),
         )
 
     -- A pattern matches what another one does where the parts are the same.
-    one_way : (view other : PatternView E) (parts others : PatternParts) → AreMadeOfParts engine parts view → AreMadeOfParts engine others other → (name : ComponentName)
+    one_way : (view other : PatternView E) (parts others : PatternParts) → Made parts view → Made others other → (name : ComponentName)
         → AreSame (at parts.components name) (at others.components name) → (text : List ℕ) → IsLine text
         → IsMatched engine.answer (other name).matcher text → IsMatched engine.answer (view name).matcher text
     one_way view other parts others made also name same text line matched = elim (known_or_not (at parts.components name)) [
       | inl known ↦
           let within = same_within (at parts.components name) (at others.components name) same known in
-          (mean view parts made name known text (plain text line)).1
-          (within.within text line.scalars line.plain ((mean other others also name within.asked_known text (plain text line)).0 matched))
-      | inr unknown ↦ same_match view other parts others made also name unknown same text (plain text line) matched
+          (mean view parts made.0 made.1 name known text (plain text line)).1
+          (within.within text line.scalars line.plain ((mean other others also.0 also.1 name within.asked_known text (plain text line)).0 matched))
+      | inr unknown ↦ same_match view other parts others made.0 also.0 name unknown same text (plain text line) matched
     ]
 
     alike : (Holds Also : PatternView E → Type 0) (it other : PatternMeaning) → IsMeaningOf Holds it → IsMeaningOf Also other → MeanAlike it other
@@ -158,22 +174,22 @@ module _ {E : Type 0} (engine : Engine E) where
 
     -- ---- patterns at an index
 
-    pub there : (patterns : List (UrlPattern E)) (all : List PatternAutomata) → HaveAllAutomata engine patterns all → (i : ℕ) (it : PatternAutomata) → slice_get all i ≡ Some it
-        → (pattern : UrlPattern E) × (slice_get patterns i ≡ Some pattern) × HasAutomata engine pattern it
+    pub there : (patterns : List (UrlPattern E)) (all : List PatternAutomata) → HaveAll patterns all → (i : ℕ) (it : PatternAutomata) → slice_get all i ≡ Some it
+        → (pattern : UrlPattern E) × (slice_get patterns i ≡ Some pattern) × Made it.parts (pattern_view pattern)
     there [] [] have i it at_i = absurd cc
     there [] (other ∷ all) have i it at_i = absurd have
     there (pattern ∷ patterns) [] have i it at_i = absurd have
-    there (pattern ∷ patterns) (other ∷ all) have zero it at_i = let same : other ≡ it = cc in (pattern, refl, subst (HasAutomata engine pattern) same have.0)
+    there (pattern ∷ patterns) (other ∷ all) have zero it at_i = let same : other ≡ it = cc in (pattern, refl, subst (λ (it : PatternAutomata). Made it.parts (pattern_view pattern)) same have.0)
     there (pattern ∷ patterns) (other ∷ all) have (suc i) it at_i = there patterns all have.1 i it at_i
 
-    pub there_also : (patterns : List (UrlPattern E)) (all : List PatternAutomata) → HaveAllAutomata engine patterns all → (i : ℕ) (pattern : UrlPattern E) → slice_get patterns i ≡ Some pattern
+    pub there_also : (patterns : List (UrlPattern E)) (all : List PatternAutomata) → HaveAll patterns all → (i : ℕ) (pattern : UrlPattern E) → slice_get patterns i ≡ Some pattern
         → (it : PatternAutomata) × (slice_get all i ≡ Some it)
     there_also [] all have i pattern at_i = absurd cc
     there_also (other ∷ patterns) [] have i pattern at_i = absurd have
     there_also (other ∷ patterns) (it ∷ all) have zero pattern at_i = (it, refl)
     there_also (other ∷ patterns) (it ∷ all) have (suc i) pattern at_i = there_also patterns all have.1 i pattern at_i
 
-    all_views : (Holds : PatternView E → Type 0) (patterns : List (UrlPattern E)) (all : List PatternAutomata) → HaveAllAutomata engine patterns all → (i : ℕ)
+    all_views : (Holds : PatternView E → Type 0) (patterns : List (UrlPattern E)) (all : List PatternAutomata) → HaveAll patterns all → (i : ℕ)
         → All Holds (take i (patterns_view patterns)) → All (HasView Holds) (take i all)
     all_views Holds [] [] have zero are = All-nil (HasView Holds)
     all_views Holds [] [] have (suc i) are = All-nil (HasView Holds)
@@ -182,7 +198,7 @@ module _ {E : Type 0} (engine : Engine E) where
     all_views Holds (pattern ∷ patterns) (it ∷ all) have zero are = All-nil (HasView Holds)
     all_views Holds (pattern ∷ patterns) (it ∷ all) have (suc i) are =
         let views = take i (patterns_view patterns) in
-        All-cons (HasView Holds) it (take i all) (pattern_view pattern, have.0.made, All-head Holds (pattern_view pattern) views are)
+        All-cons (HasView Holds) it (take i all) (pattern_view pattern, have.0, All-head Holds (pattern_view pattern) views are)
         (all_views Holds patterns all have.1 i (All-tail Holds (pattern_view pattern) views are))
 
     by_option : (i : ℕ) (view : PatternView E) (patterns : List (UrlPattern E)) (found : Option (UrlPattern E)) → slice_get patterns i ≡ found → option_map (λ one. pattern_view one) found ≡ Some view
@@ -195,7 +211,7 @@ module _ {E : Type 0} (engine : Engine E) where
 
     -- ---- laws
 
-    never : (patterns : List (UrlPattern E)) (limits : Limits) (found : List Reach) (all : List PatternAutomata) → HaveAllAutomata engine patterns all → AreReached limits all found → (index : ℕ) (by : Vec ℕ Global) → slice_get found index ≡ Some (Never by)
+    never : (patterns : List (UrlPattern E)) (limits : Limits) (found : List Reach) (all : List PatternAutomata) → HaveAll patterns all → AreReached limits all found → (index : ℕ) (by : Vec ℕ Global) → slice_get found index ≡ Some (Never by)
         → (pattern : UrlPattern E) → slice_get patterns index ≡ Some pattern → (texts : TextAt) → AreLines texts → Matches texts (pattern_view pattern)
         → ¬ All (λ view. ¬ Matches texts view) (take index (patterns_view patterns))
     never patterns limits found all have reached index by unreached pattern pattern_there texts lines matched refused =
@@ -205,19 +221,19 @@ module _ {E : Type 0} (engine : Engine E) where
         let is_never : reach ≡ Never by = (let both : Some reach ≡ Some (Never by) = sym reach_there ∙ unreached in cc) in
         let least = subst (IsReach limits (take index all) asked) is_never is_reach in
         let same_pattern : again ≡ pattern = (let both : Some again ≡ Some pattern = sym again_there ∙ pattern_there in cc) in
-        let made = subst (λ (p : UrlPattern E). AreMadeOfParts engine asked.parts (pattern_view p)) same_pattern has.made in
+        let made = subst (λ (p : UrlPattern E). Made asked.parts (pattern_view p)) same_pattern has in
         some_match (at_each (take index all) by.items) asked texts least.cover lines (pattern_view pattern, made, matched)
         (all_each (HasView (λ view. ¬ Matches texts view)) (take index all) by.items (all_views (λ view. ¬ Matches texts view) patterns all have index refused))
 
     -- A pattern that others cover does not match texts that none before it does.
-    pub never_alone : (patterns : List (UrlPattern E)) (limits : Limits) (found : List Reach) → AreReachedBy engine limits patterns found → (index : ℕ) (by : Vec ℕ Global) → slice_get found index ≡ Some (Never by)
+    pub never_alone : (patterns : List (UrlPattern E)) (limits : Limits) (found : List Reach) → AreReachedBy engine limits patterns found → All (λ one. Keeps (pattern_view one)) patterns → (index : ℕ) (by : Vec ℕ Global) → slice_get found index ≡ Some (Never by)
         → (pattern : UrlPattern E) → slice_get patterns index ≡ Some pattern → (texts : TextAt) → AreLines texts → Matches texts (pattern_view pattern)
         → ¬ All (λ view. ¬ Matches texts view) (take index (patterns_view patterns))
-    never_alone patterns limits found reached index by unreached pattern pattern_there texts lines matched refused =
-        never patterns limits found reached.0 reached.1 reached.2 index by unreached pattern pattern_there texts lines matched refused
+    never_alone patterns limits found reached keeps index by unreached pattern pattern_there texts lines matched refused =
+        never patterns limits found reached.0 (have_all patterns reached.0 reached.1 keeps) reached.2 index by unreached pattern pattern_there texts lines matched refused
 
-    pub never_first : UnreachedAreNeverFirst engine
-    never_first patterns limits found reached index by unreached url valid first is same =
+    pub never_first : UnreachedAreNeverFirst engine Keeps
+    never_first patterns limits found reached keeps index by unreached url valid first is same =
         let texts : TextAt = λ name. at (texts_of_url url) name in
         let lines : AreLines texts = λ name. record { scalars = (texts_of_urls url valid name).characters; plain = (texts_of_urls url valid name).no_line_feed } in
         let (view, view_there, view_matches) = is.0 in
@@ -227,7 +243,7 @@ module _ {E : Type 0} (engine : Engine E) where
         let matched : Matches texts (pattern_view pattern) =
         λ name. subst (λ (v : PatternView E). IsMatched engine.answer (v name).matcher (texts name)) (sym is_view)
         (subst (λ (t : Texts). IsMatched engine.answer (view name).matcher (at t name)) are_texts (match.captures name, match.are_answers name)) in
-        never_alone patterns limits found reached index by unreached pattern pattern_there texts lines matched
+        never_alone patterns limits found reached keeps index by unreached pattern pattern_there texts lines matched
         (All-weaker (λ (it : PatternView E). ¬ HasMatch engine.answer it (UrlInput url)) (λ it. ¬ Matches texts it)
         (λ it none each. none (texts_of_url url, refl, each)) (take index (patterns_view patterns)) (subst (λ (i : ℕ). All (λ (it : PatternView E). ¬ HasMatch engine.answer it (UrlInput url)) (take i (patterns_view patterns))) same is.1))
 
@@ -241,20 +257,20 @@ module _ {E : Type 0} (engine : Engine E) where
     meant_by (pattern ∷ patterns) [] = []
     meant_by (pattern ∷ patterns) (it ∷ all) = record { parts = it.parts; means = matches (pattern_view pattern) } ∷ meant_by patterns all
 
-    meant_parts : (patterns : List (UrlPattern E)) (all : List PatternAutomata) → HaveAllAutomata engine patterns all → map (λ it. it.parts) (meant_by patterns all) ≡ parts_of all
+    meant_parts : (patterns : List (UrlPattern E)) (all : List PatternAutomata) → HaveAll patterns all → map (λ it. it.parts) (meant_by patterns all) ≡ parts_of all
     meant_parts [] [] have = refl
     meant_parts [] (it ∷ all) have = absurd have
     meant_parts (pattern ∷ patterns) [] have = absurd have
     meant_parts (pattern ∷ patterns) (it ∷ all) have = ap (λ l. it.parts ∷ l) (meant_parts patterns all have.1)
 
-    meant_are : (patterns : List (UrlPattern E)) (all : List PatternAutomata) → HaveAllAutomata engine patterns all → All (IsMeaningOf Any) (meant_by patterns all)
+    meant_are : (patterns : List (UrlPattern E)) (all : List PatternAutomata) → HaveAll patterns all → All (IsMeaningOf Any) (meant_by patterns all)
     meant_are [] all have = All-nil (IsMeaningOf Any)
     meant_are (pattern ∷ patterns) [] have = All-nil (IsMeaningOf Any)
     meant_are (pattern ∷ patterns) (it ∷ all) have =
         All-cons (IsMeaningOf Any) (record { parts = it.parts; means = matches (pattern_view pattern) }) (meant_by patterns all)
-        (pattern_view pattern, have.0.made, λ name text. refl, tt) (meant_are patterns all have.1)
+        (pattern_view pattern, have.0, λ name text. refl, tt) (meant_are patterns all have.1)
 
-    meant_refused : (texts : TextAt) (patterns : List (UrlPattern E)) (all : List PatternAutomata) → HaveAllAutomata engine patterns all → All (λ it. ¬ MeansEach it texts) (meant_by patterns all)
+    meant_refused : (texts : TextAt) (patterns : List (UrlPattern E)) (all : List PatternAutomata) → HaveAll patterns all → All (λ it. ¬ MeansEach it texts) (meant_by patterns all)
         → All (λ view. ¬ Matches texts view) (patterns_view patterns)
     meant_refused texts [] all have refused = All-nil (λ view. ¬ Matches texts view)
     meant_refused texts (pattern ∷ patterns) [] have refused = absurd have
@@ -265,21 +281,21 @@ module _ {E : Type 0} (engine : Engine E) where
         (λ each. All-head (λ it. ¬ MeansEach it texts) one others refused (λ name. (matches_are (pattern_view pattern) name (texts name)).1 (each name)))
         (meant_refused texts patterns all have.1 (All-tail (λ it. ¬ MeansEach it texts) one others refused))
 
-    take_have : (patterns : List (UrlPattern E)) (all : List PatternAutomata) (i : ℕ) → HaveAllAutomata engine patterns all → HaveAllAutomata engine (take i patterns) (take i all)
+    take_have : (patterns : List (UrlPattern E)) (all : List PatternAutomata) (i : ℕ) → HaveAll patterns all → HaveAll (take i patterns) (take i all)
     take_have patterns all zero have = tt
     take_have [] [] (suc i) have = tt
     take_have [] (it ∷ all) (suc i) have = absurd have
     take_have (pattern ∷ patterns) [] (suc i) have = absurd have
     take_have (pattern ∷ patterns) (it ∷ all) (suc i) have = (have.0, take_have patterns all i have.1)
 
-    is_first : (patterns : List (UrlPattern E)) (limits : Limits) (found : List Reach) (all : List PatternAutomata) → HaveAllAutomata engine patterns all → AreReached limits all found
+    is_first : (patterns : List (UrlPattern E)) (limits : Limits) (found : List Reach) (all : List PatternAutomata) → HaveAll patterns all → AreReached limits all found
         → (index : ℕ) (texts : Eight (String Global)) → slice_get found index ≡ Some (First texts) → (pattern : UrlPattern E) → slice_get patterns index ≡ Some pattern
         → MatchesStrings engine.answer texts (pattern_view pattern) × All (λ earlier. ¬ MatchesStrings engine.answer texts earlier) (take index (patterns_view patterns))
     is_first patterns limits found all have reached index texts has_texts pattern pattern_there =
         let (asked, asked_there) = there_also patterns all have index pattern pattern_there in
         let (again, again_there, has) = there patterns all have index asked asked_there in
         let same_pattern : again ≡ pattern = (let both : Some again ≡ Some pattern = sym again_there ∙ pattern_there in cc) in
-        let own = subst (λ (p : UrlPattern E). HasAutomata engine p asked) same_pattern has in
+        let own = subst (λ (p : UrlPattern E). Made asked.parts (pattern_view p)) same_pattern has in
         let (reach, reach_there, is_reach) = reached.each index asked asked_there in
         let is_texts : reach ≡ First texts = (let both : Some reach ≡ Some (First texts) = sym reach_there ∙ has_texts in cc) in
         let certain = subst (IsReach limits (take index all) asked) is_texts is_reach in
@@ -288,12 +304,12 @@ module _ {E : Type 0} (engine : Engine E) where
         let none = meant_by (take index patterns) (take index all) in
         let common = certain (one ∷ []) none
         (are_meanings Any Any (one ∷ []) none (asked ∷ []) (take index all) refl (meant_parts (take index patterns) (take index all) before)
-        (All-cons (IsMeaningOf Any) one [] (pattern_view pattern, own.made, λ name text. refl, tt) (All-nil (IsMeaningOf Any))) (meant_are (take index patterns) (take index all) before)) in (
+        (All-cons (IsMeaningOf Any) one [] (pattern_view pattern, own, λ name text. refl, tt) (All-nil (IsMeaningOf Any))) (meant_are (take index patterns) (take index all) before)) in (
           λ name. (matches_are (pattern_view pattern) name (string_at texts name)).0 (All-head (λ it. MeansEach it (string_at texts)) one [] common.meant name),
           subst (λ (views : List (PatternView E)). All (λ view. ¬ Matches (string_at texts) view) views) (sym (take-map (λ one. pattern_view one) index patterns))
               (meant_refused (string_at texts) (take index patterns) (take index all) before common.unmeant),
         )
 
-    pub reached_first : ReachedAreFirst engine
-    reached_first patterns limits found reached index texts has_texts pattern pattern_there =
-        is_first patterns limits found reached.0 reached.1 reached.2 index texts has_texts pattern pattern_there
+    pub reached_first : ReachedAreFirst engine Keeps
+    reached_first patterns limits found reached keeps index texts has_texts pattern pattern_there =
+        is_first patterns limits found reached.0 (have_all patterns reached.0 reached.1 keeps) reached.2 index texts has_texts pattern pattern_there

@@ -133,11 +133,13 @@ MatchesAlone answer first second =
     × (¬ MatchesStrings answer texts second)
 
 -- Two patterns with texts for which they contend, by `found`, the result of `contending`, both
--- match these texts, and each matches some that the other does not.
-abbrev pub ContendingMatch : {E : Type 0} → Engine E → Type 0
-ContendingMatch {E} engine =
+-- match these texts, and each matches some that the other does not, if `Keeps` holds of each
+-- pattern.
+abbrev pub ContendingMatch : {E : Type 0} → Engine E → (Keeps : PatternView E → Type 0) → Type 0
+ContendingMatch {E} engine Keeps =
     (patterns : List (UrlPattern E)) (limits : Limits) (found : List Contention)
     → AreContentionsBy engine limits patterns found
+    → All (λ pattern. Keeps (pattern_view pattern)) patterns
     → (pair : Contention) → Contains found pair
     → (texts : Eight (String Global)) → pair.found ≡ Texts texts
     → (first second : UrlPattern E) → slice_get patterns pair.first ≡ Some first
@@ -168,11 +170,12 @@ MatchesAllOf answer first second =
     → MatchesTexts answer texts second
 
 -- Of two patterns that are no pair of `found`, the result of `contending`, no texts are matched by
--- both, or one of the two matches all that the other does.
-abbrev pub OthersDoNotContend : {E : Type 0} → Engine E → Type 0
-OthersDoNotContend {E} engine =
+-- both, or one of the two matches all that the other does, if `Keeps` holds of each pattern.
+abbrev pub OthersDoNotContend : {E : Type 0} → Engine E → (Keeps : PatternView E → Type 0) → Type 0
+OthersDoNotContend {E} engine Keeps =
     (patterns : List (UrlPattern E)) (limits : Limits) (found : List Contention)
     → AreContentionsBy engine limits patterns found
+    → All (λ pattern. Keeps (pattern_view pattern)) patterns
     → (i j : ℕ) (first second : UrlPattern E) → i < j → slice_get patterns i ≡ Some first
     → slice_get patterns j ≡ Some second → ¬ HasPair found i j
     → AreApart engine.answer (pattern_view first) (pattern_view second)

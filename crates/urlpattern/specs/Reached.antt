@@ -51,11 +51,13 @@ LacksParts patterns NoParts = Contains (map (λ pattern. pattern.parts) patterns
 LacksParts patterns OutOfMemory = All (λ pattern. pattern.parts ≢ None) patterns
 
 -- No pattern that others cover, by `found`, the result of `reach_of_each`, is the first match of a
--- URL.
-abbrev pub UnreachedAreNeverFirst : {E : Type 0} → Engine E → Type 0
-UnreachedAreNeverFirst {E} engine =
+-- URL, if `Keeps` holds of each pattern.
+abbrev pub UnreachedAreNeverFirst : {E : Type 0} → Engine E → (Keeps : PatternView E → Type 0)
+    → Type 0
+UnreachedAreNeverFirst {E} engine Keeps =
     (patterns : List (UrlPattern E)) (limits : Limits) (found : List Reach)
     → AreReachedBy engine limits patterns found
+    → All (λ pattern. Keeps (pattern_view pattern)) patterns
     → (index : ℕ) (by : Vec ℕ Global) → slice_get found index ≡ Some (reaches.Never by)
     → (url : Parts) → IsValid url → (first : FirstView)
     → IsFirstMatch engine.answer (patterns_view patterns) (UrlInput url) (Some first)
@@ -68,11 +70,12 @@ MatchesStrings answer texts pattern =
     (name : ComponentName) → IsMatched answer (pattern name).matcher (text_of (at texts name))
 
 -- The pattern for which `found`, the result of `reach_of_each`, has texts matches them, and no
--- pattern before it does.
-abbrev pub ReachedAreFirst : {E : Type 0} → Engine E → Type 0
-ReachedAreFirst {E} engine =
+-- pattern before it does, if `Keeps` holds of each pattern.
+abbrev pub ReachedAreFirst : {E : Type 0} → Engine E → (Keeps : PatternView E → Type 0) → Type 0
+ReachedAreFirst {E} engine Keeps =
     (patterns : List (UrlPattern E)) (limits : Limits) (found : List Reach)
     → AreReachedBy engine limits patterns found
+    → All (λ pattern. Keeps (pattern_view pattern)) patterns
     → (index : ℕ) (texts : Eight (String Global))
     → slice_get found index ≡ Some (reaches.First texts)
     → (pattern : UrlPattern E) → slice_get patterns index ≡ Some pattern

@@ -18,6 +18,7 @@ use Rattle.urlpattern_compare.specs.declared.reaching.Reach.TheVariants.{Never}
 use Rattle.urlpattern_components.specs.Eight.{Texts, at}
 use Rattle.urlpattern_matcher.specs.declared.regexp.RegExp.{Ghosts as Engine}
 use Rattle.urlpattern_matches.specs.declared.captures.UrlPatternCaptures.{UrlPatternCaptures}
+use Rattle.urlpattern_pattern.specs.Patterns.{PatternView, pattern_view}
 use Rattle.urlpattern_pattern.specs.UrlPatterns.{UrlPattern}
 use Rattle.urlpattern_pattern.specs.declared.pattern.compare.CompareError.{CompareError}
 use Rattle.urlpattern_pattern.specs.declared.pattern.compare.CompareError.TheVariants.{NoParts, OutOfMemory}
@@ -73,12 +74,14 @@ LacksRouteParts routes Is OutOfMemory = (index : ℕ) → ¬ LacksPartsAt routes
 -- ---- law
 
 -- A route of the router that others cover, by `found`, the result of `reach_of_each` for the
--- method, serves no request with the method and eight texts without line feeds.
-abbrev pub CoveredServeNothing : {E T : Type 0} → Engine E → UrlPatternRouter T E
-    → (method : List ℕ) → Type 0
-CoveredServeNothing {E} {T} engine router method =
+-- method, serves no request with the method and eight texts without line feeds, if `Keeps` holds of
+-- each pattern.
+abbrev pub CoveredServeNothing : {E T : Type 0} → Engine E → (Keeps : PatternView E → Type 0)
+    → UrlPatternRouter T E → (method : List ℕ) → Type 0
+CoveredServeNothing {E} {T} engine Keeps router method =
     (limits : Limits) (found : RouteReaches)
     → AreReachedRoutes engine limits router.routes (Takes method) found
+    → All (λ pattern. Keeps (pattern_view pattern)) (keys_of router.routes)
     → (place index : ℕ) (by : Vec ℕ Global)
     → slice_get found.routes.items place ≡ Some index
     → slice_get found.reaches.items place ≡ Some (Never by)

@@ -1,6 +1,6 @@
 -- Comparisons of one component.
-use Rattle.std.proofs.Common.{◌≡◌, ℕ, List, [], ◌∷◌, ◌++◌, inl, inr, refl, sym, subst, append-nil, Some}
-use Rattle.std.specs.Prelude.{IsTrue}
+use Rattle.std.proofs.Common.{◌≡◌, ◌∙◌, ℕ, Bool, true, false, List, [], ◌∷◌, ◌++◌, ap₂, inl, inr, map, refl, sym, subst, append-nil, Some}
+use Rattle.std.specs.Prelude.{◌==◌, ◌&&◌, IsTrue, not}
 use Rattle.urlpattern_compare.specs.Answers.{IsCovering, IsOverlap, IsReason}
 use Rattle.urlpattern_compare.specs.MeantTexts.{MeansText}
 use Rattle.urlpattern_compare.specs.declared.coverage.Covering.TheVariants as coverings
@@ -8,27 +8,40 @@ use Rattle.urlpattern_compare.specs.declared.coverage.Overlap.{Overlap}
 use Rattle.urlpattern_compare.specs.declared.coverage.Overlap.TheVariants as overlaps
 use Rattle.urlpattern_compare.specs.declared.coverage.Reason.{Reason}
 use Rattle.urlpattern_compare.specs.Comparing.{IsComponentOverlap, IsExample, IsKnown, IsReasonAlone, MatchesEveryLine, MayMissLine, anything_part}
+use Rattle.urlpattern_meaning.proofs.FoldedTrees.{line_feed_same}
+use Rattle.urlpattern_meaning.specs.Matching.{folded_character}
 use Rattle.urlpattern_syntax.specs.declared.parts.ComponentParts.{ComponentParts}
 use Rattle.urlpattern_syntax.specs.{Options.OptionsView, Options.default_options, Options.options_view, Parts.PartView, Parts.parts_view, Text.lacks, Text.line_feed}
 
 -- ---- a full wildcard
 
+feed_kept : (ignore_case : Bool) (c : ℕ) → (folded_character ignore_case c == line_feed) ≡ (c == line_feed)
+feed_kept false c = refl
+feed_kept true c = line_feed_same true c
+
+-- A text has a line feed in lower case if it has one.
+lowered_lacks : (ignore_case : Bool) (text : List ℕ) → lacks line_feed (map (folded_character ignore_case) text) ≡ lacks line_feed text
+lowered_lacks ignore_case [] = refl
+lowered_lacks ignore_case (c ∷ text) = ap₂ (λ a b. not a && b) (feed_kept ignore_case c) (lowered_lacks ignore_case text)
+
 pub wildcard_means : (options : OptionsView) (text : List ℕ) → IsTrue (lacks line_feed text) → MeansText options (anything_part ∷ []) text
 wildcard_means options text line =
-    let whole : text ≡ text ++ [] = sym (append-nil text) in (
-      Some text ∷ [],
+    let read = map (folded_character options.ignore_case) text in
+    let plain : IsTrue (lacks line_feed read) = lowered_lacks options.ignore_case text ∙ line in
+    let whole : read ≡ read ++ [] = sym (append-nil read) in (
+      Some read ∷ [],
       (
-        text,
+        read,
         [],
-        Some text ∷ [],
+        Some read ∷ [],
         [],
         whole,
         refl,
         record {
           count = 1;
           allowed = refl;
-          are_copies = (text, [], whole, (text, whole, line), refl);
-          are_captures = (Some text, (text, whole, refl), refl);
+          are_copies = (read, [], whole, (read, whole, plain), refl);
+          are_captures = (Some read, (read, whole, refl), refl);
         },
         (refl, refl),
       ),

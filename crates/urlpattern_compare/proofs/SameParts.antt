@@ -8,11 +8,11 @@ use Rattle.std.specs.Cmp.Lexicographic.{bytes_decides}
 use Rattle.std.specs.String.{string_eq}
 use Rattle.std.specs.declared.alloc.Global.{Global}
 use Rattle.urlpattern_compare.specs.Answers.{is_custom_part}
-use Rattle.urlpattern_meaning.specs.PartMeaning.{PartsMean}
 use Rattle.urlpattern_compare.proofs.AnswerLemmas.{custom, generated}
-use Rattle.urlpattern_compare.proofs.NamelessParts.{all_nameless, generated_renamed, renamed, unnamed_views}
+use Rattle.urlpattern_compare.proofs.NamelessParts.{all_nameless, generated_renamed, means_renamed, unnamed_views}
 use Rattle.urlpattern_compare.specs.Comparing.{AreSame, IsCaseKeptOrGenerated, IsKnown, MeansAllOf}
 use Rattle.urlpattern_compare.specs.EqualParts.{AreEqual}
+use Rattle.urlpattern_compare.specs.MeantTexts.{MeansText}
 use Rattle.urlpattern_syntax.specs.declared.parts.ComponentParts.{ComponentParts}
 use Rattle.urlpattern_syntax.proofs.StringTexts.{text_bytes}
 use Rattle.urlpattern_syntax.specs.declared.parser.Part.{Part}
@@ -56,12 +56,11 @@ same_nameless component asked same = sym (unnamed_views component.parts.items) �
 
 -- The texts that the parts mean are known, or not.
 pub known_or_not : (component : ComponentParts) → IsKnown component ⊎ ¬ IsKnown component
-known_or_not component = by component.options.ignore_case refl (list_any is_custom_part component.parts.items) refl
+known_or_not component = by (list_any is_custom_part component.parts.items) refl
   where
-    by : (ignored : Bool) → component.options.ignore_case ≡ ignored → (some : Bool) → list_any is_custom_part component.parts.items ≡ some → IsKnown component ⊎ ¬ IsKnown component
-    by true e some f = inr (λ known. true≢false (sym e ∙ known.case_kept))
-    by false e true f = inr (λ known. custom component.parts.items f known.generated)
-    by false e false f = inl (record { generated = generated component.parts.items f; case_kept = e })
+    by : (some : Bool) → list_any is_custom_part component.parts.items ≡ some → IsKnown component ⊎ ¬ IsKnown component
+    by true e = inr (λ known. custom component.parts.items e known.generated)
+    by false e = inl (record { generated = generated component.parts.items e })
 
 -- Where case is ignored, `IsCaseKeptOrGenerated` says that no part is custom.
 pub settled_by : (component : ComponentParts) (some : Bool) → component.options.ignore_case ≡ true → some ≡ list_any is_custom_part component.parts.items → IsTrue (not some) ↔ IsCaseKeptOrGenerated component
@@ -104,12 +103,7 @@ same_within component asked same known =
     let nameless = same_nameless component asked same in
     record {
       known = known;
-      asked_known = record {
-        generated = generated_renamed others parts (sym nameless) known.generated;
-        case_kept = sym (ap (λ (o : OptionsView). o.ignore_case) same.options) ∙ known.case_kept;
-      };
-      within = λ text fine line means. (
-        means.0,
-        subst (λ (o : OptionsView). PartsMean o parts text means.0) (sym same.options) (renamed (options_view asked.options) parts others nameless text means.0 means.1),
-      );
+      asked_known = record { generated = generated_renamed others parts (sym nameless) known.generated };
+      within = λ text fine line means.
+          subst (λ (o : OptionsView). MeansText o parts text) (sym same.options) (means_renamed (options_view asked.options) parts others nameless text means);
     }

@@ -5,7 +5,7 @@ use Rattle.std.specs.Prelude.{◌≡◌, ◌⊎◌, ℕ, All, Bool, true, Option
 use Rattle.std.specs.declared.alloc.Global.{Global}
 use Rattle.std.specs.List.{slice_get}
 use Rattle.std.specs.Str.{all_scalars}
-use Rattle.urlpattern_compare.specs.Answers.{IsReason}
+use Rattle.urlpattern_compare.specs.Answers.{IsReason, IsUntold}
 use Rattle.urlpattern_compare.specs.MeantTexts.{MeansText}
 use Rattle.urlpattern_compare.specs.declared.coverage.Covering.{Covering}
 use Rattle.urlpattern_compare.specs.declared.coverage.Covering.TheVariants as coverings
@@ -30,35 +30,31 @@ use Rattle.urlpattern_syntax.specs.declared.parser.{Part.Part, PartModifier.Part
 
 -- ---- one component
 
--- The parts of the component match the text.
+-- The parts of the component match the text, with case ignored or kept.
 abbrev pub MeansIn : ComponentParts → (text : List ℕ) → Type 0
 MeansIn component text =
     MeansText (options_view component.options) (parts_view component.parts.items) text
 
--- The parts tell which texts the component matches: no part is a custom regular expression, and
--- case is kept.
+-- The parts tell which texts the component matches: no part is a custom regular expression.
 pub record IsKnown (component : ComponentParts) : Type 0 where
   pub generated : AreGenerated (parts_view component.parts.items)
-  pub case_kept : component.options.ignore_case ≡ false
 
--- `reason` is a reason why the parts do not tell which texts the component matches: a part is
--- custom, or case is ignored.
+-- `reason` is why the parts do not tell which texts the component matches: a part is custom, and
+-- case is kept or ignored.
 abbrev pub IsUnknownBy : ComponentParts → Reason → Type 0
-IsUnknownBy component reasons.CustomExpression = ¬ AreGenerated (parts_view component.parts.items)
-IsUnknownBy component reasons.IgnoredCase = component.options.ignore_case ≡ true
-IsUnknownBy component reasons.TooMany = ⊥
+IsUnknownBy component =
+    IsUntold (options_view component.options) (parts_view component.parts.items)
 
 -- `reason` is a reason why it is not known whether a text exists that both components match: a part
--- is custom or case is ignored in one of them, or the search among the texts of the first is too
--- much work.
+-- is custom in one of them, or the search among the texts of the first is too much work.
 abbrev pub IsReasonToShare : (component other : ComponentParts) → Reason → Type 0
 IsReasonToShare component other =
     IsReason (options_view component.options) (parts_view component.parts.items)
     (options_view other.options) (parts_view other.parts.items)
 
 -- `reason` is a reason why it is not known whether a text exists that only the asked component
--- matches: a part is custom or case is ignored in one of the two, or the search among the texts of
--- the asked one is too much work.
+-- matches: a part is custom in one of the two, or the search among the texts of the asked one is
+-- too much work.
 abbrev pub IsReasonFor : (component asked : ComponentParts) → Reason → Type 0
 IsReasonFor component asked = IsReasonToShare asked component
 
@@ -81,27 +77,27 @@ IsReasonAlone component =
     IsReason (options_view component.options) (parts_view component.parts.items) default_options
     (anything_part ∷ [])
 
--- The component matches each text without line feed; no part is custom, and case is kept.
+-- The component matches each text without line feed; no part is custom.
 pub record MatchesEveryLine (component : ComponentParts) : Type 0 where
   pub known : IsKnown component
   pub takes : (text : List ℕ) → IsTrue (all_scalars text) → IsTrue (lacks line_feed text)
       → MeansIn component text
 
--- The component matches no text without line feed; no part is custom, and case is kept.
+-- The component matches no text without line feed; no part is custom.
 pub record MatchesNoLine (component : ComponentParts) : Type 0 where
   pub known : IsKnown component
   pub takes_none : (text : List ℕ) → IsTrue (all_scalars text) → IsTrue (lacks line_feed text)
       → ¬ MeansIn component text
 
 -- The component matches each text without line feed that the asked one matches; in each, no part is
--- custom, and case is kept.
+-- custom.
 pub record MeansAllOf (component asked : ComponentParts) : Type 0 where
   pub known : IsKnown component
   pub asked_known : IsKnown asked
   pub within : (text : List ℕ) → IsTrue (all_scalars text) → IsTrue (lacks line_feed text)
       → MeansIn asked text → MeansIn component text
 
--- The component matches the text, which has no line feed; no part is custom, and case is kept.
+-- The component matches the text, which has no line feed; no part is custom.
 pub record IsMeantBy (component : ComponentParts) (text : List ℕ) : Type 0 where
   pub known : IsKnown component
   pub means : MeansIn component text
@@ -113,8 +109,7 @@ pub record IsOnlyIn (component asked : ComponentParts) (text : List ℕ) : Type 
   pub meant : IsMeantBy asked text
   pub not_meant : ¬ MeansIn component text
 
--- No text without line feed exists that both components match; in each, no part is custom, and case
--- is kept.
+-- No text without line feed exists that both components match; in each, no part is custom.
 pub record AreApart (component other : ComponentParts) : Type 0 where
   pub known : IsKnown component
   pub other_known : IsKnown other

@@ -7,7 +7,7 @@ ghost use Rattle.urlpattern_syntax.specs.Options.{default_options, options_view}
 ghost use Rattle.urlpattern_syntax.specs.Parts.{parts_view};
 ghost use Rattle.urlpattern_syntax.specs.Text.{text_of};
 
-use crate::coverage::{Covering, Overlap, Reason, covers, has_custom, overlaps};
+use crate::coverage::{Covering, Overlap, Reason, covers, has_custom, overlaps, untold};
 use std::alloc::{AllocError, Global};
 use urlpattern_syntax::ComponentParts;
 use urlpattern_syntax::parser::{Options, Part, PartModifier, PartType};
@@ -33,19 +33,13 @@ fn anything(alloc: Global) -> Result<ComponentParts, AllocError>
     })
 }
 
-/// Returns why the parts of `component` do not tell which texts it matches: case is ignored, or a
-/// part is a custom regular expression. `None`: the parts tell.
+/// Returns why the parts of `component` do not tell which texts it matches: a part is a custom
+/// regular expression. `None`: the parts tell.
 pub(crate) fn unknown(component: &ComponentParts) -> Option<Reason>
     ensures known { IfNone result (IsKnown component.now) }
     ensures reason { IfSome result (IsUnknownBy component.now) }
 {
-    if component.options.ignore_case {
-        return Some(Reason::IgnoredCase);
-    }
-    if has_custom(&component.parts) {
-        return Some(Reason::CustomExpression);
-    }
-    None
+    untold(&component.options, &component.parts)
 }
 
 /// Returns why the parts of two components do not tell which texts each matches. `None`: the parts
@@ -72,8 +66,8 @@ fn matches_every_line(alloc: Global, component: &ComponentParts) -> Result<bool,
     }
 }
 
-/// Whether `component`, of which no part is custom and case is kept, is known to match each text
-/// without line feed. `false`: a text does not match, or the comparison is given up (`TooMany`).
+/// Whether `component`, of which no part is custom, is known to match each text without line feed.
+/// `false`: a text does not match, or the comparison is given up (`TooMany`).
 fn covers_anything(alloc: Global, component: &ComponentParts) -> Result<bool, AllocError>
     requires { IsKnown component.now }
     ensures { IfOk result (DecidesEveryLine component.now) }
@@ -194,8 +188,8 @@ pub(crate) fn component_example(
     }
 }
 
-/// Returns as `Common` a text without line feed that `component`, of which no part is custom and
-/// case is kept, matches. `Apart`: no such text exists.
+/// Returns as `Common` a text without line feed that `component`, of which no part is custom,
+/// matches. `Apart`: no such text exists.
 fn common_with_anything(alloc: Global, component: &ComponentParts) -> Result<Overlap, AllocError>
     requires { IsKnown component.now }
     ensures { IfOk result (IsExample component.now) }

@@ -6,22 +6,22 @@ use Rattle.urlpattern_matcher.specs.declared.regexp.RegExp.{Ghosts as Engine}
 use Rattle.urlpattern_engine.proofs.EngineLaws as own
 use Rattle.urlpattern_engine.specs.PatternRegexps.{pattern_engine}
 use Rattle.urlpattern_pattern.specs.ByText.{AcceptedAlone, MakesFirstWays}
-use Rattle.urlpattern_laws.proofs.MatchingLemmas.{own_parts_mean}
+use Rattle.urlpattern_laws.proofs.MatchingLemmas.{all_parts_mean, own_parts_mean}
 use Rattle.urlpattern_compile.specs.Compiled.{settings_of}
 use Rattle.urlpattern_matcher.specs.Components.{IsEngineOf, engine_flags}
 use Rattle.urlpattern_pattern.proofs.ByTextLemmas.{component_by, pattern_by}
 use Rattle.urlpattern_pattern.specs.ByTextLaws.{PatternsReturnByText}
 use Rattle.urlpattern_laws.proofs.SimpleMatchers.{generated_first, matcher_of_middle}
-use Rattle.urlpattern_laws.specs.PartReadings.{OwnPartsMean}
+use Rattle.urlpattern_laws.specs.PartReadings.{AnyPattern, KeepsCase, OwnPartsMean}
 use Rattle.urlpattern_engine.proofs.RegexMatchers as regex
 
-pub parts_mean_by_first_ways : {E : Type 0} (engine : Engine E) → MakesFirstWays engine → OwnPartsMean engine
+pub parts_mean_by_first_ways : {E : Type 0} (engine : Engine E) → MakesFirstWays engine → OwnPartsMean engine KeepsCase
 parts_mean_by_first_ways engine firsts = own_parts_mean engine AcceptedAlone (generated_first engine firsts) (λ options inner took. (flags_agree options, took))
 
-pub pattern_parts_mean : OwnPartsMean pattern_engine
-pattern_parts_mean = own_parts_mean pattern_engine _ own.taken_first (λ options inner took. flags_agree options)
+pub pattern_parts_mean : OwnPartsMean pattern_engine AnyPattern
+pattern_parts_mean = all_parts_mean pattern_engine _ own.taken_first own.values_by_flags (λ options inner took. flags_agree options)
 
-pub regex_parts_mean : OwnPartsMean regex_engine
+pub regex_parts_mean : OwnPartsMean regex_engine KeepsCase
 regex_parts_mean = own_parts_mean regex_engine _ regex.taken_first (λ options inner took. took)
 
 -- The values of the engine that are called return first ways.

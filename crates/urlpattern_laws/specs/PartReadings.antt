@@ -1,6 +1,6 @@
 -- The parts of a pattern, and what the pattern matches. `answer` is what a value of an engine
 -- returns for a text; a line is a text without line feeds.
-use Rattle.std.specs.Prelude.{◌≡◌, ◌↔◌, ◌⊎◌, ℕ, List, MatchOption, Option, String}
+use Rattle.std.specs.Prelude.{◌≡◌, ◌↔◌, ◌⊎◌, ℕ, false, List, MatchOption, Option, String}
 use Rattle.std.specs.declared.alloc.Global.{Global}
 use Rattle.urlpattern_matcher.specs.declared.regexp.RegExp.{Ghosts as Engine}
 use Rattle.urlpattern_init.specs.UrlTexts.{EachIsLine, IsLine}
@@ -119,29 +119,42 @@ EqualAreMatched {E} engine =
     → IsMatchOf engine.answer other texts result
     → IsMatchOf engine.answer pattern texts result
 
--- The parts that the engine made a pattern of say what the pattern matches, as `AreItsParts` says.
-abbrev pub OwnPartsMean : {E : Type 0} → Engine E → Type 0
-OwnPartsMean {E} engine =
+-- The pattern keeps case in each component.
+abbrev pub KeepsCase : {E : Type 0} → PatternView E → Type 0
+KeepsCase pattern = (name : ComponentName) → (pattern name).matcher.ignore_case ≡ false
+
+-- Nothing is asked of the pattern.
+abbrev pub AnyPattern : {E : Type 0} → PatternView E → Type 0
+AnyPattern pattern = Unit {0}
+
+-- The parts that the engine made a pattern of say what the pattern matches, as `AreItsParts` says,
+-- if `Keeps` holds of it.
+abbrev pub OwnPartsMean : {E : Type 0} → Engine E → (Keeps : PatternView E → Type 0) → Type 0
+OwnPartsMean {E} engine Keeps =
     (pattern : PatternView E) (parts : PatternParts) → AreMadeOfParts engine parts pattern
+    → Keeps pattern
     → AreItsParts engine.answer pattern parts
 
 -- The parts that a compiled pattern keeps say what the pattern matches, as `AreItsParts` says, if
--- it matches by its pattern texts.
+-- it matches by its pattern texts, and keeps case.
 abbrev pub KeptPartsMean : {E : Type 0} → Engine E → Type 0
 KeptPartsMean {E} engine =
     (init : UrlPatternInit) (asked : UrlPatternOptions) (pattern : UrlPattern E)
     → ReturnsByItsText engine.answer init asked (pattern_view pattern)
     →
     (kept : KeepsPartsOf engine init asked pattern)
+    → KeepsCase (pattern_view pattern)
     → AreItsParts engine.answer (pattern_view pattern) kept.parts
 
--- If the engine made two patterns of parts, with or without custom regular expressions, and
--- `pattern` covers `asked` by these parts, `pattern` matches any eight lines that `asked` matches.
-abbrev pub CoveredByEngineAreMatched : {E : Type 0} → Engine E → Type 0
-CoveredByEngineAreMatched {E} engine =
+-- If the engine made two patterns of parts, with or without custom regular expressions, `Keeps`
+-- holds of both, and `pattern` covers `asked` by these parts, `pattern` matches any eight lines
+-- that `asked` matches.
+abbrev pub CoveredByEngineAreMatched : {E : Type 0} → Engine E → (Keeps : PatternView E → Type 0)
+    → Type 0
+CoveredByEngineAreMatched {E} engine Keeps =
     (pattern asked : PatternView E) (parts asked_parts : PatternParts)
     → AreMadeOfParts engine parts pattern
-    → AreMadeOfParts engine asked_parts asked →
+    → AreMadeOfParts engine asked_parts asked → Keeps pattern → Keeps asked →
     IsCovered parts asked_parts → (texts : Texts) → EachIsLine texts
     → AreMatched engine.answer asked texts → AreMatched engine.answer pattern texts
 

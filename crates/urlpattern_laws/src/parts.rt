@@ -1,31 +1,33 @@
 //! Laws of patterns and their parts.
 //!
-//! Parts *mean* a text if they match it by the definition `PartsMean`, without an engine. Their
-//! meaning is *known* if no part is custom and case is kept.
+//! Parts *mean* a text if they match it by the definition `PartsMean`, without an engine; where
+//! case is ignored, ASCII letters of both are compared in lower case. Their meaning is *known* if
+//! no part is custom.
 //!
 //! Each function has an empty body; its contract is a theorem.
 
 ghost use Rattle.urlpattern_matcher.specs.Regexes.{regex_engine};
 ghost use Rattle.urlpattern_engine.specs.{GrammarReadings.ExpressionsReturnAlike, PatternRegexps.pattern_engine};
 ghost use Rattle.urlpattern_pattern.specs.ByText.{MakesFirstWays};
-ghost use Rattle.urlpattern_laws.specs.PartReadings.{ApartMatchNothing, CommonAreMatched, CoveredAreMatched, CoveredByEngineAreMatched, CoveredByMeaningAreMatched, EqualAreMatched, KeptPartsMean, KnownAreCoveredByMeaning, MadeAreMatched, OwnPartsMean, PartingsAreMatched};
+ghost use Rattle.urlpattern_laws.specs.PartReadings.{AnyPattern, ApartMatchNothing, CommonAreMatched, CoveredAreMatched, CoveredByEngineAreMatched, CoveredByMeaningAreMatched, EqualAreMatched, KeepsCase, KeptPartsMean, KnownAreCoveredByMeaning, MadeAreMatched, OwnPartsMean, PartingsAreMatched};
 
 use urlpattern_matcher::regexp::RegExp;
 
 /// A pattern that `PatternRegexp` or `regex::Regex` made of parts matches a text without line feeds
 /// in a component exactly if the component's parts mean the text, if their meaning is known: no
-/// part is custom, and case is kept.
+/// part is custom. Of `regex::Regex`, which does not ignore case, this is said of patterns that
+/// keep case in each component.
 pub fn patterns_match_what_their_parts_mean()
-    ensures pattern_regexp { OwnPartsMean pattern_engine }
-    ensures regex { OwnPartsMean regex_engine }
+    ensures pattern_regexp { OwnPartsMean pattern_engine AnyPattern }
+    ensures regex { OwnPartsMean regex_engine KeepsCase }
 {}
 
 /// A pattern that was made of parts, over any engine whose matchers return first ways, such as
 /// `PatternRegexp`, matches a text without line feeds in a component exactly if the component's
-/// parts mean the text, if their meaning is known. A compiled pattern that matches by its pattern
-/// texts does too, whatever its engine, with the parts that it keeps.
+/// parts mean the text, if their meaning is known, and the pattern keeps case. A compiled pattern
+/// that matches by its pattern texts does too, whatever its engine, with the parts that it keeps.
 pub fn patterns_match_what_their_parts_mean_by_first_ways<R: RegExp>()
-    ensures first_ways { MakesFirstWays R.RegExp → OwnPartsMean R.RegExp }
+    ensures first_ways { MakesFirstWays R.RegExp → OwnPartsMean R.RegExp KeepsCase }
     ensures by_text { KeptPartsMean R.RegExp }
 {}
 
@@ -50,7 +52,7 @@ pub fn covered_patterns_match<R: RegExp>()
 /// matches what its parts mean, where their meaning is known.
 ///
 /// A pattern that covers another covers it by meaning, if the meaning of any two components with
-/// equal parts is known: if no part is custom, and case is kept.
+/// equal parts is known: if no part is custom.
 pub fn patterns_covered_by_meaning_match<R: RegExp>()
     ensures covered { CoveredByMeaningAreMatched R.answer }
     ensures known { KnownAreCoveredByMeaning }
@@ -58,10 +60,11 @@ pub fn patterns_covered_by_meaning_match<R: RegExp>()
 
 /// If `PatternRegexp` or `regex::Regex` made two patterns of parts, with or without custom regular
 /// expressions, and the parts of one pattern cover those of the other, it matches any eight texts
-/// without line feeds that the other matches.
+/// without line feeds that the other matches. Of `regex::Regex`, which does not ignore case, this
+/// is said of patterns that keep case in each component.
 pub fn covered_patterns_by_these_engines_match()
-    ensures pattern_regexp { CoveredByEngineAreMatched pattern_engine }
-    ensures regex { CoveredByEngineAreMatched regex_engine }
+    ensures pattern_regexp { CoveredByEngineAreMatched pattern_engine AnyPattern }
+    ensures regex { CoveredByEngineAreMatched regex_engine KeepsCase }
 {}
 
 /// Two patterns that one engine made of equal parts, as `UrlPattern::is_same` decides, match the

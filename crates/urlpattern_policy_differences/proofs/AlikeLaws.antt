@@ -1,5 +1,6 @@
 -- Policies without a difference decide alike.
 use Rattle.std.proofs.Common.{◌≡◌, ◌≢◌, ◌∙◌, ◌⊎◌, ◌&&◌, ℕ, Bool, true, false, true≢false, [], MatchBool, Option, ap, inl, inr, not, refl, subst, sym}
+use Rattle.std.proofs.lemmas.List.Elements.{All-cons, All-nil}
 use Rattle.std.specs.Prelude.{IsTrue, if◌then◌else◌}
 use Rattle.urlpattern_compare.specs.TextSearch.{IsLine}
 use Rattle.urlpattern_components.specs.Eight.{Texts, at}
@@ -15,6 +16,7 @@ use Rattle.urlpattern_init.proofs.UrlTexts.{texts_of_urls}
 use Rattle.urlpattern_init.specs.Inheritance.{texts_of_url}
 use Rattle.urlpattern_laws.specs.PartReadings.{OwnPartsMean}
 use Rattle.urlpattern_matcher.specs.declared.regexp.RegExp.{Ghosts as Engine}
+use Rattle.urlpattern_pattern.specs.Patterns.{PatternView, pattern_view}
 use Rattle.urlpattern_policy_differences.proofs.ComparingLemmas.{more_appended, none_appended}
 use Rattle.urlpattern_policy_differences.proofs.LineLemmas.{matched_credentials, matched_lines}
 use Rattle.urlpattern_policy_differences.proofs.MeantLemmas.{SameMatch, are_meanings}
@@ -67,7 +69,7 @@ asked_alike options others texts asked alike are =
 
 -- ---- two policies decide
 
-module _ {E : Type 0} (engine : Engine E) (mean : OwnPartsMean engine) (same_match : SameMatch engine) where
+module _ {E : Type 0} (engine : Engine E) (Keeps : PatternView E → Type 0) (mean : OwnPartsMean engine Keeps) (same_match : SameMatch engine) where
   module _ (policy : UrlPolicy E) (automata opening : PolicyAutomata) (fronts : AreFronts engine policy.options opening) (appended : AppendsRules engine policy.rules opening automata) (texts asked : Texts) (are_fit : AreFit texts asked) where
     abbrev matched : Texts
     matched = matched_texts policy.options asked
@@ -94,8 +96,8 @@ module _ {E : Type 0} (engine : Engine E) (mean : OwnPartsMean engine) (same_mat
         by true e credentials = denied e
         by false e answered = subst DecidedAs denies (ruled decision is e (ruled_of engine policy texts asked decision is are answered))
 
-  pub no_difference : NoDifferenceAllows engine
-  no_difference one other limits (ones, others, (opening, (empty, is_empty_one, option), appended), (also, (nothing, is_empty_other, also_option), also_appended), (excess, is, found)) alike url valid rule decision allows decides =
+  pub no_difference : NoDifferenceAllows engine Keeps
+  no_difference one other limits (ones, others, (opening, (empty, is_empty_one, option), appended), (also, (nothing, is_empty_other, also_option), also_appended), (excess, is, found)) keep also_keep alike url valid rule decision allows decides =
       elim (not_memory decision) [
         | inl fine ↦ fine
         | inr (is_ruled, denies) ↦
@@ -111,8 +113,8 @@ module _ {E : Type 0} (engine : Engine E) (mean : OwnPartsMean engine) (same_mat
             let spelled = spelled_alike one.options other.options asked alike in
             let none : AllowsAllOf others ones = subst (λ (it : Excess). IsExcess limits ones others it) (nothing_is one.options other.options excess found) is in
             let allowed = none (all engine one ones opening fronts appended) (all engine other others also also_fronts also_appended)
-            (are_meanings engine mean same_match (all engine one ones opening fronts appended) (all engine other others also also_fronts also_appended) ones.patterns.items others.patterns.items
-            (all_parts engine one ones opening fronts appended) (all_parts engine other others also also_fronts also_appended) (all_are engine one ones opening fronts appended) (all_are engine other others also also_fronts also_appended))
+            (are_meanings engine Keeps mean same_match (all engine one ones opening fronts appended) (all engine other others also also_fronts also_appended) ones.patterns.items others.patterns.items
+            (all_parts engine one ones opening fronts appended) (all_parts engine other others also also_fronts also_appended) (all_are engine one ones opening fronts appended Keeps keep) (all_are engine other others also also_fronts also_appended Keeps also_keep))
             (λ name. at (matched_texts one.options asked) name) here.0 there.0
             (record {
               lines = matched_lines one.options asked are_fit.lines;
@@ -126,8 +128,8 @@ module _ {E : Type 0} (engine : Engine E) (mean : OwnPartsMean engine) (same_mat
   alike_itself true = refl
   alike_itself false = refl
 
-  pub within_allows : WithinAllows engine
-  within_allows policy pattern limits (own, whole, made, (empty, is_empty_policy, appends), (excess, is, found)) =
+  pub within_allows : WithinAllows engine Keeps
+  within_allows policy pattern limits (own, whole, made, (empty, is_empty_policy, appends), (excess, is, found)) keep keeps =
       let only = only_allows policy.options.plain_spelling pattern in
       let nothing = nothing_is policy.options strict_options excess found in
       no_difference policy only limits (
@@ -136,4 +138,4 @@ module _ {E : Type 0} (engine : Engine E) (mean : OwnPartsMean engine) (same_mat
         made,
         (empty, (empty, is_empty_policy, refl), more_appended engine [] (pattern, effects.Allow) empty empty whole (none_appended engine [] empty) appends),
         (excess, is, subst (λ (it : Excess). differences.Nothing ≡ difference_of policy.options only.options it) (sym nothing) refl),
-      ) (alike_itself policy.options.plain_spelling)
+      ) keep (All-cons (λ it. Keeps (pattern_view it)) pattern [] keeps (All-nil (λ it. Keeps (pattern_view it)))) (alike_itself policy.options.plain_spelling)

@@ -32,7 +32,7 @@ use Rattle.urlpattern_policy.specs.declared.policy.UrlPolicy.{UrlPolicy}
 use Rattle.urlpattern_policy_differences.proofs.AskedTexts.{IsByRule, answered_url, asked_of, fit}
 use Rattle.urlpattern_policy_differences.proofs.LineLemmas.{matched_lines}
 use Rattle.urlpattern_policy_differences.proofs.MeantLemmas.{SameMatch}
-use Rattle.urlpattern_policy_differences.specs.AlikeDecisions.{DeadDecideNone}
+use Rattle.urlpattern_policy_differences.specs.AlikeDecisions.{DeadDecideNone, EachKeeps}
 use Rattle.urlpattern_policy_differences.specs.Comparing.{AreDead, is_never}
 
 -- The pattern at an index, by its view.
@@ -43,14 +43,14 @@ viewed {E} patterns i view there = by (slice_get patterns i) refl (sym (slice_ge
     by None e is = absurd cc
     by (Some pattern) e is = (pattern, e, cc)
 
-module _ {E : Type 0} (engine : Engine E) (mean : OwnPartsMean engine) (same_match : SameMatch engine) where
+module _ {E : Type 0} (engine : Engine E) (Keeps : PatternView E → Type 0) (mean : OwnPartsMean engine Keeps) (same_match : SameMatch engine) where
   abbrev Fits : Texts → PatternView E → Type 0
   Fits texts view = (name : ComponentName) → IsMatched engine.answer (view name).matcher (at texts name)
 
   does_not_fit : (texts : Texts) (view : PatternView E) → DoesNotMatch engine.answer view texts → ¬ Fits texts view
   does_not_fit texts view fails each = let matched = each fails.0 in fails.1 matched.0 matched.1
 
-  module _ (policy : UrlPolicy E) (limits : Limits) (dead : List ℕ) (are : AreDead engine limits policy dead) (index : ℕ) (has : Contains dead index) where
+  module _ (policy : UrlPolicy E) (limits : Limits) (dead : List ℕ) (are : AreDead engine limits policy dead) (keep : EachKeeps Keeps policy) (index : ℕ) (has : Contains dead index) where
     -- A rule whose pattern is never reached is not the first that matches texts without line feeds.
     unreached : (texts : Texts) → AreLines (λ name. at texts name) → (effect : Effect) → IsFirstRule engine.answer policy.rules texts index effect
         → (reach : Reach) → slice_get are.0 index ≡ Some reach → IsTrue (is_never reach) → ⊥
@@ -58,7 +58,7 @@ module _ {E : Type 0} (engine : Engine E) (mean : OwnPartsMean engine) (same_mat
         let patterns = keys_of policy.rules in
         let (view, view_there, matched) = first.matches in
         let (pattern, pattern_there, is_view) = viewed patterns index view view_there in
-        never_alone engine mean same_match patterns limits are.0 are.1 index covering there pattern pattern_there (λ name. at texts name) lines
+        never_alone engine Keeps mean same_match patterns limits are.0 are.1 keep index covering there pattern pattern_there (λ name. at texts name) lines
         (subst (Fits texts) (sym is_view) matched)
         (All-weaker (λ (it : PatternView E). DoesNotMatch engine.answer it texts) (λ (it : PatternView E). ¬ Fits texts it) (does_not_fit texts) (take index (patterns_view patterns)) first.first)
     unreached texts lines effect first (reaches.First found) there never = absurd (true≢false (sym never))
@@ -89,7 +89,7 @@ module _ {E : Type 0} (engine : Engine E) (mean : OwnPartsMean engine) (same_mat
         let (effect, first) = first_by (matched_texts policy.options asked) decision by_it ruled in
         not_first (matched_texts policy.options asked) (matched_lines policy.options asked are_fit.lines) effect first
 
-  pub dead_decide_none : DeadDecideNone engine
-  dead_decide_none policy limits dead are index has url valid decision decides =
-      let none = decides_none policy limits dead are index has url valid decision decides in
+  pub dead_decide_none : DeadDecideNone engine Keeps
+  dead_decide_none policy limits dead are keep index has url valid decision decides =
+      let none = decides_none policy limits dead are keep index has url valid decision decides in
       (λ allows. none (inl allows), λ denies. none (inr denies))

@@ -1,7 +1,7 @@
 -- What a policy decides, by its automata.
 use Rattle.std.proofs.Common.{◌≡◌, ◌≢◌, ◌∙◌, ◌⊎◌, ◌<◌, ◌&&◌, ◌||◌, ℕ, zero, suc, All, Bool, true, false, true≢false, List, [], ◌∷◌, ◌++◌, MatchBool, None, Option, Some, ap, arith, inl, inr, length, map, not, refl, slice_get, subst, sym, take}
 use Rattle.std.proofs.lemmas.List.{map-append}
-use Rattle.std.proofs.lemmas.List.Elements.{All-append, All-cons, All-head, All-nil, All-tail}
+use Rattle.std.proofs.lemmas.List.Elements.{All-append, All-cons, All-head, All-nil, All-tail, All-weaker}
 use Rattle.std.specs.Map.{keys_of, values_of}
 use Rattle.std.specs.Prelude.{IsTrue, unwrap_or, if◌then◌else◌}
 use Rattle.urlpattern_compare.proofs.CandidateLemmas.{name_cases}
@@ -22,7 +22,9 @@ use Rattle.urlpattern_differences.specs.declared.rules.Effect.{Effect}
 use Rattle.urlpattern_differences.specs.declared.rules.Effect.TheVariants as effects
 use Rattle.urlpattern_differences.specs.declared.rules.PolicyAutomata.{PolicyAutomata}
 use Rattle.urlpattern_matcher.specs.declared.regexp.RegExp.{Ghosts as Engine}
+use Rattle.urlpattern_pattern.specs.Patterns.{PatternView}
 use Rattle.urlpattern_policy_differences.proofs.MeantLemmas.{IsMeant, IsTold, meant_are, meant_at, meant_by, meant_parts, none_meant, none_meant_at_all}
+use Rattle.urlpattern_policy_differences.specs.AlikeDecisions.{EachKeeps}
 use Rattle.urlpattern_policy_differences.specs.Comparing.{AppendsRules, IsEmpty}
 use Rattle.urlpattern_policy.specs.Decisions.{DecidesTexts, IsDefault, IsFirstRule, has_credentials}
 use Rattle.urlpattern_policy.specs.declared.decision.Decision.{Decision}
@@ -30,6 +32,7 @@ use Rattle.urlpattern_policy.specs.declared.decision.Decision.TheVariants.{Allow
 use Rattle.urlpattern_policy.specs.declared.decision.DenyReason.TheVariants as reasons
 use Rattle.urlpattern_policy.specs.declared.policy.PolicyOptions.{PolicyOptions}
 use Rattle.urlpattern_policy.specs.declared.policy.UrlPolicy.{UrlPolicy}
+use Rattle.urlpattern_syntax.specs.Options.{default_options}
 use Rattle.urlpattern_syntax.specs.RegexpText.{is_empty}
 
 empty_is : (text : List ℕ) → is_empty text ≡ true → text ≡ []
@@ -67,7 +70,7 @@ module _ (written : ComponentName) (parts : PatternParts) (is : IsWritten writte
       → (IsTrue (means_by written name case text) → MeansIn (at parts.components name) text) × (MeansIn (at parts.components name) text → IsTrue (means_by written name case text))
   means_at name (inl same) text line = (λ some. segment_in name same text line (is_empty text) refl some, λ means. segment_out name same text means (is_empty text) refl)
   means_at name (inr other) text line =
-      (λ on_both. means_in _ (at parts.components name) ((is name).others other) text (wildcard_means _ text line.plain), λ means. refl)
+      (λ on_both. means_in _ (at parts.components name) ((is name).others other) text (wildcard_means default_options text line.plain), λ means. refl)
 
   pub written_told : IsTold written_meaning
   written_told = record {
@@ -80,7 +83,7 @@ module _ (written : ComponentName) (parts : PatternParts) (is : IsWritten writte
 -- Rules that deny credentials, if the options say so.
 pub record AreFronts {E : Type 0} (engine : Engine E) (options : PolicyOptions) (opening : PolicyAutomata) : Type 0 where
   pub fronts : List PatternMeaning
-  pub are : All (IsMeant engine) fronts
+  pub are : All IsTold fronts
   pub own_parts : map (λ it. it.parts) fronts ≡ parts_of opening.patterns.items
   pub denied : opening.effects.items ≡ map (λ it. effects.Deny) fronts
   pub default : opening.default ≡ options.default
@@ -93,7 +96,7 @@ module _ {E : Type 0} (engine : Engine E) (options : PolicyOptions) (empty openi
   no_fronts : options.denies_credentials ≡ false → opening ≡ empty → AreFronts engine options opening
   no_fronts off same = record {
     fronts = [];
-    are = All-nil (IsMeant engine);
+    are = All-nil IsTold;
     own_parts = sym (ap parts_of (ap (λ (it : PolicyAutomata). it.patterns.items) same ∙ is_empty_policy.patterns));
     denied = ap (λ (it : PolicyAutomata). it.effects.items) same ∙ is_empty_policy.effects;
     default = ap (λ (it : PolicyAutomata). it.default) same ∙ is_empty_policy.default;
@@ -152,8 +155,8 @@ module _ {E : Type 0} (engine : Engine E) (options : PolicyOptions) (empty openi
     two_fronts : opening.patterns.items ≡ username ∷ password ∷ [] → opening.effects.items ≡ effects.Deny ∷ effects.Deny ∷ [] → opening.default ≡ options.default → AreFronts engine options opening
     two_fronts patterns own default = record {
       fronts = users ∷ passwords ∷ [];
-      are = All-cons (IsMeant engine) users (passwords ∷ []) (inr (written_told Username username.parts user))
-          (All-cons (IsMeant engine) passwords [] (inr (written_told Password password.parts pass)) (All-nil (IsMeant engine)));
+      are = All-cons IsTold users (passwords ∷ []) (written_told Username username.parts user)
+          (All-cons IsTold passwords [] (written_told Password password.parts pass) (All-nil IsTold));
       own_parts = sym (ap parts_of patterns);
       denied = own;
       default = default;
@@ -228,8 +231,10 @@ module _ {E : Type 0} (engine : Engine E) (policy : UrlPolicy E) (automata : Pol
       ∙ ap (λ l. parts_of opening.patterns.items ++ l) (meant_parts engine (keys_of policy.rules) appended.own appended.have)
       ∙ sym (ap parts_of appended.patterns ∙ map-append (λ (it : PatternAutomata). it.parts) opening.patterns.items appended.own)
 
-  pub all_are : All (IsMeant engine) all
-  all_are = All-append (IsMeant engine) fronts.fronts (meant_by engine (keys_of policy.rules) appended.own) fronts.are (meant_are engine (keys_of policy.rules) appended.own appended.have)
+  pub all_are : (Keeps : PatternView E → Type 0) → EachKeeps Keeps policy → All (IsMeant engine Keeps) all
+  all_are Keeps keep =
+      All-append (IsMeant engine Keeps) fronts.fronts (meant_by engine (keys_of policy.rules) appended.own)
+      (All-weaker IsTold (IsMeant engine Keeps) (λ it told. inr told) fronts.fronts fronts.are) (meant_are engine Keeps (keys_of policy.rules) appended.own appended.have keep)
 
   pub all_effects : automata.effects.items ≡ map (λ it. effects.Deny) fronts.fronts ++ values_of policy.rules
   all_effects = appended.effects ∙ ap (λ l. l ++ values_of policy.rules) fronts.denied

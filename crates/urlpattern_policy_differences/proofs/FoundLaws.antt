@@ -282,17 +282,17 @@ shown_by options others found (excesses.Texts shown) is = record { shown = shown
 shown_by options others found excesses.Nothing is = absurd cc
 shown_by options others found (excesses.Unknown doubt) is = absurd cc
 
-module _ {E : Type 0} (engine : Engine E) (mean : OwnPartsMean engine) (same_match : SameMatch engine) where
-  pub found_decided : FoundAreDecided engine
-  found_decided one other limits found (ones, others, (opening, (empty, is_empty_one, option), appended), (also, (nothing, is_empty_other, also_option), also_appended), (excess, is, shows)) =
+module _ {E : Type 0} (engine : Engine E) (Keeps : PatternView E → Type 0) (mean : OwnPartsMean engine Keeps) (same_match : SameMatch engine) where
+  pub found_decided : FoundAreDecided engine Keeps
+  found_decided one other limits found (ones, others, (opening, (empty, is_empty_one, option), appended), (also, (nothing, is_empty_other, also_option), also_appended), (excess, is, shows)) keep also_keep =
       let it = shown_by one.options other.options found excess shows in
       let fronts = fronts_of engine one.options empty opening is_empty_one option in
       let also_fronts = fronts_of engine other.options nothing also is_empty_other also_option in
       let mine = all engine one ones opening fronts appended in
       let theirs = all engine other others also also_fronts also_appended in
       let are : AreExcess ones others it.shown = subst (λ (e : Excess). IsExcess limits ones others e) it.is_excess is in
-      let meant = are_meanings engine mean same_match mine theirs ones.patterns.items others.patterns.items
-      (all_parts engine one ones opening fronts appended) (all_parts engine other others also also_fronts also_appended) (all_are engine one ones opening fronts appended) (all_are engine other others also also_fronts also_appended) in
+      let meant = are_meanings engine Keeps mean same_match mine theirs ones.patterns.items others.patterns.items
+      (all_parts engine one ones opening fronts appended) (all_parts engine other others also also_fronts also_appended) (all_are engine one ones opening fronts appended Keeps keep) (all_are engine other others also also_fronts also_appended Keeps also_keep) in
       let at_found : string_at it.shown.texts ≡ (λ name. at (found_texts found) name) = λ i name. (ap (λ t. string_at t name) (sym it.texts) ∙ sym (at-each (string_at found.texts) name)) i in
       let decided : AreDecided mine theirs (λ name. at (found_texts found) name) it.shown.allowing it.shown.denying =
       subst (λ (texts : TextAt). AreDecided mine theirs texts it.shown.allowing it.shown.denying) at_found (are.decided mine theirs meant) in (

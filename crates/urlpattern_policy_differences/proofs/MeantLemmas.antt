@@ -53,23 +53,24 @@ module _ {E : Type 0} (engine : Engine E) where
   pub matches_are : (view : PatternView E) (name : ComponentName) (text : List ℕ) → IsTrue (matches view name text) ↔ IsMatched engine.answer (view name).matcher text
   matches_are view name text = let all = answered engine.answer (view name).matcher text in by_result (view name).matcher text all.0 all.1
 
-  -- The meaning is what a pattern matches that the engine made of the parts.
-  abbrev pub IsMade : PatternMeaning → Type 0
-  IsMade it = (view : PatternView E) × AreMadeOfParts engine it.parts view × ((name : ComponentName) (text : List ℕ) → it.means name text ≡ matches view name text)
+  -- The meaning is what a pattern matches that the engine made of the parts, and of which `Keeps`
+  -- holds.
+  abbrev pub IsMade : (Keeps : PatternView E → Type 0) → PatternMeaning → Type 0
+  IsMade Keeps it = (view : PatternView E) × AreMadeOfParts engine it.parts view × Keeps view × ((name : ComponentName) (text : List ℕ) → it.means name text ≡ matches view name text)
 
-  abbrev pub IsMeant : PatternMeaning → Type 0
-  IsMeant it = IsMade it ⊎ IsTold it
+  abbrev pub IsMeant : (Keeps : PatternView E → Type 0) → PatternMeaning → Type 0
+  IsMeant Keeps it = IsMade Keeps it ⊎ IsTold it
 
-  module _ (mean : OwnPartsMean engine) (same_match : SameMatch) where
-    made_by_parts : (it : PatternMeaning) → IsMade it → MeansByParts it
-    made_by_parts it (view, made, means) name known text line =
+  module _ (Keeps : PatternView E → Type 0) (mean : OwnPartsMean engine Keeps) (same_match : SameMatch) where
+    made_by_parts : (it : PatternMeaning) → IsMade Keeps it → MeansByParts it
+    made_by_parts it (view, made, keeps, means) name known text line =
         let matched = matches_are view name text in
-        let meant = mean view it.parts made name known text (plain_line text line) in (
+        let meant = mean view it.parts made keeps name known text (plain_line text line) in (
           λ is. meant.0 (matched.0 (sym (means name text) ∙ is)),
           λ is. means name text ∙ matched.1 (meant.1 is),
         )
 
-    pub by_parts : (it : PatternMeaning) → IsMeant it → MeansByParts it
+    pub by_parts : (it : PatternMeaning) → IsMeant Keeps it → MeansByParts it
     by_parts it (inl made) = made_by_parts it made
     by_parts it (inr told) = told.by_parts
 
@@ -84,9 +85,9 @@ module _ {E : Type 0} (engine : Engine E) where
         (λ is. others.1 (back.within text line.scalars line.plain (mine.0 is)))
         (λ is. mine.1 (there.within text line.scalars line.plain (others.0 is)))
 
-    unknown_alike : (it other : PatternMeaning) → IsMade it → IsMade other → (name : ComponentName) → ¬ IsKnown (at it.parts.components name)
+    unknown_alike : (it other : PatternMeaning) → IsMade Keeps it → IsMade Keeps other → (name : ComponentName) → ¬ IsKnown (at it.parts.components name)
         → AreSame (at it.parts.components name) (at other.parts.components name) → (text : List ℕ) → IsLine text → it.means name text ≡ other.means name text
-    unknown_alike it other (view, made, means) (another, also_made, also_means) name unknown same text line =
+    unknown_alike it other (view, made, keeps, means) (another, also_made, also_keeps, also_means) name unknown same text line =
         let flipped = same_flips (at it.parts.components name) (at other.parts.components name) same in
         let unknown_too : ¬ IsKnown (at other.parts.components name) = λ known. unknown (same_within (at other.parts.components name) (at it.parts.components name) flipped known).asked_known in
         let here = matches_are view name text in
@@ -97,14 +98,14 @@ module _ {E : Type 0} (engine : Engine E) where
         (λ is. here.1 (same_match view another it.parts other.parts made also_made name unknown same text (plain_line text line) (there.0 is)))
         ∙ sym (also_means name text)
 
-    not_known_alike : (it other : PatternMeaning) → IsMeant it → IsMeant other → (name : ComponentName) → ¬ IsKnown (at it.parts.components name)
+    not_known_alike : (it other : PatternMeaning) → IsMeant Keeps it → IsMeant Keeps other → (name : ComponentName) → ¬ IsKnown (at it.parts.components name)
         → AreSame (at it.parts.components name) (at other.parts.components name) → (text : List ℕ) → IsLine text → it.means name text ≡ other.means name text
     not_known_alike it other (inr told) also name unknown same text line = absurd (unknown (told.known name))
     not_known_alike it other (inl made) (inr told) name unknown same text line =
         absurd (unknown (same_within (at other.parts.components name) (at it.parts.components name) (same_flips (at it.parts.components name) (at other.parts.components name) same) (told.known name)).asked_known)
     not_known_alike it other (inl made) (inl also) name unknown same text line = unknown_alike it other made also name unknown same text line
 
-    mean_alike : (it other : PatternMeaning) → IsMeant it → IsMeant other → MeanAlike it other
+    mean_alike : (it other : PatternMeaning) → IsMeant Keeps it → IsMeant Keeps other → MeanAlike it other
     mean_alike it other own also name same text line = elim (known_or_not (at it.parts.components name)) [
       | inl known ↦ known_alike it other (by_parts it own) (by_parts other also) name known same text line
       | inr unknown ↦ not_known_alike it other own also name unknown same text line
@@ -112,15 +113,15 @@ module _ {E : Type 0} (engine : Engine E) where
 
     -- Meanings of this kind are meanings of the automata.
     pub are_meanings : (ones others : List PatternMeaning) (one other : List PatternAutomata) → map (λ it. it.parts) ones ≡ parts_of one → map (λ it. it.parts) others ≡ parts_of other
-        → All IsMeant ones → All IsMeant others → AreMeanings (parts_of one) (parts_of other) ones others
+        → All (IsMeant Keeps) ones → All (IsMeant Keeps) others → AreMeanings (parts_of one) (parts_of other) ones others
     are_meanings ones others one other one_parts other_parts own also =
-        let each = All-append IsMeant ones others own also in
+        let each = All-append (IsMeant Keeps) ones others own also in
         record {
           all_parts = one_parts;
           none_parts = other_parts;
-          known = All-weaker IsMeant MeansByParts (λ it is. by_parts it is) (ones ++ others) each;
-          same = All-weaker IsMeant (λ it. All (MeanAlike it) (ones ++ others))
-              (λ it is. All-weaker IsMeant (MeanAlike it) (λ other also_is. mean_alike it other is also_is) (ones ++ others) each) (ones ++ others) each;
+          known = All-weaker (IsMeant Keeps) MeansByParts (λ it is. by_parts it is) (ones ++ others) each;
+          same = All-weaker (IsMeant Keeps) (λ it. All (MeanAlike it) (ones ++ others))
+              (λ it is. All-weaker (IsMeant Keeps) (MeanAlike it) (λ other also_is. mean_alike it other is also_is) (ones ++ others) each) (ones ++ others) each;
         }
 
   -- ---- the rules of a policy
@@ -136,12 +137,16 @@ module _ {E : Type 0} (engine : Engine E) where
   meant_parts (pattern ∷ patterns) [] have = absurd have
   meant_parts (pattern ∷ patterns) (it ∷ all) have = ap (λ l. it.parts ∷ l) (meant_parts patterns all have.1)
 
-  pub meant_are : (patterns : List (UrlPattern E)) (all : List PatternAutomata) → HaveAllAutomata engine patterns all → All IsMeant (meant_by patterns all)
-  meant_are [] all have = All-nil IsMeant
-  meant_are (pattern ∷ patterns) [] have = All-nil IsMeant
-  meant_are (pattern ∷ patterns) (it ∷ all) have =
-      All-cons IsMeant (record { parts = it.parts; means = matches (pattern_view pattern) }) (meant_by patterns all)
-      (inl (pattern_view pattern, have.0.made, λ name text. refl)) (meant_are patterns all have.1)
+  module _ (Keeps : PatternView E → Type 0) where
+    abbrev DoesKeep : UrlPattern E → Type 0
+    DoesKeep pattern = Keeps (pattern_view pattern)
+
+    pub meant_are : (patterns : List (UrlPattern E)) (all : List PatternAutomata) → HaveAllAutomata engine patterns all → All DoesKeep patterns → All (IsMeant Keeps) (meant_by patterns all)
+    meant_are [] all have keep = All-nil (IsMeant Keeps)
+    meant_are (pattern ∷ patterns) [] have keep = All-nil (IsMeant Keeps)
+    meant_are (pattern ∷ patterns) (it ∷ all) have keep =
+        All-cons (IsMeant Keeps) (record { parts = it.parts; means = matches (pattern_view pattern) }) (meant_by patterns all)
+        (inl (pattern_view pattern, have.0.made, All-head DoesKeep pattern patterns keep, λ name text. refl)) (meant_are patterns all have.1 (All-tail DoesKeep pattern patterns keep))
 
   module _ (texts : TextAt) where
     abbrev Matches : PatternView E → Type 0

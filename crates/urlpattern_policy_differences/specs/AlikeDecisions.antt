@@ -1,5 +1,6 @@
 -- What follows for decisions of what comparing two policies finds.
-use Rattle.std.specs.Prelude.{◌≡◌, ◌≢◌, ◌⊎◌, ◌&&◌, ◌∷◌, [], ℕ, Bool, Contains, IsTrue, List, MatchBool, Option, Some}
+use Rattle.std.specs.Map.{keys_of}
+use Rattle.std.specs.Prelude.{◌≡◌, ◌≢◌, ◌⊎◌, ◌&&◌, ◌∷◌, [], ℕ, All, Bool, Contains, IsTrue, List, MatchBool, Option, Some}
 use Rattle.url.specs.Parts.{IsValid, Parts}
 use Rattle.urlpattern_compare.specs.CommonTexts.{string_at}
 use Rattle.urlpattern_compare.specs.declared.candidates.Limits.{Limits}
@@ -9,6 +10,7 @@ use Rattle.urlpattern_init.specs.Inheritance.{texts_of_url}
 use Rattle.urlpattern_matcher.specs.declared.regexp.RegExp.{Ghosts as Engine}
 use Rattle.urlpattern_meaning.specs.PartMeaning.{Captures}
 use Rattle.urlpattern_policy_differences.specs.Comparing.{AreDead, IsDifference, IsWithin, is_spelled_alike}
+use Rattle.urlpattern_pattern.specs.Patterns.{PatternView, pattern_view}
 use Rattle.urlpattern_pattern.specs.UrlPatterns.{UrlPattern}
 use Rattle.urlpattern_policy.specs.DecisionWords.{is_allow}
 use Rattle.urlpattern_policy.specs.Decisions.{DecidesTexts, DecidesUrl, has_credentials}
@@ -29,12 +31,18 @@ AllowsUrlsOf answer other one =
     → DecidesUrl answer other (texts_of_url url) decision
     → IsTrue (is_allow decision) ⊎ (decision ≡ Deny reasons.OutOfMemory)
 
+-- `Keeps` holds of the pattern of each rule.
+abbrev pub EachKeeps : {E : Type 0} → (Keeps : PatternView E → Type 0) → UrlPolicy E → Type 0
+EachKeeps Keeps policy = All (λ pattern. Keeps (pattern_view pattern)) (keys_of policy.rules)
+
 -- If no texts are found that `one` allows and `other` denies, and both policies bring URLs to their
--- plain spelling or neither does, then `other` allows each URL that `one` allows.
-abbrev pub NoDifferenceAllows : {E : Type 0} → Engine E → Type 0
-NoDifferenceAllows {E} engine =
+-- plain spelling or neither does, then `other` allows each URL that `one` allows, if `Keeps` holds
+-- of each pattern.
+abbrev pub NoDifferenceAllows : {E : Type 0} → Engine E → (Keeps : PatternView E → Type 0) → Type 0
+NoDifferenceAllows {E} engine Keeps =
     (one other : UrlPolicy E) (limits : Limits)
     → IsDifference engine limits one other differences.Nothing
+    → EachKeeps Keeps one → EachKeeps Keeps other
     → IsTrue (is_spelled_alike one.options other.options)
     → AllowsUrlsOf engine.answer other one
 
@@ -49,19 +57,22 @@ only_allows plain_spelling pattern = record {
 
 -- If no texts are found that a policy allows and a pattern does not match, then a policy that
 -- allows only what the pattern matches, and spells URLs alike, allows each URL that the policy
--- allows.
-abbrev pub WithinAllows : {E : Type 0} → Engine E → Type 0
-WithinAllows {E} engine =
+-- allows, if `Keeps` holds of each pattern.
+abbrev pub WithinAllows : {E : Type 0} → Engine E → (Keeps : PatternView E → Type 0) → Type 0
+WithinAllows {E} engine Keeps =
     (policy : UrlPolicy E) (pattern : UrlPattern E) (limits : Limits)
     → IsWithin engine limits policy pattern differences.Nothing
+    → EachKeeps Keeps policy → Keeps (pattern_view pattern)
     → AllowsUrlsOf engine.answer (only_allows policy.options.plain_spelling pattern) policy
 
 -- ---- dead rules
 
--- No rule that is dead, by `dead`, the result of `dead_rules`, decides about a URL.
-abbrev pub DeadDecideNone : {E : Type 0} → Engine E → Type 0
-DeadDecideNone {E} engine =
+-- No rule that is dead, by `dead`, the result of `dead_rules`, decides about a URL, if `Keeps`
+-- holds of each pattern.
+abbrev pub DeadDecideNone : {E : Type 0} → Engine E → (Keeps : PatternView E → Type 0) → Type 0
+DeadDecideNone {E} engine Keeps =
     (policy : UrlPolicy E) (limits : Limits) (dead : List ℕ) → AreDead engine limits policy dead
+    → EachKeeps Keeps policy
     → (index : ℕ) → Contains dead index
     → (url : Parts) → IsValid url → (decision : Decision)
     → DecidesUrl engine.answer policy (texts_of_url url) decision
@@ -83,10 +94,11 @@ abbrev pub found_texts : DifferentTexts → Texts
 found_texts found = each (string_at found.texts)
 
 -- Texts that are found are decided as the difference says: the one policy allows them by the rule,
--- and the other denies them for the reason.
-abbrev pub FoundAreDecided : {E : Type 0} → Engine E → Type 0
-FoundAreDecided {E} engine =
+-- and the other denies them for the reason, if `Keeps` holds of each pattern.
+abbrev pub FoundAreDecided : {E : Type 0} → Engine E → (Keeps : PatternView E → Type 0) → Type 0
+FoundAreDecided {E} engine Keeps =
     (one other : UrlPolicy E) (limits : Limits) (found : DifferentTexts)
     → IsDifference engine limits one other (differences.Texts found)
+    → EachKeeps Keeps one → EachKeeps Keeps other
     → DecidesMatched engine.answer one (found_texts found) (Allow found.allowing)
     × DecidesMatched engine.answer other (found_texts found) (Deny found.denying)

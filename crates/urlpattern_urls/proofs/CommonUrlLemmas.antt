@@ -93,10 +93,7 @@ has_few way name component is = elim (name_cases name (own_component way)) [
 ]
 
 few_known : (component : ComponentParts) → HasFew component → IsKnown component
-few_known component (parts, few, is) = record {
-  generated = subst AreGenerated (sym is.are) few.generated;
-  case_kept = ap (λ (options : OptionsView). options.ignore_case) is.options;
-}
+few_known component (parts, few, is) = record { generated = subst AreGenerated (sym is.are) few.generated }
 
 -- A pattern of the four, with its automata.
 pub record IsOne (it : PatternAutomata) : Type 0 where
@@ -137,8 +134,8 @@ few_states it name (parts, few, is) none many =
     small_automata (it ∷ []) lack (All-cons Small it [] small (All-nil Small)) (it, refl, (none, many)) refl
 
 some_own : (component : ComponentParts) (found : Option PartsAutomaton) → IsAutomatonOrLacks component found → IsKnown component → ((¬ IsSome found) → ¬ LacksBy component reasons.TooMany) → IsSome found
-some_own component None (reasons.CustomExpression, lacks) known few = absurd (lacks known.generated)
-some_own component None (reasons.IgnoredCase, lacks) known few = absurd (false≢true (sym known.case_kept ∙ lacks))
+some_own component None (reasons.CustomExpression, lacks) known few = absurd (lacks.0 known.generated)
+some_own component None (reasons.IgnoredCase, lacks) known few = absurd (lacks.0 known.generated)
 some_own component None (reasons.TooMany, lacks) known few = absurd (few (λ some. false≢true some) lacks)
 some_own component (Some automaton) made known few = refl
 

@@ -4,6 +4,7 @@ ghost use Rattle.urlpattern.specs.Contending.{AreContentions, AreContentionsBy, 
 ghost use Rattle.urlpattern.specs.Reached.{LacksParts};
 ghost use Rattle.urlpattern_compare.specs.CommonTexts.{AreAutomata};
 ghost use Rattle.urlpattern_engine.specs.PatternRegexps.{pattern_engine};
+ghost use Rattle.urlpattern_laws.specs.PartReadings.{AnyPattern, KeepsCase};
 ghost use Rattle.urlpattern_matcher.specs.Regexes.{regex_engine};
 
 use super::UrlPatternList;
@@ -38,12 +39,13 @@ impl<R: RegExp> UrlPatternList<R> {
 /// In a list over `PatternRegexp` or `regex::Regex`, two patterns that contend for texts, as
 /// `contending` finds, both match these, and each matches some that the other does not. Of two
 /// patterns that are no pair, no texts without line feeds are matched by both, or one of the two
-/// matches all that the other does.
+/// matches all that the other does. Of `regex::Regex`, which does not ignore case, this is said of
+/// patterns that keep case in each component.
 pub fn contending_patterns_match()
-    ensures pattern_regexp { ContendingMatch pattern_engine }
-    ensures regex { ContendingMatch regex_engine }
-    ensures others_of_pattern_regexp { OthersDoNotContend pattern_engine }
-    ensures others_of_regex { OthersDoNotContend regex_engine }
+    ensures pattern_regexp { ContendingMatch pattern_engine AnyPattern }
+    ensures regex { ContendingMatch regex_engine KeepsCase }
+    ensures others_of_pattern_regexp { OthersDoNotContend pattern_engine AnyPattern }
+    ensures others_of_regex { OthersDoNotContend regex_engine KeepsCase }
 {}
 
 /// Returns the pairs of patterns with these automata that contend.

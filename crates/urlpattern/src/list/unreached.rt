@@ -4,6 +4,7 @@ ghost use Rattle.urlpattern.specs.Reached.{AreAppended, AreReachedBy, HaveAllAut
 ghost use Rattle.urlpattern_compare.specs.CommonTexts.{AreAutomata};
 ghost use Rattle.urlpattern_compare.specs.Reaching.{AreReached};
 ghost use Rattle.urlpattern_engine.specs.PatternRegexps.{pattern_engine};
+ghost use Rattle.urlpattern_laws.specs.PartReadings.{AnyPattern, KeepsCase};
 ghost use Rattle.urlpattern_matcher.specs.Regexes.{regex_engine};
 
 use super::UrlPatternList;
@@ -37,12 +38,13 @@ impl<R: RegExp> UrlPatternList<R> {
 
 /// In a list over `PatternRegexp` or `regex::Regex`, a pattern that others cover, as
 /// `reach_of_each` finds, is the first match of no URL. The texts that it finds are matched by
-/// their pattern, and by none before it.
+/// their pattern, and by none before it. Of `regex::Regex`, which does not ignore case, this is
+/// said of patterns that keep case in each component.
 pub fn unreachable_patterns_are_never_first()
-    ensures pattern_regexp { UnreachedAreNeverFirst pattern_engine }
-    ensures regex { UnreachedAreNeverFirst regex_engine }
-    ensures first_of_pattern_regexp { ReachedAreFirst pattern_engine }
-    ensures first_of_regex { ReachedAreFirst regex_engine }
+    ensures pattern_regexp { UnreachedAreNeverFirst pattern_engine AnyPattern }
+    ensures regex { UnreachedAreNeverFirst regex_engine KeepsCase }
+    ensures first_of_pattern_regexp { ReachedAreFirst pattern_engine AnyPattern }
+    ensures first_of_regex { ReachedAreFirst regex_engine KeepsCase }
 {}
 
 /// Returns whether each of the patterns is the first match of some texts, in order.

@@ -7,6 +7,7 @@ ghost use Rattle.urlpattern.specs.Routes.{Takes};
 ghost use Rattle.urlpattern.specs.declared.router.UrlPatternRouter.{UrlPatternRouter};
 ghost use Rattle.urlpattern_engine.specs.PatternRegexps.{pattern_engine};
 ghost use Rattle.urlpattern_engine.specs.declared.pattern_regexp.PatternRegexp.{PatternRegexp};
+ghost use Rattle.urlpattern_laws.specs.PartReadings.{AnyPattern, KeepsCase};
 ghost use Rattle.urlpattern_matcher.specs.Regexes.{regex_engine};
 
 use super::UrlPatternRouter;
@@ -18,12 +19,13 @@ use urlpattern_matcher::regexp::RegExp;
 use urlpattern_pattern::CompareError;
 
 /// In a router over `PatternRegexp` or `regex::Regex`, a route that others cover, as
-/// `reach_of_each` finds, serves no request with the method.
+/// `reach_of_each` finds, serves no request with the method. Of `regex::Regex`, which does not
+/// ignore case, this is said of patterns that keep case in each component.
 pub fn covered_routes_serve_nothing<T>()
     ensures pattern_regexp { (router : UrlPatternRouter T PatternRegexp) (method : List ℕ)
-        → CoveredServeNothing pattern_engine router method }
+        → CoveredServeNothing pattern_engine AnyPattern router method }
     ensures regex { (router : UrlPatternRouter T Regex) (method : List ℕ)
-        → CoveredServeNothing regex_engine router method }
+        → CoveredServeNothing regex_engine KeepsCase router method }
 {}
 
 impl<T, R: RegExp> UrlPatternRouter<T, R> {

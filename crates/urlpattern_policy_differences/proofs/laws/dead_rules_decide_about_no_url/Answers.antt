@@ -2,12 +2,13 @@ use Rattle.urlpattern_engine.proofs.AlikeLaws.{expressions_of_regex, own_express
 use Rattle.urlpattern_engine.specs.PatternRegexps.{pattern_engine}
 use Rattle.urlpattern_laws.proofs.EngineParts.{pattern_parts_mean, regex_parts_mean}
 use Rattle.urlpattern_laws.proofs.SameMatchers.{made_matched}
+use Rattle.urlpattern_laws.specs.PartReadings.{AnyPattern, KeepsCase}
 use Rattle.urlpattern_matcher.specs.Regexes.{regex_engine}
 use Rattle.urlpattern_policy_differences.proofs.DeadLaws.{dead_decide_none}
 use Rattle.urlpattern_policy_differences.proofs.laws.dead_rules_decide_about_no_url.Goals as goal
 
 pub returns-clause-pattern_regexp : goal.returns-clause-pattern_regexp
-returns-clause-pattern_regexp c = dead_decide_none pattern_engine pattern_parts_mean (made_matched pattern_engine own_expressions)
+returns-clause-pattern_regexp c = dead_decide_none pattern_engine AnyPattern pattern_parts_mean (made_matched pattern_engine own_expressions)
 
 pub returns-clause-regex : goal.returns-clause-regex
-returns-clause-regex c = dead_decide_none regex_engine regex_parts_mean (made_matched regex_engine expressions_of_regex)
+returns-clause-regex c = dead_decide_none regex_engine KeepsCase regex_parts_mean (made_matched regex_engine expressions_of_regex)

@@ -3,17 +3,18 @@ use Rattle.urlpattern_engine.proofs.AlikeLaws.{expressions_of_regex, own_express
 use Rattle.urlpattern_engine.specs.PatternRegexps.{pattern_engine}
 use Rattle.urlpattern_laws.proofs.EngineParts.{pattern_parts_mean, regex_parts_mean}
 use Rattle.urlpattern_laws.proofs.SameMatchers.{made_matched}
+use Rattle.urlpattern_laws.specs.PartReadings.{AnyPattern, KeepsCase}
 use Rattle.urlpattern_matcher.specs.Regexes.{regex_engine}
 use Rattle.urlpattern.proofs.list.unreached.unreachable_patterns_are_never_first.Goals as goal
 
 pub returns-clause-pattern_regexp : goal.returns-clause-pattern_regexp
-returns-clause-pattern_regexp c = never_first pattern_engine pattern_parts_mean (made_matched pattern_engine own_expressions)
+returns-clause-pattern_regexp c = never_first pattern_engine AnyPattern pattern_parts_mean (made_matched pattern_engine own_expressions)
 
 pub returns-clause-regex : goal.returns-clause-regex
-returns-clause-regex c = never_first regex_engine regex_parts_mean (made_matched regex_engine expressions_of_regex)
+returns-clause-regex c = never_first regex_engine KeepsCase regex_parts_mean (made_matched regex_engine expressions_of_regex)
 
 pub returns-clause-first_of_pattern_regexp : goal.returns-clause-first_of_pattern_regexp
-returns-clause-first_of_pattern_regexp c = reached_first pattern_engine pattern_parts_mean (made_matched pattern_engine own_expressions)
+returns-clause-first_of_pattern_regexp c = reached_first pattern_engine AnyPattern pattern_parts_mean (made_matched pattern_engine own_expressions)
 
 pub returns-clause-first_of_regex : goal.returns-clause-first_of_regex
-returns-clause-first_of_regex c = reached_first regex_engine regex_parts_mean (made_matched regex_engine expressions_of_regex)
+returns-clause-first_of_regex c = reached_first regex_engine KeepsCase regex_parts_mean (made_matched regex_engine expressions_of_regex)
