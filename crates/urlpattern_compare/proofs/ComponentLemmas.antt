@@ -1,5 +1,5 @@
 -- Comparisons of one component.
-use Rattle.std.proofs.Common.{◌≡◌, ◌∙◌, ℕ, Bool, true, false, List, [], ◌∷◌, ◌++◌, ap₂, inl, inr, map, refl, sym, subst, append-nil, Some}
+use Rattle.std.proofs.Common.{◌≡◌, ◌∙◌, ℕ, Bool, true, false, List, [], ◌∷◌, ◌++◌, ap₂, inl, inr, map, refl, sym, subst, append-nil}
 use Rattle.std.specs.Prelude.{◌==◌, ◌&&◌, IsTrue, not}
 use Rattle.urlpattern_compare.specs.Answers.{IsCovering, IsOverlap, IsReason}
 use Rattle.urlpattern_compare.specs.MeantTexts.{MeansText}
@@ -28,24 +28,8 @@ pub wildcard_means : (options : OptionsView) (text : List ℕ) → IsTrue (lacks
 wildcard_means options text line =
     let read = map (folded_character options.ignore_case) text in
     let plain : IsTrue (lacks line_feed read) = lowered_lacks options.ignore_case text ∙ line in
-    let whole : read ≡ read ++ [] = sym (append-nil read) in (
-      Some read ∷ [],
-      (
-        read,
-        [],
-        Some read ∷ [],
-        [],
-        whole,
-        refl,
-        record {
-          count = 1;
-          allowed = refl;
-          are_copies = (read, [], whole, (read, whole, plain), refl);
-          are_captures = (Some read, (read, whole, refl), refl);
-        },
-        (refl, refl),
-      ),
-    )
+    let whole : read ≡ read ++ [] = sym (append-nil read) in
+    (read, [], whole, (1, refl, (read, [], whole, (read, whole, plain), refl)), refl)
 
 -- ---- results of lists of parts
 

@@ -4,6 +4,7 @@ use Rattle.std.proofs.lemmas.Str.{scalars-chars, IsUtf8-string_bytes}
 use Rattle.std.specs.Prelude.{IsSomeAnd, IsTrue, String, string_bytes}
 use Rattle.std.specs.Str.{all_scalars}
 use Rattle.std.specs.declared.alloc.Global.{Global}
+use Rattle.urlpattern_compare.proofs.AnswerLemmas.{told_generated}
 use Rattle.urlpattern_compare.proofs.SameParts.{same_within}
 use Rattle.urlpattern_compare.specs.Comparing.{AreApart, AreSame, IsCommonText, IsComponentCovered, IsKnown, IsOnlyIn, IsReasonFor, IsReasonToShare}
 use Rattle.urlpattern_compare.specs.DecidedComparisons.{ApartAreKnown, EqualAreCovered, PartedAreKnown}
@@ -12,17 +13,17 @@ use Rattle.urlpattern_compare.specs.declared.coverage.Reason.TheVariants as reas
 use Rattle.urlpattern_compare.specs.declared.pattern_parts.PatternCovering.TheVariants as answers
 use Rattle.urlpattern_compare.specs.declared.pattern_parts.PatternOverlap.TheVariants as commons
 use Rattle.urlpattern_components.specs.Eight.{at}
-use Rattle.urlpattern_syntax.specs.Text.{text_of}
+use Rattle.urlpattern_syntax.specs.{Options.options_view, Parts.parts_view, Text.text_of}
 use Rattle.urlpattern_syntax.specs.declared.parts.ComponentParts.{ComponentParts}
 
 -- ---- one component
 
 -- If both meanings are known, the work is too much.
 known_reason : (component other : ComponentParts) (reason : Reason) → IsKnown component → IsKnown other → IsReasonFor component other reason → IsReasonFor component other reasons.TooMany
-known_reason component other reasons.CustomExpression known other_known (inl is) = absurd (is.0 other_known.generated)
-known_reason component other reasons.CustomExpression known other_known (inr is) = absurd (is.0 known.generated)
-known_reason component other reasons.IgnoredCase known other_known (inl is) = absurd (is.0 other_known.generated)
-known_reason component other reasons.IgnoredCase known other_known (inr is) = absurd (is.0 known.generated)
+known_reason component other reasons.CustomExpression known other_known (inl is) = absurd (is.0 other_known.simple)
+known_reason component other reasons.CustomExpression known other_known (inr is) = absurd (is.0 known.simple)
+known_reason component other reasons.IgnoredCase known other_known (inl is) = absurd (is.0 (told_generated (options_view other.options) (parts_view other.parts.items) other_known is.1))
+known_reason component other reasons.IgnoredCase known other_known (inr is) = absurd (is.0 (told_generated (options_view component.options) (parts_view component.parts.items) known is.1))
 known_reason component other reasons.TooMany known other_known is = is
 
 uncovered : (component asked : ComponentParts) (text : List ℕ) → IsTrue (all_scalars text) → IsOnlyIn component asked text → ¬ IsComponentCovered component asked

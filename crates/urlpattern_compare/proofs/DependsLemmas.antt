@@ -7,6 +7,8 @@ use Rattle.std.proofs.lemmas.Option.{get_or_from_slice_get, slice_get-get_or, sl
 use Rattle.std.specs.List.{All, Contains}
 use Rattle.std.specs.Option.{IsSome}
 use Rattle.std.specs.Prelude.{IsTrue, slice_get}
+use Rattle.std.specs.Str.{all_scalars}
+use Rattle.urlpattern_compare.proofs.AnswerLemmas.{told_generated}
 use Rattle.urlpattern_compare.proofs.CandidateLemmas.{all_back, all_front}
 use Rattle.urlpattern_compare.proofs.CommonLemmas.{accepts_means, all_unmap}
 use Rattle.urlpattern_compare.proofs.SameDecided.{dec_same, holds, holds_alike, holds_if, if_holds, same_trans}
@@ -26,6 +28,7 @@ use Rattle.urlpattern_compare.specs.declared.parts_automaton.PartsAutomaton.{Par
 use Rattle.urlpattern_components.proofs.EightLemmas.{of_each}
 use Rattle.urlpattern_components.specs.Eight.{at, components}
 use Rattle.urlpattern_components.specs.declared.eight.ComponentName.{ComponentName}
+use Rattle.urlpattern_syntax.specs.{Options.options_view, Parts.parts_view}
 use Rattle.urlpattern_syntax.specs.declared.parts.ComponentParts.{ComponentParts}
 
 -- ---- components
@@ -45,10 +48,10 @@ settled_some component known settled = elim settled [
   | inr unknown ↦ unknown known
 ]
 
-said_means : (free : Bool) (component : ComponentParts) (found : Option PartsAutomaton) (text : List ℕ) → IsAutomatonOrLacks component found → IsSettled component found → IsKnown component →
+said_means : (free : Bool) (component : ComponentParts) (found : Option PartsAutomaton) (text : List ℕ) → IsTrue (all_scalars text) → IsAutomatonOrLacks component found → IsSettled component found → IsKnown component →
     IsTrue (said free found text) ↔ MeansIn component text
-said_means free component None text made settled known = absurd (settled_some component known settled)
-said_means free component (Some automaton) text made settled known = accepts_means component automaton text made
+said_means free component None text good made settled known = absurd (settled_some component known settled)
+said_means free component (Some automaton) text good made settled known = accepts_means component automaton text good made
 
 same_known : (component other : ComponentParts) → AreSame component other → IsKnown component → IsKnown other
 same_known component other same known = (same_within component other same known).asked_known
@@ -60,8 +63,8 @@ said_alike free other_free component other None (Some automaton) text made other
     absurd (settled_some component (same_known other component (same_flips component other same) other_made.known) settled)
 said_alike free other_free component other (Some automaton) None text made other_made settled other_settled same line e = absurd (settled_some other (same_known component other same made.known) other_settled)
 said_alike free other_free component other (Some automaton) (Some another) text made other_made settled other_settled same line e =
-    let own = accepts_means component automaton text made in
-    let its = accepts_means other another text other_made in
+    let own = accepts_means component automaton text line.scalars made in
+    let its = accepts_means other another text line.scalars other_made in
     let to = same_within component other same made.known in
     let from = same_within other component (same_flips component other same) other_made.known in
     same_from_decides (accepts automaton text) (accepts another text) own
@@ -106,7 +109,7 @@ Agree free other_free it other =
 
 by_automata : (free : Free) (it : PatternAutomata) → AreAutomata it → AreSettled it → MeansByParts (meaning_by free it)
 by_automata free it made settled = λ name known text line.
-    said_means (free name (at it.parts.components name)) (at it.parts.components name) (at it.automata name) text (made name) (settled name) known
+    said_means (free name (at it.parts.components name)) (at it.parts.components name) (at it.automata name) text line.scalars (made name) (settled name) known
 
 alike_by : (free other_free : Free) (it other : PatternAutomata) → AreAutomata it → AreAutomata other → AreSettled it → AreSettled other → Agree free other_free it other →
     MeanAlike (meaning_by free it) (meaning_by other_free other)
@@ -256,8 +259,8 @@ all_or P R Q (x ∷ xs) f all = elim (f x (All-head R x xs all)) [
 
 -- A component without automaton is settled, or needs too many states.
 settled_or : (component : ComponentParts) (found : Option PartsAutomaton) → IsAutomatonOrLacks component found → IsSettled component found ⊎ ((¬ IsSome found) × LacksBy component reasons.TooMany)
-settled_or component None (reasons.CustomExpression, lacks) = inl (inr (λ known. lacks.0 known.generated))
-settled_or component None (reasons.IgnoredCase, lacks) = inl (inr (λ known. lacks.0 known.generated))
+settled_or component None (reasons.CustomExpression, lacks) = inl (inr (λ known. lacks.0 known.simple))
+settled_or component None (reasons.IgnoredCase, lacks) = inl (inr (λ known. lacks.0 (told_generated (options_view component.options) (parts_view component.parts.items) known lacks.1)))
 settled_or component None (reasons.TooMany, lacks) = inr (λ some. false≢true some, lacks)
 settled_or component (Some automaton) made = inl (inl refl)
 

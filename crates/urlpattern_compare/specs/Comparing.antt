@@ -5,7 +5,7 @@ use Rattle.std.specs.Prelude.{◌≡◌, ◌⊎◌, ℕ, All, Bool, true, Option
 use Rattle.std.specs.declared.alloc.Global.{Global}
 use Rattle.std.specs.List.{slice_get}
 use Rattle.std.specs.Str.{all_scalars}
-use Rattle.urlpattern_compare.specs.Answers.{IsReason, IsUntold}
+use Rattle.urlpattern_compare.specs.Answers.{IsReason, IsTold, IsUntold}
 use Rattle.urlpattern_compare.specs.MeantTexts.{MeansText}
 use Rattle.urlpattern_compare.specs.declared.coverage.Covering.{Covering}
 use Rattle.urlpattern_compare.specs.declared.coverage.Covering.TheVariants as coverings
@@ -35,26 +35,27 @@ abbrev pub MeansIn : ComponentParts → (text : List ℕ) → Type 0
 MeansIn component text =
     MeansText (options_view component.options) (parts_view component.parts.items) text
 
--- The parts tell which texts the component matches: no part is a custom regular expression.
-pub record IsKnown (component : ComponentParts) : Type 0 where
-  pub generated : AreGenerated (parts_view component.parts.items)
+-- The parts tell which texts the component matches: custom expressions are simple, and case is kept
+-- if there is one.
+abbrev pub IsKnown : ComponentParts → Type 0
+IsKnown component = IsTold (options_view component.options) (parts_view component.parts.items)
 
--- `reason` is why the parts do not tell which texts the component matches: a part is custom, and
--- case is kept or ignored.
+-- `reason` is why the parts do not tell which texts the component matches: an expression is not
+-- simple, or a part is custom and case is ignored.
 abbrev pub IsUnknownBy : ComponentParts → Reason → Type 0
 IsUnknownBy component =
     IsUntold (options_view component.options) (parts_view component.parts.items)
 
--- `reason` is a reason why it is not known whether a text exists that both components match: a part
--- is custom in one of them, or the search among the texts of the first is too much work.
+-- `reason` is a reason why it is not known whether a text exists that both components match: the
+-- parts of one do not tell, or the search among the texts of the first is too much work.
 abbrev pub IsReasonToShare : (component other : ComponentParts) → Reason → Type 0
 IsReasonToShare component other =
     IsReason (options_view component.options) (parts_view component.parts.items)
     (options_view other.options) (parts_view other.parts.items)
 
 -- `reason` is a reason why it is not known whether a text exists that only the asked component
--- matches: a part is custom in one of the two, or the search among the texts of the asked one is
--- too much work.
+-- matches: the parts of one of the two do not tell, or the search among the texts of the asked one
+-- is too much work.
 abbrev pub IsReasonFor : (component asked : ComponentParts) → Reason → Type 0
 IsReasonFor component asked = IsReasonToShare asked component
 
@@ -77,27 +78,27 @@ IsReasonAlone component =
     IsReason (options_view component.options) (parts_view component.parts.items) default_options
     (anything_part ∷ [])
 
--- The component matches each text without line feed; no part is custom.
+-- The component matches each text without line feed; its parts tell.
 pub record MatchesEveryLine (component : ComponentParts) : Type 0 where
   pub known : IsKnown component
   pub takes : (text : List ℕ) → IsTrue (all_scalars text) → IsTrue (lacks line_feed text)
       → MeansIn component text
 
--- The component matches no text without line feed; no part is custom.
+-- The component matches no text without line feed; its parts tell.
 pub record MatchesNoLine (component : ComponentParts) : Type 0 where
   pub known : IsKnown component
   pub takes_none : (text : List ℕ) → IsTrue (all_scalars text) → IsTrue (lacks line_feed text)
       → ¬ MeansIn component text
 
--- The component matches each text without line feed that the asked one matches; in each, no part is
--- custom.
+-- The component matches each text without line feed that the asked one matches; the parts of each
+-- tell.
 pub record MeansAllOf (component asked : ComponentParts) : Type 0 where
   pub known : IsKnown component
   pub asked_known : IsKnown asked
   pub within : (text : List ℕ) → IsTrue (all_scalars text) → IsTrue (lacks line_feed text)
       → MeansIn asked text → MeansIn component text
 
--- The component matches the text, which has no line feed; no part is custom.
+-- The component matches the text, which has no line feed; its parts tell.
 pub record IsMeantBy (component : ComponentParts) (text : List ℕ) : Type 0 where
   pub known : IsKnown component
   pub means : MeansIn component text
@@ -109,7 +110,7 @@ pub record IsOnlyIn (component asked : ComponentParts) (text : List ℕ) : Type 
   pub meant : IsMeantBy asked text
   pub not_meant : ¬ MeansIn component text
 
--- No text without line feed exists that both components match; in each, no part is custom.
+-- No text without line feed exists that both components match; the parts of each tell.
 pub record AreApart (component other : ComponentParts) : Type 0 where
   pub known : IsKnown component
   pub other_known : IsKnown other

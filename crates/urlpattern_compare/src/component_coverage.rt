@@ -33,25 +33,34 @@ fn anything(alloc: Global) -> Result<ComponentParts, AllocError>
     })
 }
 
-/// Returns why the parts of `component` do not tell which texts it matches: a part is a custom
-/// regular expression. `None`: the parts tell.
-pub(crate) fn unknown(component: &ComponentParts) -> Option<Reason>
-    ensures known { IfNone result (IsKnown component.now) }
-    ensures reason { IfSome result (IsUnknownBy component.now) }
+/// Returns why the parts of `component` do not tell which texts it matches: a custom regular
+/// expression is not simple, or case is ignored. `None`: the parts tell.
+pub(crate) fn unknown(
+    alloc: Global,
+    component: &ComponentParts,
+) -> Result<Option<Reason>, AllocError>
+    ensures known { IfOk result (λ found. IfNone found (IsKnown component.now)) }
+    ensures reason { IfOk result (λ found. IfSome found (IsUnknownBy component.now)) }
 {
-    untold(&component.options, &component.parts)
+    untold(alloc, &component.options, &component.parts)
 }
 
 /// Returns why the parts of two components do not tell which texts each matches. `None`: the parts
 /// tell.
-fn unknown_with(component: &ComponentParts, other: &ComponentParts) -> Option<Reason>
-    ensures known { IfNone result (IsKnown component.now × IsKnown other.now) }
-    ensures reason { IfSome result (IsReasonFor component.now other.now) }
-    ensures shared { IfSome result (IsReasonToShare component.now other.now) }
+fn unknown_with(
+    alloc: Global,
+    component: &ComponentParts,
+    other: &ComponentParts,
+) -> Result<Option<Reason>, AllocError>
+    ensures known { IfOk result (λ found.
+        IfNone found (IsKnown component.now × IsKnown other.now)) }
+    ensures reason { IfOk result (λ found. IfSome found (IsReasonFor component.now other.now)) }
+    ensures shared { IfOk result (λ found.
+        IfSome found (IsReasonToShare component.now other.now)) }
 {
-    match unknown(component) {
-        Some(reason) => Some(reason),
-        None => unknown(other),
+    match unknown(alloc, component)? {
+        Some(reason) => Ok(Some(reason)),
+        None => unknown(alloc, other),
     }
 }
 
@@ -60,13 +69,13 @@ fn unknown_with(component: &ComponentParts, other: &ComponentParts) -> Option<Re
 fn matches_every_line(alloc: Global, component: &ComponentParts) -> Result<bool, AllocError>
     ensures { IfOk result (DecidesEveryLine component.now) }
 {
-    match unknown(component) {
+    match unknown(alloc, component)? {
         Some(_) => Ok(false),
         None => covers_anything(alloc, component),
     }
 }
 
-/// Whether `component`, of which no part is custom, is known to match each text without line feed.
+/// Whether `component`, whose parts tell, is known to match each text without line feed.
 /// `false`: a text does not match, or the comparison is given up (`TooMany`).
 fn covers_anything(alloc: Global, component: &ComponentParts) -> Result<bool, AllocError>
     requires { IsKnown component.now }
@@ -142,7 +151,7 @@ fn covers_by_meaning(
 ) -> Result<Covering, AllocError>
     ensures { IfOk result (IsCoveringByMeaning component.now asked.now) }
 {
-    match unknown_with(component, asked) {
+    match unknown_with(alloc, component, asked)? {
         None => covers(
             alloc,
             &component.options,
@@ -162,7 +171,7 @@ pub(crate) fn component_overlaps(
 ) -> Result<Overlap, AllocError>
     ensures { IfOk result (IsComponentOverlap component.now other.now) }
 {
-    match unknown_with(component, other) {
+    match unknown_with(alloc, component, other)? {
         None => overlaps(
             alloc,
             &component.options,
@@ -182,14 +191,14 @@ pub(crate) fn component_example(
 ) -> Result<Overlap, AllocError>
     ensures { IfOk result (IsExample component.now) }
 {
-    match unknown(component) {
+    match unknown(alloc, component)? {
         None => common_with_anything(alloc, component),
         Some(reason) => Ok(Overlap::Unknown(reason)),
     }
 }
 
-/// Returns as `Common` a text without line feed that `component`, of which no part is custom,
-/// matches. `Apart`: no such text exists.
+/// Returns as `Common` a text without line feed that `component`, whose parts tell, matches.
+/// `Apart`: no such text exists.
 fn common_with_anything(alloc: Global, component: &ComponentParts) -> Result<Overlap, AllocError>
     requires { IsKnown component.now }
     ensures { IfOk result (IsExample component.now) }

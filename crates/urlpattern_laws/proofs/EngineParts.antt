@@ -11,18 +11,17 @@ use Rattle.urlpattern_compile.specs.Compiled.{settings_of}
 use Rattle.urlpattern_matcher.specs.Components.{IsEngineOf, engine_flags}
 use Rattle.urlpattern_pattern.proofs.ByTextLemmas.{component_by, pattern_by}
 use Rattle.urlpattern_pattern.specs.ByTextLaws.{PatternsReturnByText}
-use Rattle.urlpattern_laws.proofs.SimpleMatchers.{generated_first, matcher_of_middle}
+use Rattle.urlpattern_laws.proofs.SimpleMatchers.{matcher_of_middle, pattern_makes_first_ways, regex_makes_first_ways}
 use Rattle.urlpattern_laws.specs.PartReadings.{AnyPattern, KeepsCase, OwnPartsMean}
-use Rattle.urlpattern_engine.proofs.RegexMatchers as regex
 
 pub parts_mean_by_first_ways : {E : Type 0} (engine : Engine E) → MakesFirstWays engine → OwnPartsMean engine KeepsCase
-parts_mean_by_first_ways engine firsts = own_parts_mean engine AcceptedAlone (generated_first engine firsts) (λ options inner took. (flags_agree options, took))
+parts_mean_by_first_ways engine firsts = own_parts_mean engine AcceptedAlone firsts (λ options inner took. (flags_agree options, took))
 
 pub pattern_parts_mean : OwnPartsMean pattern_engine AnyPattern
-pattern_parts_mean = all_parts_mean pattern_engine _ own.taken_first own.values_by_flags (λ options inner took. flags_agree options)
+pattern_parts_mean = all_parts_mean pattern_engine AcceptedAlone pattern_makes_first_ways own.values_by_flags (λ options inner took. (flags_agree options, took))
 
 pub regex_parts_mean : OwnPartsMean regex_engine KeepsCase
-regex_parts_mean = own_parts_mean regex_engine _ regex.taken_first (λ options inner took. took)
+regex_parts_mean = own_parts_mean regex_engine AcceptedAlone regex_makes_first_ways (λ options inner took. (flags_agree options, took))
 
 -- The values of the engine that are called return first ways.
 pub pattern_by_engines : {E : Type 0} (engine : Engine E) → PatternsReturnByText engine

@@ -1,8 +1,8 @@
 //! Laws of patterns and their parts.
 //!
-//! Parts *mean* a text if they match it by the definition `PartsMean`, without an engine; where
+//! Parts *mean* a text if they match it by the definition `PartsMatch`, without an engine; where
 //! case is ignored, ASCII letters of both are compared in lower case. Their meaning is *known* if
-//! no part is custom.
+//! custom regular expressions are simple, and case is kept if there is one.
 //!
 //! Each function has an empty body; its contract is a theorem.
 
@@ -14,9 +14,9 @@ ghost use Rattle.urlpattern_laws.specs.PartReadings.{AnyPattern, ApartMatchNothi
 use urlpattern_matcher::regexp::RegExp;
 
 /// A pattern that `PatternRegexp` or `regex::Regex` made of parts matches a text without line feeds
-/// in a component exactly if the component's parts mean the text, if their meaning is known: no
-/// part is custom. Of `regex::Regex`, which does not ignore case, this is said of patterns that
-/// keep case in each component.
+/// in a component exactly if the component's parts mean the text, if their meaning is known. Of
+/// `regex::Regex`, which does not ignore case, this is said of patterns that keep case in each
+/// component.
 pub fn patterns_match_what_their_parts_mean()
     ensures pattern_regexp { OwnPartsMean pattern_engine AnyPattern }
     ensures regex { OwnPartsMean regex_engine KeepsCase }
@@ -52,7 +52,7 @@ pub fn covered_patterns_match<R: RegExp>()
 /// matches what its parts mean, where their meaning is known.
 ///
 /// A pattern that covers another covers it by meaning, if the meaning of any two components with
-/// equal parts is known: if no part is custom.
+/// equal parts is known.
 pub fn patterns_covered_by_meaning_match<R: RegExp>()
     ensures covered { CoveredByMeaningAreMatched R.answer }
     ensures known { KnownAreCoveredByMeaning }

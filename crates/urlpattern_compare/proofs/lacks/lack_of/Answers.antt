@@ -29,12 +29,12 @@ reason_of-reason-requires c =
     (λ some. false≢true (sym c.if-not-is_sure_in.true ∙ c.is_sure_in.ensures.1 (inr some))) in
     (lacks.0, subst (λ o. LacksBy o lacks.0) (sym c.get.ensures) lacks.1)
 
-pub returns-then-not-is_sure_in-clause-some : goal.returns-then-not-is_sure_in-clause-some
-returns-then-not-is_sure_in-clause-some c = (
+pub returns-in_ok-reason-clause-some : goal.returns-in_ok-reason-clause-some
+returns-in_ok-reason-clause-some c = (
   refl,
   (
     λ some. false≢true (sym c.if-not-is_sure_in.true ∙ c.is_sure_in.ensures.1 (inr some)),
-    subst (λ o. LacksBy o c.reason_of-reason.result) c.get.ensures c.reason_of-reason.ensures,
+    subst (λ o. LacksBy o c.in_ok-reason.reason) c.get.ensures c.in_ok-reason.ensures,
   ),
 )
 
