@@ -143,8 +143,4 @@ impl<'m, 'u, T, R: RegExp> Iterator for AllowedMethods<'m, 'u, T, R> {
             }
         }
     }
-
-    fn size_hint(&self) -> (usize, Option<usize>) {
-        (0, None)
-    }
 }
