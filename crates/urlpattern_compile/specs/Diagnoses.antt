@@ -179,14 +179,14 @@ AcceptsParts engine settings pattern (errors.Url reason) = AcceptsRuns settings 
 AcceptsParts engine settings pattern (errors.RegExp reason) = AcceptsExpressions engine pattern
 AcceptsParts engine settings pattern other = ⊤
 
--- The fault is in a part of the pattern that is rejected also by itself: in a run of characters if
--- `url` reported the error, in a custom expression if an engine did.
+-- The fault is in the first part of the pattern that is rejected also by itself: in a run of
+-- characters if `url` reported the error, in a custom expression if an engine did.
 abbrev pub IsFaultOfRejectedPart : {E : Type 0} → Engine E → ParseSettings → (pattern : List ℕ)
     → Error → Fault → Type 0
 IsFaultOfRejectedPart engine settings pattern (errors.Url reason) fault =
-    IsRunFault (IsRejectedByUrl settings) pattern fault
+    IsRunFault (IsAcceptedByUrl settings) (IsRejectedByUrl settings) pattern fault
 IsFaultOfRejectedPart engine settings pattern (errors.RegExp reason) fault =
-    IsExpressionFault (IsRejectedByEngine engine) pattern fault
+    IsExpressionFault (IsAcceptedByEngine engine) (IsRejectedByEngine engine) pattern fault
 IsFaultOfRejectedPart engine settings pattern other fault = ⊥
 
 -- ---- where a text has a component

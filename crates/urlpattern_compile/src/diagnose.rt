@@ -308,8 +308,8 @@ impl Compiler<'_> {
     /// Returns the fault of the first custom expression of a pattern that the engine rejects also
     /// by itself. `None`: the engine accepts each.
     fn rejected_expression<R: RegExp>(&self, pattern: &str) -> Result<Option<Fault>, OutOfMemory>
-        ensures part { IfOk result (λ found.
-            IfSome found (IsExpressionFault (IsRejectedByEngine R.RegExp) pattern.now)) }
+        ensures part { IfOk result (λ found. IfSome found (IsExpressionFault
+            (IsAcceptedByEngine R.RegExp) (IsRejectedByEngine R.RegExp) pattern.now)) }
         ensures accepted { IfOk result (λ found.
             IfNone found (AcceptsExpressions R.RegExp pattern.now)) }
         ensures within { IfOk result (λ found. IfSome found (IsFaultIn pattern.now)) }
@@ -343,6 +343,7 @@ impl Compiler<'_> {
         pattern: &str,
     ) -> Result<Option<Fault>, OutOfMemory>
         ensures part { IfOk result (λ found. IfSome found (IsRunFault
+            (IsAcceptedByUrl (settings_by self.now hierarchical component))
             (IsRejectedByUrl (settings_by self.now hierarchical component)) pattern.now)) }
         ensures accepted { IfOk result (λ found. IfNone found
             (AcceptsRuns (settings_by self.now hierarchical component) pattern.now)) }

@@ -5,9 +5,9 @@ use Rattle.std.specs.Option.{option_or}
 use Rattle.std.specs.List.{last_or}
 use Rattle.std.proofs.lemmas.Bool.{and_parts}
 use Rattle.std.proofs.lemmas.Grind.{flat_map-append}
-use Rattle.std.proofs.lemmas.List.{append-nil, get_or_at, take-append-drop, take_at, take_more}
+use Rattle.std.proofs.lemmas.List.{append-nil, get_or_at, length-take-le, take-append-drop, take_at, take_more}
 use Rattle.std.proofs.lemmas.List.Folds.{list_all-append}
-use Rattle.urlpattern_diagnosis.specs.Faults.{EachRun, IsRunAt, are_characters, is_character, values_of}
+use Rattle.urlpattern_diagnosis.specs.Faults.{EachRun, IsFirstRun, IsRunAt, are_characters, is_character, values_of}
 use Rattle.urlpattern_diagnosis.specs.Spans.{IsSpanAt}
 use Rattle.urlpattern_diagnosis.specs.declared.span.Span.{Span}
 use Rattle.urlpattern_syntax.specs.declared.tokenizer.Token.{Token}
@@ -66,6 +66,26 @@ one_row (token ∷ before) [] row rest e a b are all = absurd (not_first token b
 one_row (token ∷ before) (same ∷ other) row rest e a b are all =
     one_row before other row rest (ap (drop 1) e) (apart_after token before a) (apart_after same other b) are all
 
+-- ---- runs in front of others
+
+-- A run among the first tokens is one among all of them.
+run_in : {bytes : List ℕ} {tokens : List Token} (before row rest : List Token) → tokens ≡ (before ++ row) ++ rest → (value : List ℕ) (span : Span) → IsRunAt bytes before value span → IsRunAt bytes tokens value span
+run_in before row rest cut value span own =
+    let inner = own.before ++ own.first ∷ own.row in
+    record {
+      before = own.before;
+      first = own.first;
+      row = own.row;
+      after = own.after;
+      behind = own.behind ++ (row ++ rest);
+      cut = cut ∙ append_assoc before row rest ∙ ap (λ x. x ++ (row ++ rest)) own.cut ∙ append_assoc inner (own.after ∷ own.behind) (row ++ rest);
+      begins = own.begins;
+      is_row = own.is_row;
+      ends = own.ends;
+      is_value = own.is_value;
+      there = own.there;
+    }
+
 -- ---- one token more
 
 pub no_run : EndInRun [] None []
@@ -115,31 +135,46 @@ module _ (bytes : List ℕ) (tokens : List Token) (i : ℕ) (d : Token) (lt : i 
         is_value = refl;
       }
 
-  pub run_ended : (value : List ℕ) (start : ℕ) (span : Span) → EndInRun (take i tokens) (Some start) value → is_character (get_or tokens i d).kind ≡ false → IsSpanAt bytes start ((get_or tokens i d).index - start) span →
-      IsRunAt bytes tokens value span
-  run_ended value start span run is at = by_row run.row refl
+  short : (before row : List Token) (first : Token) → take i tokens ≡ before ++ first ∷ row → (value : List ℕ) (span : Span) (own : IsRunAt bytes before value span) → length (own.before ++ own.first ∷ own.row) < i
+  short before row first front value span own =
+      let inner = own.before ++ own.first ∷ own.row in
+      let long : length before ≡ length inner + length (own.after ∷ own.behind) = ap length own.cut ∙ length-append inner (own.after ∷ own.behind) in
+      let all : i ≡ length before + length (first ∷ row) = sym (length-take-le i tokens (omega (arith, lt))) ∙ ap length front ∙ length-append before (first ∷ row) in
+      omega (arith, long, all)
+
+  -- The run at the end is the first for which `Rejects` holds.
+  pub run_ended : (Accepts Rejects : List ℕ → Type 0) (value : List ℕ) (start : ℕ) (span : Span) → EndInRun (take i tokens) (Some start) value → EachRunBefore Accepts bytes tokens i → Rejects value →
+      is_character (get_or tokens i d).kind ≡ false → IsSpanAt bytes start ((get_or tokens i d).index - start) span → IsFirstRun Accepts Rejects bytes tokens span
+  run_ended Accepts Rejects value start span run all rejected is at = by_row run.row refl
     where
       token : Token
       token = get_or tokens i d
 
-      by_row : (row : List Token) → run.row ≡ row → IsRunAt bytes tokens value span
+      by_row : (row : List Token) → run.row ≡ row → IsFirstRun Accepts Rejects bytes tokens span
       by_row [] e = let none = run.is_start ∙ ap first_index e in absurd cc
       by_row (first ∷ row) e =
           let same : start ≡ first.index = let some = run.is_start ∙ ap first_index e in cc in
-          record {
-            before = run.before;
-            first = first;
-            row = row;
-            after = get_or tokens i d;
-            behind = drop (i + 1) tokens;
-            cut = sym (take-append-drop i tokens) ∙ ap (λ x. take i tokens ++ x) (drop-cons tokens i d lt ∙ ap (λ n. get_or tokens i d ∷ drop n tokens) (sym (add-one i)))
-                ∙ ap (λ x. x ++ get_or tokens i d ∷ drop (i + 1) tokens) (run.cut ∙ ap (λ x. run.before ++ x) e);
-            begins = run.begins;
-            is_row = ap are_characters (sym e) ∙ run.is_row;
-            ends = is;
-            is_value = run.is_value ∙ ap values_of e;
-            there = subst (λ n. IsSpanAt bytes n ((get_or tokens i d).index - n) span) same at;
-          }
+          let front : take i tokens ≡ run.before ++ first ∷ row = run.cut ∙ ap (λ x. run.before ++ x) e in
+          let cut : tokens ≡ (run.before ++ first ∷ row) ++ get_or tokens i d ∷ drop (i + 1) tokens =
+          sym (take-append-drop i tokens) ∙ ap (λ x. take i tokens ++ x) (drop-cons tokens i d lt ∙ ap (λ n. get_or tokens i d ∷ drop n tokens) (sym (add-one i)))
+          ∙ ap (λ x. x ++ get_or tokens i d ∷ drop (i + 1) tokens) front in (
+            value,
+            record {
+              before = run.before;
+              first = first;
+              row = row;
+              after = get_or tokens i d;
+              behind = drop (i + 1) tokens;
+              cut = cut;
+              begins = run.begins;
+              is_row = ap are_characters (sym e) ∙ run.is_row;
+              ends = is;
+              is_value = run.is_value ∙ ap values_of e;
+              there = subst (λ n. IsSpanAt bytes n ((get_or tokens i d).index - n) span) same at;
+            },
+            rejected,
+            λ value span own. all value span (run_in run.before (first ∷ row) (get_or tokens i d ∷ drop (i + 1) tokens) cut value span own) (short run.before row first front value span own),
+          )
 
   module _ (Is : List ℕ → Type 0) (all : EachRunBefore Is bytes tokens i) where
     at_end : (value : List ℕ) (span : Span) (run : IsRunAt bytes tokens value span) → length (run.before ++ run.first ∷ run.row) ≡ i → (take i tokens ≡ run.before ++ run.first ∷ run.row) × (get_or tokens i d ≡ run.after)

@@ -1,7 +1,7 @@
 -- Where the pattern text of a component is at fault. Texts are their bytes. The pieces of a text
 -- are the characters, placeholders and groups as which a parser reads its tokens, up to the first
 -- token that begins no piece.
-use Rattle.std.specs.Prelude.{◌≡◌, ℕ, ◌+◌, ◌-◌, ◌⊎◌, ◌&&◌, ◌==◌, Bool, true, false, List, [], ◌∷◌, length, map, filter, take, drop, min, bytes_eq, Option, is_some, Some, None, IsSomeAnd, IfSome, MatchBool, string_bytes, ◌++◌, ◌||◌, MatchOption, codes, nat_eq, option_map, All, Contains, flat_map}
+use Rattle.std.specs.Prelude.{◌≡◌, ℕ, ◌+◌, ◌-◌, ◌⊎◌, ◌&&◌, ◌==◌, Bool, true, false, List, [], ◌∷◌, length, map, filter, take, drop, min, bytes_eq, Option, is_some, Some, None, IsSomeAnd, IfSome, MatchBool, string_bytes, ◌++◌, ◌||◌, MatchOption, codes, nat_eq, option_map, All, flat_map}
 use Rattle.std.specs.Borrow.{Bor}
 use Rattle.std.specs.List.{find, last_or, list_all, list_any, starts_with}
 use Rattle.std.specs.Str.{chars}
@@ -259,19 +259,22 @@ IsFaultOf component bytes point error fault =
 
 -- ---- where an engine or `url` rejects a part
 
--- `value` is a custom expression among the tokens of the text, and `body` is where the text has it,
--- without its parentheses.
-pub record IsExpressionAt (bytes : List ℕ) (tokens : List Token) (value : List ℕ) (body : Span)
-    : Type 0 where
-  pub token : Token
-  pub is_token : Contains tokens token
-  pub is_expression : token.kind ≡ Regexp
-  pub is_value : value ≡ token.value.now
-  pub there : IsSpanOfBody bytes token body
-
 -- `Is` holds of the value of each custom expression among the tokens.
 abbrev pub EachExpression : (Is : Bor (List ℕ) → Type 0) → List Token → Type 0
 EachExpression Is tokens = All (λ token. (token.kind ≡ Regexp) → Is token.value) tokens
+
+-- `body` is where the text has the first custom expression among the tokens for whose value
+-- `Rejects` holds, without its parentheses. `Accepts` holds of the value of each before it.
+pub record IsFirstExpression (Accepts Rejects : Bor (List ℕ) → Type 0) (bytes : List ℕ)
+    (tokens : List Token) (body : Span) : Type 0 where
+  pub before : List Token
+  pub token : Token
+  pub after : List Token
+  pub cut : tokens ≡ before ++ token ∷ after
+  pub are_accepted : EachExpression Accepts before
+  pub is_expression : token.kind ≡ Regexp
+  pub is_rejected : Rejects token.value
+  pub there : IsSpanOfBody bytes token body
 
 -- Whether a token of this kind is a character, escaped or not.
 abbrev pub is_character : TokenType → Bool
@@ -309,6 +312,19 @@ abbrev pub EachRun : (Is : List ℕ → Type 0) → (bytes : List ℕ) → List 
 EachRun Is bytes tokens =
     (value : List ℕ) → (run : Span) → IsRunAt bytes tokens value run → Is value
 
+-- `run` is where the text has the first run of characters among the tokens for whose value
+-- `Rejects` holds. `Accepts` holds of the value of each before it.
+abbrev pub IsFirstRun : (Accepts Rejects : List ℕ → Type 0) → (bytes : List ℕ) → List Token
+    → (run : Span) → Type 0
+IsFirstRun Accepts Rejects bytes tokens run =
+    (value : List ℕ) × (is : IsRunAt bytes tokens value run)
+    × Rejects value
+    × EachRun Accepts bytes is.before
+
+-- `Holds` is true of a borrow of the text.
+abbrev pub OfBorrow : (Holds : Bor (List ℕ) → Type 0) → (text : List ℕ) → Type 0
+OfBorrow Holds text = (value : Bor (List ℕ)) × (value.now ≡ text) × Holds value
+
 -- The fault is the custom expression `body`, or a part of it with the expression as the earlier
 -- part.
 abbrev pub IsFaultOfBody : (body : Span) → Fault → Type 0
@@ -316,21 +332,21 @@ IsFaultOfBody body fault =
     IsSingleSpan (λ span. span ≡ body) fault
     ⊎ (IsPartOf body fault.span × (fault.earlier ≡ Some body))
 
--- `Rejects` holds of a custom expression of the text, and the fault is the expression or a part of
--- it.
-abbrev pub IsExpressionFault : (Rejects : List ℕ → Type 0) → (bytes : List ℕ) → Fault → Type 0
-IsExpressionFault Rejects bytes fault =
-    (tokens : List Token) × (value : List ℕ) × (body : Span)
+-- The fault is the first custom expression of the text for which `Rejects` holds, or a part of it.
+-- `Accepts` holds of each before it.
+abbrev pub IsExpressionFault : (Accepts Rejects : List ℕ → Type 0) → (bytes : List ℕ) → Fault
+    → Type 0
+IsExpressionFault Accepts Rejects bytes fault =
+    (tokens : List Token) × (body : Span)
     × AreTokens (chars bytes) (map token_view tokens)
-    × IsExpressionAt bytes tokens value body
-    × Rejects value
+    × IsFirstExpression (λ value. Accepts value.now) (λ value. Rejects value.now) bytes tokens body
     × IsFaultOfBody body fault
 
--- `Rejects` holds of a run of characters of the text, and the fault is a part of the run.
-abbrev pub IsRunFault : (Rejects : List ℕ → Type 0) → (bytes : List ℕ) → Fault → Type 0
-IsRunFault Rejects bytes fault =
-    (tokens : List Token) × (value : List ℕ) × (run : Span)
+-- The fault is a part of the first run of characters of the text for which `Rejects` holds.
+-- `Accepts` holds of each before it.
+abbrev pub IsRunFault : (Accepts Rejects : List ℕ → Type 0) → (bytes : List ℕ) → Fault → Type 0
+IsRunFault Accepts Rejects bytes fault =
+    (tokens : List Token) × (run : Span)
     × AreTokens (chars bytes) (map token_view tokens)
-    × IsRunAt bytes tokens value run
-    × Rejects value
+    × IsFirstRun Accepts Rejects bytes tokens run
     × IsSingleSpan (IsPartOf run) fault

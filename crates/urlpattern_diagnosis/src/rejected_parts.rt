@@ -1,8 +1,7 @@
 //! The parts of a pattern text that a callback may reject: custom expressions, and runs of
 //! characters.
-ghost use Rattle.std.specs.Prelude.{◌≡◌, ℕ, false, IfNone, IfOk, IfSome, List, Ok, true};
-ghost use Rattle.std.specs.Borrow.{Bor};
-ghost use Rattle.urlpattern_diagnosis.specs.Faults.{EachExpression, EachRun, IsExpressionAt, IsRunAt, IsSpanOfBody, is_character};
+ghost use Rattle.std.specs.Prelude.{◌≡◌, false, IfNone, IfOk, IfSome, Ok, true};
+ghost use Rattle.urlpattern_diagnosis.specs.Faults.{EachExpression, EachRun, IsFirstExpression, IsFirstRun, IsSpanOfBody, OfBorrow, is_character};
 ghost use Rattle.urlpattern_diagnosis.specs.Spans.{IsSpanIn};
 
 use crate::span::Span;
@@ -20,9 +19,9 @@ pub fn rejected_expression<F: Fn(&str) -> Result<bool, OutOfMemory>>(
     refuses: F,
 ) -> Result<Option<Span>, OutOfMemory>
     requires { F.IsAlwaysCallable refuses }
-    ensures refused { IfOk result (λ found. IfSome found (λ span.
-        (value : Bor (List ℕ)) × F.post refuses value (Ok true)
-        × IsExpressionAt text.now tokens.now value.now span)) }
+    ensures refused { IfOk result (λ found. IfSome found (IsFirstExpression
+        (λ value. F.post refuses value (Ok false)) (λ value. F.post refuses value (Ok true))
+        text.now tokens.now)) }
     ensures accepted { IfOk result (λ found. IfNone found
         (EachExpression (λ value. F.post refuses value (Ok false)) tokens.now)) }
     ensures within { IfOk result (λ found. IfSome found (IsSpanIn text.now)) }
@@ -58,12 +57,11 @@ pub fn rejected_run<F: Fn(&str) -> Result<bool, OutOfMemory>>(
     refuses: F,
 ) -> Result<Option<Span>, OutOfMemory>
     requires { F.IsAlwaysCallable refuses }
-    ensures refused { IfOk result (λ found. IfSome found (λ span.
-        (value : Bor (List ℕ)) × F.post refuses value (Ok true)
-        × IsRunAt text.now tokens.now value.now span)) }
+    ensures refused { IfOk result (λ found. IfSome found (IsFirstRun
+        (OfBorrow (λ value. F.post refuses value (Ok false)))
+        (OfBorrow (λ value. F.post refuses value (Ok true))) text.now tokens.now)) }
     ensures accepted { IfOk result (λ found. IfNone found (EachRun
-        (λ run. (value : Bor (List ℕ)) × (value.now ≡ run) × F.post refuses value (Ok false))
-        text.now tokens.now)) }
+        (OfBorrow (λ value. F.post refuses value (Ok false))) text.now tokens.now)) }
     ensures within { IfOk result (λ found. IfSome found (IsSpanIn text.now)) }
 {
     let mut row = String::new(alloc);

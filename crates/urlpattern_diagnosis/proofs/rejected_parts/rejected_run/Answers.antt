@@ -1,6 +1,6 @@
-use Rattle.std.proofs.Common.{◌≡◌, ℕ, ◌+◌, List, Bor, Option, None, Ok, false, take, sym, ap, ◌∙◌, subst}
+use Rattle.std.proofs.Common.{◌≡◌, ℕ, ◌+◌, List, Bor, Option, None, Ok, false, true, take, sym, ap, ◌∙◌, subst}
 use Rattle.std.specs.Prelude.{IfSome, string_bytes}
-use Rattle.urlpattern_diagnosis.specs.Faults.{IsRunAt}
+use Rattle.urlpattern_diagnosis.specs.Faults.{OfBorrow}
 use Rattle.urlpattern_diagnosis.specs.Spans.{IsSpanAt}
 use Rattle.urlpattern_diagnosis.proofs.NameLemmas.{no_token}
 use Rattle.urlpattern_diagnosis.proofs.RunLemmas.{EndInRun, each_run, run_empty, run_ended, run_grown, run_left, runs_grown, runs_left}
@@ -14,12 +14,12 @@ returns-then-branch-clause-refused g c =
     let i = c.loop-token.token-index in
     let value = string_bytes c.loop-token.row in
     let start = c.in-Some.first in
-    let run = subst (λ (o : Option ℕ). EndInRun (take i tokens) o value) c.in-Some.is c.loop-token.invariant.run in (
-      c.deref.result,
-      rw (c.in_ok-refuses.was ∙ ap Ok c.if-branch.true) at c.refuses.ensures,
-      subst (λ bytes. IsRunAt text tokens bytes c.at.result) (sym c.deref.ensures) (run_ended text tokens i no_token c.loop-token-test.true value start c.at.result run (sym c.is_character.ensures ∙ c.if-is_character.false)
-          (subst (λ n. IsSpanAt text start n c.at.result) c.saturating_sub-len.ensures c.at.ensures.at)),
-    )
+    let run = subst (λ (o : Option ℕ). EndInRun (take i tokens) o value) c.in-Some.is c.loop-token.invariant.run in
+    let Accepts = OfBorrow (λ lent. g.F.Fn.post c.args.refuses (lent, tt) (Ok false)) in
+    let Rejects = OfBorrow (λ lent. g.F.Fn.post c.args.refuses (lent, tt) (Ok true)) in
+    let rejected : Rejects value = (c.deref.result, c.deref.ensures, rw (c.in_ok-refuses.was ∙ ap Ok c.if-branch.true) at c.refuses.ensures) in
+    run_ended text tokens i no_token c.loop-token-test.true Accepts Rejects value start c.at.result run c.loop-token.invariant.accepted rejected (sym c.is_character.ensures ∙ c.if-is_character.false)
+    (subst (λ n. IsSpanAt text start n c.at.result) c.saturating_sub-len.ensures c.at.ensures.at)
 
 pub loop-token-preserved : goal.loop-token-preserved
 loop-token-preserved g c =
