@@ -1,6 +1,0 @@
-use Rattle.std.proofs.Common.{◌≡◌, ◌++◌}
-use Rattle.urlpattern_compare.specs.Cells.{text_cells}
-use Rattle.urlpattern_compare.proofs.cells.add_text.Given as goal
-
-abbrev pub invariant-loop-c : goal.invariant-loop-c
-invariant-loop-c l = l.cells.items ≡ l.fn.cells.items ++ text_cells l.yielded

@@ -1,4 +1,0 @@
-pub mod IndexGroupLemmas
-pub mod KnownLemmas
-pub mod NumberLemmas
-pub mod PathSegmentLemmas
