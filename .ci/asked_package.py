@@ -1,5 +1,6 @@
 """What `.ci/bindings` asks the Python package: the rows, the tests, the sessions of its page and docstrings, and whether it has types."""
 import doctest
+import importlib
 import json
 import os
 import pathlib
@@ -7,13 +8,17 @@ import re
 import shutil
 import subprocess
 import sys
+import tempfile
 import unittest
 
 from asked_rows import COMPONENTS, ignores, is_init, lacking_by_case
 
 ROOT = os.path.dirname(os.path.dirname(os.path.abspath(__file__)))
 C, PYTHON = f"{ROOT}/bindings/c", f"{ROOT}/bindings/python"
-TESTS = ("test_urlpattern", "test_arguments", "test_copies", "test_threads", "test_router", "test_policy")
+TESTS = ("test_urlpattern", "test_arguments", "test_copies", "test_threads", "test_router", "test_policy", "test_quick")
+# What has parts of the package: the tests and what they share, and the package by other names.
+IMPORTED = ("urlpattern", "without_lock", "by_ctypes", "samples", *TESTS)
+WARNINGS = ("-Wall", "-Wextra", "-Werror", "-Wno-unused-parameter", "-Wno-missing-field-initializers")
 # The programs that docs/C.md shows.
 EXAMPLES = ("example", "router")
 
@@ -140,7 +145,7 @@ def tested():
     tests = unittest.defaultTestLoader.loadTestsFromNames(TESTS)
     found = unittest.TextTestRunner(sys.stdout).run(tests)
     failed = len(found.failures) + len(found.errors)
-    return max(found.testsRun - failed, 0), failed
+    return max(found.testsRun - failed - len(found.skipped), 0), failed
 
 
 def mistyped():
@@ -153,12 +158,29 @@ def mistyped():
 
 def ask_module(asked, shared):
     """How many rows and tests the Python package passes over a shared object, and how many it does
-    not."""
+    not: with its extension, if the machine builds it, and without."""
     os.environ["URLPATTERN_LIBRARY"] = shared
-    sys.path.insert(0, PYTHON)
-    import urlpattern
+    sys.path[:0] = [PYTHON, f"{ROOT}/packages"]
+    packages = importlib.import_module("packages")
+    counts = [(0, mistyped()), ask_package(asked, PYTHON, False)]
+    if packages.extension(*WARNINGS):
+        with tempfile.TemporaryDirectory() as room:
+            packages.put_python_files(room)
+            counts.append(ask_package(asked, room, True))
+    return tuple(map(sum, zip(*counts)))
 
+
+def ask_package(asked, folder, has_extension):
+    """How many rows and tests the package of a folder passes, which is imported anew, as its tests are."""
+    for name in [it for it in sys.modules if it.split(".")[0] in IMPORTED]:
+        del sys.modules[name]
+    sys.path.insert(0, folder)
+    urlpattern = importlib.import_module("urlpattern")
+    sys.path.remove(folder)
     passed, failed = tested()
+    if bool(urlpattern._library.quick.bind) != has_extension:
+        failed += 1
+        print(f"bindings: the Python package of {folder} is not the one with its extension, or without, that was meant")
     for question, answer in asked:
         if ask_python(question, answer, urlpattern):
             passed += 1
@@ -170,4 +192,4 @@ def ask_module(asked, shared):
     else:
         failed += 1
         print("bindings: docs/C.md, docs/PYTHON.md or a docstring shows another program or session")
-    return passed, failed + mistyped()
+    return passed, failed

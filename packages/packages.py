@@ -1,6 +1,7 @@
 """Makes packages of the program and the library, from what the folder dist/ has. Given the same files, each has the same bytes."""
 import base64
 import email.utils
+import functools
 import glob
 import gzip
 import hashlib
@@ -9,6 +10,8 @@ import os
 import re
 import shutil
 import subprocess
+import sys
+import sysconfig
 import tarfile
 import tempfile
 import zipfile
@@ -109,8 +112,34 @@ def packed(text):
     return gzip.compress(text if isinstance(text, bytes) else text.encode(), mtime=0)
 
 
+@functools.lru_cache(maxsize=None)
+def extension(*flags):
+    """The extension of Python's package, which is linked to nothing, for each Python from 3.10 on; or None if the machine can build none."""
+    include = sysconfig.get_path("include")
+    has_lock = not sysconfig.get_config_var("Py_GIL_DISABLED")
+    if not (shutil.which("cc") and os.path.exists(f"{include}/Python.h") and sys.version_info >= (3, 10) and has_lock):
+        print("packages: there is no cc here, or no Python.h of Python 3.10 or later: Python's package is without its extension", flush=True)
+        return None
+    with tempfile.TemporaryDirectory() as room:
+        words = ["cc", "-O2", "-shared", "-fPIC", "-nostdlib", "-s", *flags, f"-I{include}", f"-I{ROOT}/bindings/c"]
+        subprocess.run([*words, f"{ROOT}/bindings/python/_quick.c", "-o", f"{room}/made"], check=True)
+        with open(f"{room}/made", "rb") as it:
+            return it.read()
+
+
 def python_files():
-    return sorted(glob.glob(f"{ROOT}/bindings/python/urlpattern/*.py") + glob.glob(f"{ROOT}/bindings/python/urlpattern/py.typed"))
+    """The files of Python's package, by their names."""
+    made = extension()
+    files = {"_quick.abi3.so": made} if made else {}
+    for path in (it for end in ("*.py", "*.pyi", "py.typed") for it in glob.glob(f"{ROOT}/bindings/python/urlpattern/{end}")):
+        with open(path, "rb") as it:
+            files[os.path.basename(path)] = it.read()
+    return dict(sorted(files.items()))
+
+
+def put_python_files(folder):
+    for name, it in python_files().items():
+        write(f"{folder}/urlpattern/{name}", it)
 
 
 # ---- Debian's packages
@@ -160,10 +189,9 @@ def put_development_files(root, dist):
 
 
 def put_python(root, dist):
-    folder = f"{root}/usr/lib/python3/dist-packages/urlpattern"
-    for path in python_files():
-        copy(path, f"{folder}/{os.path.basename(path)}")
-    os.symlink(f"../../../{LIBRARIES[8:]}/{shared(dist)}", f"{folder}/liburlpattern.so")
+    folder = f"{root}/usr/lib/python3/dist-packages"
+    put_python_files(folder)
+    os.symlink(f"../../../{LIBRARIES[8:]}/{shared(dist)}", f"{folder}/urlpattern/liburlpattern.so")
     write(f"{root}/DEBIAN/postinst", AFTER, 0o755)
     write(f"{root}/DEBIAN/prerm", BEFORE, 0o755)
 
@@ -225,7 +253,7 @@ def make_wheel(dist, folder):
     systems = ["manylinux_{}_{}_x86_64".format(*least), *(["manylinux2014_x86_64"] if least <= (2, 17) else [])]
     tag = f"py3-none-{'.'.join(systems)}"
     about = [f"Name: {name.replace('_', '-')}", f"Version: {number}", f"Summary: {ABOUT}", "License: MIT", "Requires-Python: >=3.8"]
-    files = {f"urlpattern/{os.path.basename(it)}": open(it, "rb").read() for it in python_files()}
+    files = {f"urlpattern/{it}": text for it, text in python_files().items()}
     files["urlpattern/liburlpattern.so"] = open(library, "rb").read()
     info = f"{name}-{number}.dist-info"
     files[f"{info}/METADATA"] = ("Metadata-Version: 2.1\n" + "\n".join(about) + "\nDescription-Content-Type: text/plain\n\n" + claims(dist, glibc(dist)[1])).encode()

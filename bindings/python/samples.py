@@ -1,8 +1,10 @@
 """What several tests of the package share."""
+import importlib.util
 import os
 import sys
 import threading
 
+import urlpattern
 from urlpattern import _library
 
 # Threads, and how many calls they make together of each method.
@@ -34,6 +36,14 @@ def groups(n):
         ("pathname", *path),
         *((name, "0", "") for name in open_after),
     ]
+
+
+def imported_as(name):
+    """The package, imported once more by another name."""
+    spec = importlib.util.spec_from_file_location(name, urlpattern.__file__)
+    made = sys.modules[name] = importlib.util.module_from_spec(spec)
+    spec.loader.exec_module(made)
+    return made
 
 
 def in_threads(work):

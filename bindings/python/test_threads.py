@@ -1,7 +1,6 @@
 """Tests of threads that share objects, of forks, and of memory. `.ci/bindings` runs them."""
 import copy
 import ctypes
-import importlib.util
 import os
 import resource
 import signal
@@ -12,7 +11,8 @@ from unittest import mock
 
 import urlpattern
 from samples import (
-    CALLS, COMPONENTS, FOLDERS, REPR, SOURCES, TEXTS, THREADS, groups, route, url, wrong_answers,
+    CALLS, COMPONENTS, FOLDERS, REPR, SOURCES, TEXTS, THREADS, groups, imported_as, route, url,
+    wrong_answers,
 )
 from urlpattern import Match, URLPattern, URLPatternError, URLPatternList
 
@@ -103,12 +103,9 @@ def said(call):
 
 def module_without_lock():
     """The package where the interpreter has no lock: functions of a CDLL run without it."""
-    spec = importlib.util.spec_from_file_location("without_lock", urlpattern.__file__)
-    made = sys.modules["without_lock"] = importlib.util.module_from_spec(spec)
     has_none = mock.patch.object(sys, "_is_gil_enabled", lambda: False, create=True)
     with has_none, mock.patch.object(ctypes, "PyDLL", ctypes.CDLL):
-        spec.loader.exec_module(made)
-    return made
+        return imported_as("without_lock")
 
 
 class Threads(unittest.TestCase):

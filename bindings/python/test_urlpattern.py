@@ -213,7 +213,7 @@ class Answers(unittest.TestCase):
             (user, wide, False),
             (named, user, True),
             (user, named, False),
-            (folded, user, None),
+            (folded, user, False),
             (folded, folded, True),
             (folded, copy.copy(folded), True),
         ):

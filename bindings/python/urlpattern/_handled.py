@@ -7,8 +7,8 @@ from typing import Any, Dict, Iterable, List, Mapping, Optional, Tuple, TypeVar,
 
 from ._library import (
     COMPONENTS, DONE, LOCK, NO_PATTERN, NO_TEXT, NO_URL, NONE, REASONS, REFUSED, SIZE, SIZES, SMALL,
-    SPAN, TOO_LONG, UNKNOWN, Call, Handle, Memory, calls, checked, first_matched, matched, put,
-    take, written,
+    SPAN, TOO_LONG, UNKNOWN, Call, Handle, address, bound, calls, checked, first_matched, matched,
+    put, quick, take, written,
 )
 from ._match import Match, Names
 from ._texts import (
@@ -17,6 +17,7 @@ from ._texts import (
 
 _test, _exec = calls.test, calls.exec
 _captures, _first_captures = calls.captures, calls.first_captures
+_quick_first = quick.first
 
 # Makes an object without its `__init__`, which takes longer than to set what it has.
 _new = object.__new__
@@ -59,23 +60,25 @@ def overlaps(function: Call, *patterns: Any) -> Optional[bool]:
 class Handled:
     """What a handle keeps, which is this object's alone."""
 
-    __slots__ = ("_handle", "_address", "_names")
+    __slots__ = ("_handle", "_address", "_bound", "_names")
 
     # What writes the name of a group.
     _group_name: Any = staticmethod(calls.group_name)
 
+    # The addresses of what the extension calls, or 0: of `test`, of `captures`, of what finds the
+    # first match, and of what a policy decides.
+    _functions = 0, 0, 0, 0
+
     def __init__(self, handle: Any) -> None:
         self._handle = handle
         self._address = ctypes.byref(handle)
+        self._bound = bound(handle, self._functions)
         self._names: Dict[int, Names] = {}
 
-    def _found(self, match: Found, index: int, room: Memory) -> Found:
-        """The match, which is that of this index, as a call wrote it. Leaves the memory to later
-        calls."""
-        match.index, match._data = index, room.copied()
-        match._names = self._names.get(index) or self._names_of(index, match._data)
-        if room.is_kept:
-            put(room)
+    def _found(self, match: Found, index: int, data: bytes) -> Found:
+        """The match, which is that of this index, as a call wrote it."""
+        match.index, match._data = index, data
+        match._names = self._names.get(index) or self._names_of(index, data)
         return match
 
     def _names_of(self, index: int, data: bytes) -> Names:
@@ -114,6 +117,8 @@ class Patterns(Handled):
 
     __slots__ = ("_sources",)
 
+    _functions = address("test"), address("captures"), address("first_captures"), 0
+
     def __init__(self) -> None:
         super().__init__(Handle())
         self._sources: List[Source] = []
@@ -143,7 +148,10 @@ class Patterns(Handled):
         ...     match.index, match["id"]
         (0, '8')
         """
-        if base is None and path is None:
+        found: Any = None
+        if path is None and self._bound is not None:
+            found = _quick_first(self._bound, 0, url, "" if base is None else base)
+        if found is None and base is None and path is None:
             # (as there, with fewer calls)
             try:
                 text = encode(url)
@@ -156,11 +164,16 @@ class Patterns(Handled):
                     room.for_number, room.text, room.room, room.spans, room.count, room.sizes,
                 )
                 if status == DONE:
-                    return self._found(_new(Match), room.number.value, room)
+                    found = room.number.value, room.copied()
+                elif status < TOO_LONG:
+                    found = False
                 put(room)
-                if status < TOO_LONG:
-                    return None
-        return self._first(url, base, path)
+        if found is None:
+            return self._first(url, base, path)
+        if found is False:
+            return None
+        index, data = found
+        return self._found(_new(Match), index, data)
 
     def _first(
         self, url: Optional[Input], base: Optional[str], path: Optional[str]
@@ -172,7 +185,7 @@ class Patterns(Handled):
             call, texts = _first_captures, url_texts(url, base, path)
         status, room = first_matched(call, self._address, *texts)
         if status == DONE:
-            return self._found(_new(Match), room.number.value, room)
+            return self._found(_new(Match), room.number.value, room.taken())
         room.leave()
         if status != NO_PATTERN:
             checked(status)
@@ -257,7 +270,7 @@ class Patterns(Handled):
             call, texts = _captures, url_texts(url, base, path)
         status, room = matched(call, self._address, SIZE[index], *texts)
         if status == DONE:
-            return self._found(_new(Match), index, room)
+            return self._found(_new(Match), index, room.taken())
         room.leave()
         checked(status)
         return None

@@ -61,6 +61,25 @@ def _open() -> ctypes.CDLL:
 
 _library = _open()
 
+# Whether the interpreter has a lock, which keeps calls apart.
+_HAS_LOCK = getattr(sys, "_is_gil_enabled", lambda: True)()
+
+
+def _extension() -> Any:
+    """The calls that take less time than by ctypes. Each is None, so that all go by ctypes, where
+    they were not built, and without what they need: Python 3.10, and the lock."""
+    if _HAS_LOCK and sys.version_info >= (3, 10):
+        try:
+            from . import _quick
+
+            return _quick
+        except ImportError:
+            pass
+    return SimpleNamespace(bind=None, test=None, captures=None, first=None, allows=None)
+
+
+quick: Any = _extension()
+
 # What keeps calls apart where the interpreter has no lock, and what appends apart anywhere. No fork
 # comes in between: the child of one would wait for a thread that it does not have.
 LOCK = threading.RLock()
@@ -76,7 +95,7 @@ def _function(
     them takes longer than to match."""
     function = getattr(_library, f"urlpattern_{name}")
     function.argtypes, function.restype = arguments, result
-    if getattr(sys, "_is_gil_enabled", lambda: True)():
+    if _HAS_LOCK:
         called: Call = function
         return called
 
@@ -117,6 +136,18 @@ class PolicyHandle(_Handle):
         self, free: Call = _function("policy_free", result=None), address: Any = ctypes.byref
     ) -> None:
         free(address(self))
+
+
+def address(name: str) -> int:
+    """The address of a function of the library."""
+    function = getattr(_library, f"urlpattern_{name}")
+    return ctypes.cast(function, ctypes.c_void_p).value or 0
+
+
+def bound(handle: Any, functions: Sequence[int]) -> Any:
+    """A handle as the calls of the extension take it, with the addresses of functions, or None
+    without the extension."""
+    return quick.bind and quick.bind(handle, ctypes.addressof(handle), *functions)
 
 
 class Place(ctypes.Structure):
@@ -248,6 +279,12 @@ class Memory:
         text: bytes = self.bytes[self._start : self._start + length]
         spans: bytes = self.bytes[: start_of_text(count)]
         return spans + text
+
+    def taken(self) -> bytes:
+        """As `copied` has it, and leaves the memory to later calls."""
+        data = self.copied()
+        self.leave()
+        return data
 
 
 # Memory that no call has; what takes some out, with an IndexError if there is none; and what puts

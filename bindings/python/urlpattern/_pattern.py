@@ -5,12 +5,13 @@ from typing import Any, Dict, Iterable, Optional, Tuple, Union, cast
 
 from ._handled import Patterns, _new, counterexample, covering_reason, covers, overlaps
 from ._library import (
-    COMPONENTS, DONE, NO_TEXT, NONE, SIZE, SMALL, TOO_LONG, calls, checked, put, take,
+    COMPONENTS, DONE, NO_TEXT, NONE, SIZE, SMALL, TOO_LONG, calls, checked, put, quick, take,
 )
 from ._match import Match, Names
 from ._texts import Groups, Init, Input, Source, encode, source_of
 
 _test, _captures = calls.test, calls.captures
+_quick_test, _quick_captures = quick.test, quick.captures
 
 
 def source_of_pattern(
@@ -49,7 +50,7 @@ class URLPattern:
     True
     """
 
-    __slots__ = ("_list", "_index", "_address", "_at", "_names")
+    __slots__ = ("_list", "_index", "_address", "_at", "_bound", "_names")
 
     def __init__(
         self,
@@ -65,6 +66,7 @@ class URLPattern:
     def _set(self, patterns: Patterns, index: int) -> None:
         self._list, self._index = patterns, index
         self._address, self._at = patterns._address, SIZE[index]
+        self._bound = patterns._bound
         # (from the first match on)
         self._names: Optional[Names] = None
 
@@ -139,6 +141,11 @@ class URLPattern:
         >>> pattern.test({"pathname": "/users/7", "baseURL": "https://example.com"})
         True
         """
+        if path is None and self._bound is not None:
+            found: Optional[bool]
+            found = _quick_test(self._bound, self._index, url, "" if base is None else base)
+            if found is not None:
+                return found
         if base is None and path is None:
             try:
                 text = encode(url)
@@ -163,7 +170,10 @@ class URLPattern:
         >>> match["id"], match.groupdict(), match.pathname
         ('7', {'id': '7'}, {'id': '7'})
         """
-        if base is None and path is None:
+        data: Any = None
+        if path is None and self._bound is not None:
+            data = _quick_captures(self._bound, self._index, url, "" if base is None else base)
+        if data is None and base is None and path is None:
             # (as there, with fewer calls, and without a list of the arguments)
             try:
                 text = encode(url)
@@ -176,16 +186,18 @@ class URLPattern:
                     room.text, room.room, room.spans, room.count, room.sizes,
                 )
                 if status == DONE:
-                    match = _new(Match)
-                    match._data = data = room.bytes.raw if room.is_usual else room.copied()
-                    put(room)
-                    match.index = self._index
-                    match._names = self._names or self._named(data)
-                    return match
+                    data = room.bytes.raw if room.is_usual else room.copied()
+                elif status < TOO_LONG:
+                    data = False
                 put(room)
-                if status < TOO_LONG:
-                    return None
-        return self._list._match(self._index, url, base, path)
+        if data is None:
+            return self._list._match(self._index, url, base, path)
+        if data is False:
+            return None
+        match = _new(Match)
+        match._data, match.index = data, self._index
+        match._names = self._names or self._named(data)
+        return match
 
     def _named(self, data: bytes) -> Names:
         """The names of the groups of each match. A call wrote one of them."""

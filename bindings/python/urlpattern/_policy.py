@@ -7,7 +7,8 @@ from typing import Any, List, Mapping, Optional, Tuple, Union
 
 from ._handled import Handled
 from ._library import (
-    ALLOW, DECISIONS, DONE, LOCK, NO_RULE, REFUSED, PolicyHandle, calls, checked, decided,
+    ALLOW, DECISIONS, DONE, LOCK, NO_RULE, REFUSED, PolicyHandle, address, calls, checked, decided,
+    quick,
 )
 from ._pattern import URLPattern, source_of_pattern
 from ._texts import Init, Source, refusal, url_texts
@@ -49,6 +50,8 @@ class URLPolicy(Handled):
     """
 
     __slots__ = ("_rules", "_options", "__dict__", "__weakref__")
+
+    _functions = 0, 0, 0, address("policy_decide")
 
     def __init__(
         self,
@@ -139,4 +142,10 @@ class URLPolicy(Handled):
     def allows(self, url: Any, base: Any = None) -> bool:
         """Whether a URL, which may be relative to a base URL, is allowed. No input raises an error:
         what is no text is no URL, and is denied."""
+        # (a subclass may decide otherwise)
+        if self._bound is not None and type(self) is URLPolicy:
+            allowed: Optional[bool]
+            allowed = quick.allows(self._bound, 0, url, "" if base is None else base)
+            if allowed is not None:
+                return allowed
         return self.decide(url, base).allowed

@@ -7,13 +7,14 @@ from typing import Any, Generic, Iterable, List, Optional, Tuple, TypeVar, Union
 from ._handled import Handled, _new
 from ._library import (
     DONE, LOCK, NAME_TAKEN, NO_MATCH, NO_PATH, NO_URL, NOT_A_METHOD, NOT_ALLOWED, NUMBERS, REFUSED,
-    SIZE, SMALL, Call, Memory, RouterHandle, calls, checked, first_matched, put, take, written,
+    SIZE, SMALL, Call, RouterHandle, address, calls, checked, first_matched, put, quick, take,
+    written,
 )
 from ._match import Match
 from ._pattern import URLPattern, source_of_pattern
 from ._texts import Groups, Init, Source, encode, encoded, refusal, url_texts
 
-_router_at = calls.router_at
+_router_at, _quick_first = calls.router_at, quick.first
 
 Value = TypeVar("Value")
 
@@ -79,6 +80,7 @@ class URLPatternRouter(Handled, Generic[Value]):
     __slots__ = ("_routes", "_values", "__dict__", "__weakref__")
 
     _group_name = staticmethod(calls.router_group_name)
+    _functions = 0, 0, address("router_at"), 0
 
     def __init__(self) -> None:
         super().__init__(RouterHandle())
@@ -160,24 +162,33 @@ class URLPatternRouter(Handled, Generic[Value]):
         >>> bool(routes.at("POST", "/users/7")), routes.at("POST", "/users/7").methods
         (False, ['GET'])
         """
-        try:
-            word, text = encode(method), encode(path)
-            of_word, of_text, room = SMALL[len(word)], SMALL[len(text)], take()
-        except (TypeError, IndexError):
-            pass
-        else:
+        found: Any = None
+        if self._bound is not None:
+            found = _quick_first(self._bound, 0, method, path)
+        if found is None:
             # (as below, with fewer calls)
-            status = _router_at(
-                self._address, word, of_word, text, of_text,
-                room.for_number, room.text, room.room, room.spans, room.count, room.sizes,
-            )
-            if status == DONE:
-                return self._route(room)
-            put(room)
-            if status == NO_MATCH:
-                return None
-        texts = (*_sized(method, "a method"), *_sized(path, "a path"))
-        return self._routed(_router_at, calls.router_allowed, texts)
+            try:
+                word, text = encode(method), encode(path)
+                of_word, of_text, room = SMALL[len(word)], SMALL[len(text)], take()
+            except (TypeError, IndexError):
+                pass
+            else:
+                status = _router_at(
+                    self._address, word, of_word, text, of_text,
+                    room.for_number, room.text, room.room, room.spans, room.count, room.sizes,
+                )
+                if status == DONE:
+                    found = room.number.value, room.copied()
+                elif status == NO_MATCH:
+                    found = False
+                put(room)
+        if found is None:
+            texts = (*_sized(method, "a method"), *_sized(path, "a path"))
+            return self._routed(_router_at, calls.router_allowed, texts)
+        if found is False:
+            return None
+        index, data = found
+        return self._route(index, data)
 
     def at_url(
         self,
@@ -201,10 +212,9 @@ class URLPatternRouter(Handled, Generic[Value]):
         texts = (*_sized(method, "a method"), *url_texts(url, base, path))
         return self._routed(calls.router_at_url, calls.router_allowed_at_url, texts)
 
-    def _route(self, room: Memory) -> RouteMatch[Value]:
+    def _route(self, index: int, data: bytes) -> RouteMatch[Value]:
         """The match of a route, as a call wrote it."""
-        index = room.number.value
-        match: RouteMatch[Value] = self._found(_new(RouteMatch), index, room)
+        match: RouteMatch[Value] = self._found(_new(RouteMatch), index, data)
         match.value = self._values[index]
         return match
 
@@ -215,7 +225,7 @@ class URLPatternRouter(Handled, Generic[Value]):
         while True:
             status, room = first_matched(find, self._address, *texts)
             if status == DONE:
-                return self._route(room)
+                return self._route(room.number.value, room.taken())
             room.leave()
             if status != NOT_ALLOWED:
                 break

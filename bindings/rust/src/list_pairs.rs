@@ -9,7 +9,7 @@ use std::ptr;
 pub enum CoveringReason {
     /// A component has a custom regular expression.
     CustomExpression,
-    /// A component ignores case.
+    /// A component has a custom regular expression, and ignores case.
     IgnoredCase,
     /// It would take too many steps to compare them.
     TooMany,

@@ -2,9 +2,10 @@
 
 use crate::common_urls::{is_same_reach, is_same_url};
 use crate::patterns::built;
-use crate::recorded::{Answer, Fault, field, has_text, list, named};
+use crate::recorded::{Answer, Fault, field, has_text, list, named, optional_text};
 use crate::rules::REASONS;
 use crate::Case;
+use regex::Regex;
 use serde_json::Value;
 use std::alloc::Global;
 use urlpattern_compare::{
@@ -12,6 +13,7 @@ use urlpattern_compare::{
 };
 use urlpattern_components::{ComponentName, Eight};
 use urlpattern_engine::PatternRegexp;
+use urlpattern_matcher::regexp::RegExp;
 use urlpattern_pattern::UrlPattern;
 use urlpattern_syntax::Error;
 
@@ -28,8 +30,8 @@ pub fn is_same_common(case: &Case<'_>) -> Result<bool, Fault> {
     let Answer::Ok(recorded) = case.answer else {
         return Ok(false);
     };
-    let all_of = automata(case.alloc, list(case.question, "all_of")?)?;
-    let none_of = automata(case.alloc, list(case.question, "none_of")?)?;
+    let all_of = asked_automata(case, "all_of")?;
+    let none_of = asked_automata(case, "none_of")?;
     let all: Vec<&PatternAutomata> = all_of.iter().collect(case.alloc)?;
     let none: Vec<&PatternAutomata> = none_of.iter().collect(case.alloc)?;
     if case.question.get("real").is_some() {
@@ -95,11 +97,29 @@ pub fn are_indices(by: &[usize], recorded: &Value) -> bool {
             .all(|(index, expected)| expected.as_u64() == Some(*index as u64))
 }
 
+/// The automata of the patterns of a list, over the engine that the question names, or
+/// `PatternRegexp`.
+fn asked_automata(case: &Case<'_>, name: &str) -> Result<Vec<PatternAutomata>, Fault> {
+    let given = list(case.question, name)?;
+    match optional_text(case.question, "engine") {
+        Some("regex") => automata_over::<Regex>(case.alloc, given),
+        _ => automata(case.alloc, given),
+    }
+}
+
 /// The automata of patterns.
 fn automata(alloc: Global, given: &[Value]) -> Result<Vec<PatternAutomata>, Fault> {
+    automata_over::<PatternRegexp>(alloc, given)
+}
+
+/// The automata of patterns over this engine.
+fn automata_over<R: RegExp>(
+    alloc: Global,
+    given: &[Value],
+) -> Result<Vec<PatternAutomata>, Fault> {
     let mut found = Vec::new(alloc);
     for fields in given {
-        let Some(parts) = pattern(alloc, fields)?.into_parts() else {
+        let Some(parts) = pattern_over::<R>(alloc, fields)?.into_parts() else {
             return Err(Fault::NoCase);
         };
         if found.push(PatternAutomata::new(alloc, parts)?).is_err() {
@@ -111,7 +131,12 @@ fn automata(alloc: Global, given: &[Value]) -> Result<Vec<PatternAutomata>, Faul
 
 /// The pattern of a text or an init, which is valid.
 pub fn pattern(alloc: Global, fields: &Value) -> Result<UrlPattern<PatternRegexp>, Fault> {
-    match built::<PatternRegexp>(alloc, fields)? {
+    pattern_over(alloc, fields)
+}
+
+/// The pattern of a text or an init, which is valid, over this engine.
+fn pattern_over<R: RegExp>(alloc: Global, fields: &Value) -> Result<UrlPattern<R>, Fault> {
+    match built::<R>(alloc, fields)? {
         Ok(pattern) => Ok(pattern),
         Err(Error::OutOfMemory) => Err(Fault::OutOfMemory),
         Err(_) => Err(Fault::NoCase),

@@ -4,6 +4,7 @@ use crate::common::is_reach;
 use crate::patterns::{are_lacking, are_lacking_by_case};
 use crate::recorded::{Answer, Fault, field, has_text, list, named, optional_text, text};
 use crate::{Case, given};
+use regex::Regex;
 use serde_json::Value;
 use std::alloc::Global;
 use std::cmp::Ordering;
@@ -15,6 +16,7 @@ use urlpattern_components::{ComponentName, Eight};
 use urlpattern_engine::PatternRegexp;
 use urlpattern_init::UrlPatternInit;
 use urlpattern_inputs::UrlPatternOptions;
+use urlpattern_matcher::regexp::RegExp;
 use urlpattern_pattern::UrlPattern;
 use urlpattern_quirks::process_construct_pattern_input;
 use urlpattern_syntax::Error;
@@ -40,13 +42,22 @@ pub fn is_same_order(case: &Case<'_>) -> Result<bool, Fault> {
     Ok(recorded.as_i64() == Some(number(order?)))
 }
 
-/// Whether the results for covering and overlap are the recorded ones.
+/// Whether the results for covering and overlap are the recorded ones, over the engine that the
+/// question names, or `PatternRegexp`.
 pub fn is_same_covering(case: &Case<'_>) -> Result<bool, Fault> {
+    match optional_text(case.question, "engine") {
+        Some("regex") => is_same_covering_over::<Regex>(case),
+        _ => is_same_covering_over::<PatternRegexp>(case),
+    }
+}
+
+/// Whether the results for covering and overlap are the recorded ones over this engine.
+fn is_same_covering_over<R: RegExp>(case: &Case<'_>) -> Result<bool, Fault> {
     let Answer::Ok(recorded) = case.answer else {
         return Ok(false);
     };
-    let covers = pattern(case.alloc, field(case.question, "pattern")?)?;
-    let asked = pattern(case.alloc, field(case.question, "asked")?)?;
+    let covers = pattern_over::<R>(case.alloc, field(case.question, "pattern")?)?;
+    let asked = pattern_over::<R>(case.alloc, field(case.question, "asked")?)?;
     let covering = covers.covers(case.alloc, &asked)?;
     let overlap = covers.overlaps(case.alloc, &asked)?;
     drop(covers);
@@ -212,6 +223,11 @@ fn is_unknown(name: ComponentName, reason: Reason, recorded: &Value) -> Result<b
 
 /// The pattern of a question.
 fn pattern(alloc: Global, fields: &Value) -> Result<UrlPattern<PatternRegexp>, Fault> {
+    pattern_over(alloc, fields)
+}
+
+/// The pattern of a question, over this engine.
+fn pattern_over<R: RegExp>(alloc: Global, fields: &Value) -> Result<UrlPattern<R>, Fault> {
     let options = given::options(alloc, fields)?;
     let init = init(alloc, fields)?;
     made(UrlPattern::parse(alloc, init, options))

@@ -5,8 +5,9 @@
 //! `texts SEED COUNT` for those on patterns as texts, and `policies SEED COUNT` for those on
 //! policies), or links captures (`links SEED COUNT`).
 //! `rules FILE` times comparisons of all routes with each other. `repeat FILE NAME CALL COUNT`
-//! repeats a call, for a tool that counts instructions, and `decisions FILE RULES CALL COUNT` a
-//! decision of a policy, or what it is compared with.
+//! repeats a call, for a tool that counts instructions, `repeat-paths FILE LOOKUP hits COUNT`
+//! (or `misses`) a lookup of each path among the routes of a file, and
+//! `decisions FILE RULES CALL COUNT` a decision of a policy, or what it is compared with.
 #![tactic(auto)]
 
 mod calls;
@@ -57,6 +58,9 @@ const LINK_TIMES: &str = "link-times";
 /// The command that repeats a call without timing it.
 const REPEAT: &str = "repeat";
 
+/// The command that repeats lookups of paths without timing them.
+const REPEAT_PATHS: &str = "repeat-paths";
+
 /// The command that repeats decisions without timing them.
 const DECISIONS: &str = "decisions";
 
@@ -97,6 +101,10 @@ fn run(rt: &HostRuntime) -> io::Result<bool> {
         }
         [command, path, rules, call, count] if command.as_str() == DECISIONS => {
             timing::repeat_decisions(rt, path, number(rules)?, call, number(count)?)
+        }
+        [command, path, lookup, paths, count] if command.as_str() == REPEAT_PATHS => {
+            let is_missing = paths.as_str() == "misses";
+            timing::repeat_paths(rt, path, lookup, is_missing, number(count)?)
         }
         [command, path] if command.as_str() == ROUTES => {
             timing::run_routes(rt, path, &mut rt.stdout())?;

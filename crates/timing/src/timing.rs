@@ -303,16 +303,32 @@ pub fn run_links<R: Files + AllocGlobal + Clock, O: Write>(
     Ok(())
 }
 
-/// Prints the times of the table of a file's routes, and of generated tables: by URLs, and by paths
-/// alone.
+/// Repeats the lookup of paths with a name among the routes of a file. Returns whether there is
+/// such a lookup.
+pub fn repeat_paths<R: Files + AllocGlobal>(
+    rt: &R,
+    path: &str,
+    lookup: &str,
+    is_missing: bool,
+    count: u64,
+) -> io::Result<bool> {
+    let text = fs::read_to_string(rt, path)?;
+    match paths::repeat(rt.alloc(), &text, lookup, is_missing, count) {
+        Ok(is_known) => Ok(is_known),
+        Err(_) => Err(io::Error::from(io::ErrorKind::OutOfMemory)),
+    }
+}
+
+/// Prints the times of the table of a file's routes, and of generated tables: by paths alone, and
+/// by URLs.
 pub fn run_routes<R: Files + AllocGlobal + Clock, O: Write>(
     rt: &R,
     path: &str,
     out: &mut O,
 ) -> io::Result<()> {
     let text = fs::read_to_string(rt, path)?;
-    routes::run(rt, &text, out)?;
-    paths::run(rt, &text, out)
+    paths::run(rt, &text, out)?;
+    routes::run(rt, &text, out)
 }
 
 /// Repeats a call for a policy of this many rules, those of the routes of a file first. Returns

@@ -1,6 +1,6 @@
 -- The output of the program for a command. Texts are bytes. `input` is what the reader has left,
 -- and `old` and `new` are the output before and after, as far as they are known.
-use Rattle.std.specs.Prelude.{◌≡◌, ◌⊎◌, ⊤, ℕ, Bool, List, Option, option_copied}
+use Rattle.std.specs.Prelude.{◌≡◌, ◌⊎◌, ◌==◌, ◌||◌, ⊤, ℕ, Bool, List, Option, if◌then◌else◌, option_copied}
 use Rattle.urlpat_matching.specs.declared.command.Command.{Command}
 use Rattle.urlpat_matching.specs.declared.command.Command.TheVariants as commands
 use Rattle.urlpat_matching.specs.declared.command.Flags.{Flags}
@@ -67,3 +67,8 @@ MayPrintInPart flags (commands.Component asked) = IsComponentAnswered asked
 MayPrintInPart flags (commands.Match asked) = IsMatchAnswered flags asked
 MayPrintInPart flags (commands.First asked) = IsFirstAnswered flags asked
 MayPrintInPart flags command = ⊤
+
+-- The exit status of two runs: 2 if one of them failed, else 0 if one of them has it, else 1.
+abbrev pub status_of_both : (one other : ℕ) → ℕ
+status_of_both one other =
+    if one == 2 || other == 2 then 2 else if one == 0 || other == 0 then 0 else 1

@@ -6,6 +6,17 @@ use std::alloc::{AllocError, Global};
 /// The id of the operands.
 pub(crate) const OPERANDS: &str = "operands";
 
+/// The id of the option that gives a pattern as an init.
+pub(crate) const INIT: &str = "init";
+
+/// The names of the components, which the options for their patterns have too.
+const COMPONENTS: &[&str] = &[
+    "protocol", "username", "password", "hostname", "port", "pathname", "search", "hash",
+];
+
+/// The title of the options that give a pattern by component.
+const BY_COMPONENT: &str = "In place of PATTERN, by component (others match any text)";
+
 /// The version of this port, and that of the crate which it ports.
 const VERSION: &str = "2.0.0 (urlpattern 0.6.0)";
 
@@ -30,12 +41,16 @@ pub(crate) struct Form {
     pub is_fixed: bool,
 }
 
-/// The options of commands that match URLs.
-const MATCHING: &[&str] = &["base", "ignore-case", "json", "explain-errors"];
+impl Form {
+    /// Whether options may give the pattern, by component, in place of the first operand.
+    pub(crate) fn takes_init(&self) -> bool {
+        self.options.iter().any(|id| *id == INIT)
+    }
+}
 
-/// The options of the program, which stand before a command or among the arguments of the short
-/// form.
-const PROGRAM: &[&str] = MATCHING;
+/// The options of `match`, and of the program, which stand before a command or among the arguments
+/// of the short form.
+const MATCHING: &[&str] = &["base", "ignore-case", "json", "explain-errors", INIT];
 
 /// The commands, in the order of the help.
 pub(crate) const FORMS: [Form; 10] = [
@@ -64,40 +79,62 @@ index of the pattern are printed, counted from 0, and then a line for each
 group. If none matches, `no match` is printed, and the status is 1.
 
 Example: urlpat first https://example.com/ /users/7 /about /users/:id",
-        options: MATCHING,
+        options: &["base", "ignore-case", "json", "explain-errors"],
         least: 3,
         most: 3,
         is_fixed: true,
     },
     Form {
         name: "filter",
-        usage: "urlpat filter [OPTIONS] PATTERN [BASE]",
-        about: "Print the lines of standard input whose URLs match",
+        usage: "urlpat filter [OPTIONS] PATTERN [BASE] [FILE..]",
+        about: "Print the lines whose URLs match",
         more: "\
-BASE is a URL for the pattern and the lines, or - for none. A line that is no
+BASE is a URL for the pattern and the lines, or - for none. The lines are those
+of the files, or of standard input, which is also the file -. A line that is no
 URL does not match. If no line is selected, the status is 1.
 
 Example: urlpat filter https://example.com/users/:id --group pathname.id",
-        options: &["base", "ignore-case", "json", "not", "count", "group"],
+        options: &[
+            "base",
+            "ignore-case",
+            "json",
+            "not",
+            "count",
+            "group",
+            "line-number",
+            "with-filename",
+            "no-filename",
+            "line-buffered",
+            INIT,
+        ],
         least: 1,
-        most: 2,
+        most: usize::MAX,
         is_fixed: false,
     },
     Form {
         name: "route",
-        usage: "urlpat route [OPTIONS] TABLE [BASE]",
+        usage: "urlpat route [OPTIONS] TABLE [BASE] [FILE..]",
         about: "Find the pattern of a table that matches the URL of each line",
         more: "\
 TABLE is a file with a pattern a line, and its name after a tab, if it has one.
 Lines that are empty or begin with # are skipped. BASE is a URL for the patterns
-and the lines, or - for none. For each line of standard input the number of the
-pattern's line, its name and its groups are printed with tabs between, or - if
-no pattern matches. If none matches any line, the status is 1.
+and the lines, or - for none. The lines are those of the files, or of standard
+input, which is also the file -. For each line the number of the pattern's line,
+its name and its groups are printed with tabs between, or - if no pattern
+matches. If none matches any line, the status is 1.
 
-Example: urlpat route routes.txt https://example.com/ <urls.txt",
-        options: &["base", "ignore-case", "json"],
+Example: urlpat route routes.txt https://example.com/ urls.txt",
+        options: &[
+            "base",
+            "ignore-case",
+            "json",
+            "line-number",
+            "with-filename",
+            "no-filename",
+            "line-buffered",
+        ],
         least: 1,
-        most: 2,
+        most: usize::MAX,
         is_fixed: false,
     },
     Form {
@@ -109,7 +146,7 @@ BASE is a URL for the pattern and the input, or - for none. If the input does
 not match, the status is 1.
 
 Example: urlpat explain https://example.com/:id https://example.com/7",
-        options: &["base", "ignore-case", "json"],
+        options: &["base", "ignore-case", "json", INIT],
         least: 1,
         most: 3,
         is_fixed: false,
@@ -124,7 +161,7 @@ no other component has it. BASE is a URL for the pattern, or - for none. If
 there is no such URL, the status is 1.
 
 Example: urlpat link https://example.com/users/:id id=7",
-        options: &["base", "ignore-case"],
+        options: &["base", "ignore-case", INIT],
         least: 1,
         most: usize::MAX,
         is_fixed: false,
@@ -164,7 +201,8 @@ Example: urlpat unreachable routes.txt https://example.com/",
         usage: "urlpat policy [OPTIONS] decide|check|diff FILE..",
         about: "Decide about URLs by a policy, check it, or compare two",
         more: "\
-A file has lines such as `allow PATTERN` and `deny PATTERN`, or JSON.
+A file has lines such as `allow PATTERN` and `deny PATTERN`, or JSON. Rules are
+counted from 1.
 
   decide FILE [URL..]  decide about URLs, or the lines of standard input; the
                        status is 1 if one is denied
@@ -206,8 +244,24 @@ fn option<'a>(alloc: Global, id: &'a str) -> Result<Arg<'a>, AllocError> {
             .help("Print what a group captured, such as pathname.id, or id")
             .conflicts_with_all(&["not", "count", "json"])?,
         "ignore-case" => flag(arg, "Ignore case in patterns").short('i'),
+        "init" => arg
+            .value_name("JSON")
+            .help("An init, such as {\"pathname\": \"/users/:id\"}")
+            .help_heading(BY_COMPONENT)
+            .conflicts_with_all(&[
+                "protocol", "username", "password", "hostname", "port", "pathname", "search",
+                "hash",
+            ])?,
         "json" => flag(arg, "Print results as JSON"),
         "explain-errors" => flag(arg, "Print the reason and the place of an error"),
+        "line-number" => flag(arg, "Print the number of each line before it")
+            .short('n')
+            .conflicts_with("json")?,
+        "with-filename" => flag(arg, "Print the name of the file before each line")
+            .short('H')
+            .conflicts_with("json")?,
+        "no-filename" => { flag(arg, "Print no names of files").conflicts_with("with-filename")? }
+        "line-buffered" => flag(arg, "Write the output for each line at once"),
         "not" => flag(arg, "Select the lines that do not match")
             .short('v')
             .conflicts_with("json")?,
@@ -217,22 +271,54 @@ fn option<'a>(alloc: Global, id: &'a str) -> Result<Arg<'a>, AllocError> {
     })
 }
 
+/// Adds the options that give the patterns of single components, by their names.
+fn with_components<'a>(
+    alloc: Global,
+    parser: Parser<'a>,
+    names: &[&'a str],
+) -> Result<Parser<'a>, AllocError> {
+    let mut parser = parser;
+    for name in names {
+        parser = parser.arg(component(alloc, name))?;
+    }
+    Ok(parser)
+}
+
+/// The option that gives the pattern of the component with this name.
+fn component<'a>(alloc: Global, name: &'a str) -> Arg<'a> {
+    Arg::new(alloc, name)
+        .long(name)
+        .value_name("PATTERN")
+        .help_heading(BY_COMPONENT)
+}
+
 /// An option without a value.
 fn flag<'a>(arg: Arg<'a>, help: &'a str) -> Arg<'a> {
     arg.action(ArgAction::SetTrue).help(help)
 }
 
-/// Adds options and operands to a command.
-fn with_arguments<'a>(
+/// Adds options to a command, and beside `--init` those for single components.
+fn with_options<'a>(
     alloc: Global,
     parser: Parser<'a>,
     options: &[&'a str],
-    takes_hyphens: bool,
 ) -> Result<Parser<'a>, AllocError> {
     let mut parser = parser.args_override_self(true);
     for id in options {
         parser = parser.arg(option(alloc, id)?)?;
+        if *id == INIT {
+            parser = with_components(alloc, parser, COMPONENTS)?;
+        }
     }
+    Ok(parser)
+}
+
+/// Adds operands to a command.
+fn with_operands<'a>(
+    alloc: Global,
+    parser: Parser<'a>,
+    takes_hyphens: bool,
+) -> Result<Parser<'a>, AllocError> {
     let operands = Arg::new(alloc, OPERANDS)
         .action(ArgAction::Append)
         .num_args(0..)
@@ -253,7 +339,8 @@ pub(crate) fn command<'a>(
         .override_usage(form.usage)
         .after_help(form.more)
         .display_name("urlpat")?;
-    with_arguments(alloc, parser, form.options, takes_hyphens)
+    let parser = with_options(alloc, parser, form.options)?;
+    with_operands(alloc, parser, takes_hyphens)
 }
 
 /// The program with its commands. `accepts_any` says whether the first operand may be another word
@@ -264,25 +351,34 @@ pub(crate) fn program<'a>(
     accepts_any: bool,
     takes_hyphens: bool,
 ) -> Result<Parser<'a>, AllocError> {
-    let mut parser = Parser::new(alloc, "urlpat")
+    let parser = Parser::new(alloc, "urlpat")
         .version(VERSION)
         .propagate_version(true)
         .about("urlpat matches URLs against patterns, such as https://example.com/users/:id")
         .override_usage("urlpat [OPTIONS] PATTERN URL\n       urlpat COMMAND ..")
         .after_help("Example: urlpat 'https://example.com/users/:id' https://example.com/users/7")
-        .args_override_self(true)
         .allow_external_subcommands(accepts_any);
-    for id in PROGRAM {
-        parser = parser.arg(option(alloc, id)?)?;
-    }
+    let mut parser = with_options(alloc, parser, MATCHING)?;
     for form in &FORMS {
         parser = parser.subcommand(command(alloc, form, takes_hyphens & form.is_fixed)?)?;
     }
     Ok(parser)
 }
 
+/// The command `policy` with what it does as commands below it, in place of the first operand.
+pub(crate) fn policy_actions<'a>(alloc: Global, form: &Form) -> Result<Parser<'a>, AllocError> {
+    let parser = Parser::new(alloc, form.name)
+        .override_usage(form.usage)
+        .disable_help_subcommand(true)
+        .subcommand(Parser::new(alloc, "decide"))?
+        .subcommand(Parser::new(alloc, "check"))?
+        .subcommand(Parser::new(alloc, "diff"))?;
+    Ok(parser)
+}
+
 /// The short form, a pattern and a URL.
 pub(crate) fn short_form<'a>(alloc: Global) -> Result<Parser<'a>, AllocError> {
     let parser = Parser::new(alloc, "urlpat").override_usage("urlpat [OPTIONS] PATTERN URL");
-    with_arguments(alloc, parser, PROGRAM, false)
+    let parser = with_options(alloc, parser, MATCHING)?;
+    with_operands(alloc, parser, false)
 }

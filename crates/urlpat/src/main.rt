@@ -13,19 +13,21 @@ mod parsing;
 mod printer;
 mod running;
 
+use operands::{STANDARD_INPUT, of_file};
 use output::{Output, report_output};
 use parsing::{
-    Asked, COMPONENT_USAGE, FIRST_USAGE, MATCH_USAGE, asked_of, has_fixed_usage, misused,
-    name_fixed, parse,
+    Asked, COMPONENT_USAGE, FIRST_USAGE, MATCH_USAGE, asked_of, given_init, has_fixed_usage,
+    misused, name_fixed, parse,
 };
 use printer::Printer;
-use running::run;
+use running::{run, status_of_both};
 use std::alloc::AllocError;
-use std::io::{BufReader, BufWriter, IsTerminal};
+use std::fs::File;
+use std::io::{BufRead, BufReader, BufWriter, IsTerminal, Write};
 use std::process::ExitCode;
 use std::{env, fs, io};
 use urlpat_commands::Tables;
-use urlpat_matching::{DONE, FAILED, fail};
+use urlpat_matching::{Arguments, DONE, FAILED, NO_MATCH, fail};
 use urlpat_policies::run_on_policies;
 use urlpattern::Error;
 use urlpattern::regexp::PatternRegexp;
@@ -71,8 +73,13 @@ fn run_words(rt: &HostRuntime, words: &[String]) -> u8 {
         Ok(found) => found,
         Err(error) => return refuse(rt, words, &error),
     };
-    let Some(asked) = asked_of(&found) else {
-        return match misused(rt.alloc(), &found) {
+    let init = match given_init(rt.alloc(), &found) {
+        Ok(init) => init,
+        Err(error) => return refuse(rt, words, &error),
+    };
+    let none: [&str; 0] = [];
+    let Some(asked) = asked_of(&found, init.as_ref(), none.as_slice()) else {
+        return match misused(rt.alloc(), &found, init.is_some()) {
             Ok(error) => refuse(rt, words, &error),
             Err(AllocError) => fail(&Error::OutOfMemory, &mut rt.stderr()),
         };
@@ -108,28 +115,105 @@ fn refuse(rt: &HostRuntime, words: &[String], error: &clap::Error) -> u8 {
     }
 }
 
-/// Runs a command, with buffered input and output. Returns the exit status. If errors are
-/// explained, reports why the output cannot be written.
+/// Runs a command, with buffered output. Returns the exit status. If errors are explained, reports
+/// why the output cannot be written.
 fn run_buffered(rt: &HostRuntime, asked: Asked<'_, '_>) -> io::Result<u8> {
-    let alloc = rt.alloc();
-    let mut input = BufReader::new(alloc, rt.stdin())?;
-    let mut out = Output::new(BufWriter::new(alloc, rt.stdout())?);
+    let mut out = Output::new(BufWriter::new(rt.alloc(), rt.stdout())?);
     let mut err = rt.stderr();
-    let files = HostFiles { rt };
     // At a terminal a person reads the errors.
     let asked = explained(asked, err.is_terminal());
     let status = match asked {
-        Asked::Command(arguments) => run(
-            alloc, &files, &Printer, arguments, &mut input, &mut out, &mut err,
-        ),
-        Asked::Policy(command, json) => run_on_policies::<PatternRegexp, _, _, _, _, _>(
-            alloc, &files, &Printer, json, command, &mut input, &mut out, &mut err,
-        ),
+        Asked::Command(arguments) => run_on_lines(rt, arguments, &mut out, &mut err)?,
+        Asked::Policy(command, json) => {
+            let files = HostFiles { rt };
+            let mut input = BufReader::new(rt.alloc(), rt.stdin())?;
+            run_on_policies::<PatternRegexp, _, _, _, _, _>(
+                rt.alloc(),
+                &files,
+                &Printer,
+                json,
+                command,
+                &mut input,
+                &mut out,
+                &mut err,
+            )
+        }
     };
     if explains_errors(asked) {
         report_output(out.failure(), &mut err);
     }
     Ok(status)
+}
+
+/// Runs a command on the lines of each of its files, or else of standard input. Returns the exit
+/// status.
+fn run_on_lines<Out: Write, Err: Write>(
+    rt: &HostRuntime,
+    arguments: Arguments<'_, '_>,
+    out: &mut Out,
+    err: &mut Err,
+) -> io::Result<u8> {
+    if arguments.files.is_empty() {
+        run_on_input(rt, arguments, out, err)
+    } else {
+        run_on_files(rt, arguments, out, err)
+    }
+}
+
+/// Runs a command on the lines of standard input. Returns the exit status.
+fn run_on_input<Out: Write, Err: Write>(
+    rt: &HostRuntime,
+    arguments: Arguments<'_, '_>,
+    out: &mut Out,
+    err: &mut Err,
+) -> io::Result<u8> {
+    let mut input = BufReader::new(rt.alloc(), rt.stdin())?;
+    Ok(run_with(rt, arguments, &mut input, out, err))
+}
+
+/// Runs a command on the lines of each of its files, until a run fails. A file that cannot be
+/// opened is reported, and the others are read. Returns the exit status.
+fn run_on_files<Out: Write, Err: Write>(
+    rt: &HostRuntime,
+    arguments: Arguments<'_, '_>,
+    out: &mut Out,
+    err: &mut Err,
+) -> io::Result<u8> {
+    let mut status = NO_MATCH;
+    for file in arguments.files {
+        let last = if *file == STANDARD_INPUT {
+            run_on_input(rt, arguments, out, err)?
+        } else {
+            match File::open(rt, *file) {
+                Ok(opened) => {
+                    let mut input = BufReader::new(rt.alloc(), opened)?;
+                    run_with(rt, of_file(arguments, *file), &mut input, out, err)
+                }
+                Err(error) => {
+                    let _ = writeln!(err, "urlpat: the file `{file}` cannot be read: {error}");
+                    status = FAILED;
+                    continue;
+                }
+            }
+        };
+        status = status_of_both(status, last);
+        if last == FAILED {
+            break;
+        }
+    }
+    Ok(status)
+}
+
+/// Runs a command on the lines of a reader. Returns the exit status.
+fn run_with<In: BufRead, Out: Write, Err: Write>(
+    rt: &HostRuntime,
+    arguments: Arguments<'_, '_>,
+    input: &mut In,
+    out: &mut Out,
+    err: &mut Err,
+) -> u8 {
+    let files = HostFiles { rt };
+    run(rt.alloc(), &files, &Printer, arguments, input, out, err)
 }
 
 /// What is asked for, with errors explained if they are read by a person.

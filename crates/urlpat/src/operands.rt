@@ -3,33 +3,64 @@
 use crate::forms::OPERANDS;
 use clap::ArgMatches;
 use urlpat_matching::{
-    AskedShape, Command, ComponentArguments, CoversArguments, ExplainArguments, FilterArguments,
-    FirstArguments, Kind, LinkArguments, MatchArguments, TableArguments,
+    Arguments, AskedShape, Command, ComponentArguments, CoversArguments, ExplainArguments,
+    FilterArguments, FirstArguments, GivenPattern, Kind, LineStyle, LinkArguments, MatchArguments,
+    RouteArguments, TableArguments,
 };
 use urlpat_policies::PolicyCommand;
+use urlpattern::quirks::UrlPatternInit;
 
 /// The operand for no base URL.
 const NO_BASE: &str = "-";
 
-/// The command with this name, with its arguments, which are those in `found`. `given` is the value
-/// of `--base`. `None`: the operands are not those of the command.
+/// The operand for standard input, in place of the name of a file.
+pub(crate) const STANDARD_INPUT: &str = "-";
+
+/// What options give in place of operands, and the flags.
+#[derive(Clone, Copy)]
+pub(crate) struct Given<'m, 'w> {
+    /// The value of `--base`.
+    pub base: Option<&'w str>,
+    /// The pattern, by component.
+    pub init: Option<&'m UrlPatternInit>,
+    /// Whether results are printed as JSON.
+    pub json: bool,
+    /// No operands.
+    pub none: &'m [&'w str],
+}
+
+/// The command with this name, with its arguments, which are those in `found`, and the operands
+/// after them, which name files. `None`: the operands are not those of the command.
 pub(crate) fn command_of<'m, 'w>(
     name: &str,
     found: &'m ArgMatches<'w>,
-    given: Option<&'w str>,
-) -> Option<Command<'m, 'w>> {
-    let words = found.get_strs(OPERANDS)?;
-    match name {
+    given: Given<'m, 'w>,
+) -> Option<(Command<'m, 'w>, &'m [&'w str])> {
+    let words = found.get_strs(OPERANDS).unwrap_or(given.none);
+    let command = match name {
         "component" => component_of(words),
         "match" => match_of(words, given),
-        "first" => first_of(words, given),
-        "filter" => filter_of(found, words, given),
-        "route" => Some(Command::Route(table_of(words, given)?)),
+        "first" => first_of(words, given.base),
+        "filter" => return filter_of(found, words, given),
+        "route" => return route_of(found, words, given),
         "explain" => explain_of(words, given),
         "link" => link_of(words, given),
-        "covers" => covers_of(words, given),
-        "unreachable" => Some(Command::Unreachable(table_of(words, given)?)),
+        "covers" => covers_of(words, given.base),
+        "unreachable" => unreachable_of(words, given.base),
         _ => None,
+    };
+    Some((command?, given.none))
+}
+
+/// The pattern, and the operands after it: the one that options give, or else the first word.
+fn with_pattern<'m, 'w>(
+    words: &'m [&'w str],
+    given: Given<'m, 'w>,
+) -> Option<(GivenPattern<'m, 'w>, &'m [&'w str])> {
+    match (given.init, words) {
+        (Some(init), _) => Some((GivenPattern::Init(init), words)),
+        (None, [text, rest @ ..]) => Some((GivenPattern::Text(*text), rest)),
+        (None, []) => None,
     }
 }
 
@@ -105,8 +136,11 @@ fn is_protocol(text: &str) -> bool {
 }
 
 /// Whether a pattern has the form of one that needs no base URL.
-fn is_absolute(pattern: &str) -> bool {
-    pattern.contains("://") && !pattern.starts_with(['/', '?', '#'])
+fn is_absolute(pattern: GivenPattern<'_, '_>) -> bool {
+    match pattern {
+        GivenPattern::Text(text) => text.contains("://") && !text.starts_with(['/', '?', '#']),
+        GivenPattern::Init(_) => true,
+    }
 }
 
 /// The arguments of `component`: the name of its options, and a pattern.
@@ -124,11 +158,9 @@ fn component_of<'m, 'w>(words: &'m [&'w str]) -> Option<Command<'m, 'w>> {
 }
 
 /// The arguments of `match`: a pattern, a base URL and an input.
-fn match_of<'m, 'w>(words: &'m [&'w str], given: Option<&'w str>) -> Option<Command<'m, 'w>> {
-    let [pattern, rest @ ..] = words else {
-        return None;
-    };
-    let (base, rest) = with_base(rest, given)?;
+fn match_of<'m, 'w>(words: &'m [&'w str], given: Given<'m, 'w>) -> Option<Command<'m, 'w>> {
+    let (pattern, rest) = with_pattern(words, given)?;
+    let (base, rest) = with_base(rest, given.base)?;
     let [input] = rest else {
         return None;
     };
@@ -139,20 +171,23 @@ fn match_of<'m, 'w>(words: &'m [&'w str], given: Option<&'w str>) -> Option<Comm
     }))
 }
 
-/// The arguments of the short form: a pattern and an input. `given` is the value of `--base`.
+/// The arguments of the short form, a pattern and an input, and the operands after them: none.
 pub(crate) fn short_of<'m, 'w>(
     found: &'m ArgMatches<'w>,
-    given: Option<&'w str>,
-) -> Option<Command<'m, 'w>> {
-    let [pattern, input] = found.get_strs(OPERANDS)? else {
+    given: Given<'m, 'w>,
+) -> Option<(Command<'m, 'w>, &'m [&'w str])> {
+    let words = found.get_strs(OPERANDS).unwrap_or(given.none);
+    let (pattern, rest) = with_pattern(words, given)?;
+    let [input] = rest else {
         return None;
     };
-    let base = base_of(given.unwrap_or(NO_BASE));
-    Some(Command::Match(MatchArguments {
+    let base = base_of(given.base.unwrap_or(NO_BASE));
+    let asked = MatchArguments {
         pattern,
         base,
         input,
-    }))
+    };
+    Some((Command::Match(asked), given.none))
 }
 
 /// The arguments of `first`: a base URL, an input, and patterns.
@@ -168,35 +203,44 @@ fn first_of<'m, 'w>(words: &'m [&'w str], given: Option<&'w str>) -> Option<Comm
     }
 }
 
-/// The arguments of `filter`: a pattern and a base URL.
+/// The arguments of `filter`, a pattern and a base URL, and the operands after them.
 fn filter_of<'m, 'w>(
     found: &'m ArgMatches<'w>,
     words: &'m [&'w str],
-    given: Option<&'w str>,
-) -> Option<Command<'m, 'w>> {
-    let [pattern, rest @ ..] = words else {
-        return None;
-    };
-    let (base, rest) = with_some_base(rest, given);
-    if !rest.is_empty() {
-        return None;
-    }
+    given: Given<'m, 'w>,
+) -> Option<(Command<'m, 'w>, &'m [&'w str])> {
+    let (pattern, rest) = with_pattern(words, given)?;
+    let (base, files) = with_some_base(rest, given.base);
     let inverted = found.get_flag("not");
-    Some(Command::Filter(FilterArguments {
+    let asked = FilterArguments {
         pattern,
         base,
         inverted,
-        shape: shape_of(found, inverted)?,
-    }))
+        shape: shape_of(found, given.json, inverted)?,
+        style: style_of(found, given.json, files)?,
+    };
+    Some((Command::Filter(asked), files))
+}
+
+/// How output for lines is written. `None`: the options exclude each other.
+fn style_of<'w>(found: &ArgMatches<'w>, json: bool, files: &[&str]) -> Option<LineStyle<'w>> {
+    let numbered = found.get_flag("line-number");
+    let named = found.get_flag("with-filename");
+    if json && (numbered || named) {
+        return None;
+    }
+    let several = files.len() > 1 && !json && !found.get_flag("no-filename");
+    Some(LineStyle {
+        file: None,
+        named: named || several,
+        numbered,
+        flushed: found.get_flag("line-buffered"),
+    })
 }
 
 /// What `filter` prints. `None`: the options exclude each other.
-fn shape_of<'w>(found: &ArgMatches<'w>, inverted: bool) -> Option<AskedShape<'w>> {
-    match (
-        found.get_flag("count"),
-        found.get_flag("json"),
-        found.get_str("group"),
-    ) {
+fn shape_of<'w>(found: &ArgMatches<'w>, json: bool, inverted: bool) -> Option<AskedShape<'w>> {
+    match (found.get_flag("count"), json, found.get_str("group")) {
         (false, false, None) => Some(AskedShape::Line),
         (true, false, None) => Some(AskedShape::Count),
         (false, true, None) if !inverted => Some(AskedShape::Json),
@@ -205,14 +249,55 @@ fn shape_of<'w>(found: &ArgMatches<'w>, inverted: bool) -> Option<AskedShape<'w>
     }
 }
 
-/// The arguments of `route` and of `unreachable`: a file, and a base URL.
-fn table_of<'w>(words: &[&'w str], given: Option<&'w str>) -> Option<TableArguments<'w>> {
+/// The arguments, with the name of the file whose lines are read.
+pub(crate) fn of_file<'m, 'w>(arguments: Arguments<'m, 'w>, file: &'w str) -> Arguments<'m, 'w> {
+    let command = match arguments.command {
+        Command::Filter(asked) => Command::Filter(FilterArguments {
+            style: style_of_file(asked.style, file),
+            ..asked
+        }),
+        Command::Route(asked) => Command::Route(RouteArguments {
+            style: style_of_file(asked.style, file),
+            ..asked
+        }),
+        other => other,
+    };
+    Arguments {
+        command,
+        ..arguments
+    }
+}
+
+/// How output is written for the lines of a file.
+fn style_of_file<'w>(style: LineStyle<'w>, file: &'w str) -> LineStyle<'w> {
+    LineStyle {
+        file: Some(file),
+        ..style
+    }
+}
+
+/// The arguments of `route`, a file and a base URL, and the operands after them.
+fn route_of<'m, 'w>(
+    found: &'m ArgMatches<'w>,
+    words: &'m [&'w str],
+    given: Given<'m, 'w>,
+) -> Option<(Command<'m, 'w>, &'m [&'w str])> {
+    let [file, rest @ ..] = words else {
+        return None;
+    };
+    let (base, files) = with_some_base(rest, given.base);
+    let style = style_of(found, given.json, files)?;
+    Some((Command::Route(RouteArguments { file, base, style }), files))
+}
+
+/// The arguments of `unreachable`: a file, and a base URL.
+fn unreachable_of<'m, 'w>(words: &'m [&'w str], given: Option<&'w str>) -> Option<Command<'m, 'w>> {
     let [file, rest @ ..] = words else {
         return None;
     };
     let (base, rest) = with_some_base(rest, given);
     if rest.is_empty() {
-        Some(TableArguments { file, base })
+        Some(Command::Unreachable(TableArguments { file, base }))
     } else {
         None
     }
@@ -220,13 +305,13 @@ fn table_of<'w>(words: &[&'w str], given: Option<&'w str>) -> Option<TableArgume
 
 /// The arguments of `explain`: a pattern, a base URL and an input. A single word after a pattern
 /// that needs no base URL is the input.
-fn explain_of<'m, 'w>(words: &'m [&'w str], given: Option<&'w str>) -> Option<Command<'m, 'w>> {
-    let [pattern, rest @ ..] = words else {
-        return None;
-    };
+fn explain_of<'m, 'w>(words: &'m [&'w str], given: Given<'m, 'w>) -> Option<Command<'m, 'w>> {
+    let (pattern, rest) = with_pattern(words, given)?;
     let (base, rest) = match rest {
-        [word] if *word != NO_BASE && is_absolute(pattern) && given.is_none() => { (None, rest) }
-        _ => with_some_base(rest, given),
+        [word] if *word != NO_BASE && is_absolute(pattern) && given.base.is_none() => {
+            (None, rest)
+        }
+        _ => with_some_base(rest, given.base),
     };
     let input = match rest {
         [] => None,
@@ -241,11 +326,9 @@ fn explain_of<'m, 'w>(words: &'m [&'w str], given: Option<&'w str>) -> Option<Co
 }
 
 /// The arguments of `link`: a pattern, a base URL, and texts for groups.
-fn link_of<'m, 'w>(words: &'m [&'w str], given: Option<&'w str>) -> Option<Command<'m, 'w>> {
-    let [pattern, rest @ ..] = words else {
-        return None;
-    };
-    let (base, groups) = with_some_base(rest, given);
+fn link_of<'m, 'w>(words: &'m [&'w str], given: Given<'m, 'w>) -> Option<Command<'m, 'w>> {
+    let (pattern, rest) = with_pattern(words, given)?;
+    let (base, groups) = with_some_base(rest, given.base);
     Some(Command::Link(LinkArguments {
         pattern,
         base,

@@ -1,12 +1,15 @@
 //! Parses the words of the program.
 
-use crate::forms::{FORMS, Form, OPERANDS, command, program, short_form};
-use crate::operands::{command_of, policy_of, short_of};
+use crate::forms::{FORMS, Form, INIT, OPERANDS, command, policy_actions, program, short_form};
+use crate::operands::{Given, command_of, policy_of, short_of};
 use clap::error::ErrorKind;
 use clap::{ArgMatches, Command as Parser, Error};
+use serde_json::Value;
 use std::alloc::{AllocError, Global};
 use urlpat_matching::{Arguments, Flags};
 use urlpat_policies::PolicyCommand;
+use urlpattern::quirks::UrlPatternInit;
+use urlpattern::{ComponentName, Eight};
 
 /// The usage of `component`, the first line that is printed if the words of the commands whose
 /// output is fixed are wrong.
@@ -65,44 +68,130 @@ pub enum Asked<'m, 'w> {
     Policy(PolicyCommand<'m, 'w>, bool),
 }
 
-/// What parsed words ask for. `None`: there is no command, or the operands or the flags are not
-/// those of the command.
-pub fn asked_of<'m, 'w>(found: &'m ArgMatches<'w>) -> Option<Asked<'m, 'w>> {
+/// What parsed words ask for. `init` is the pattern that options give by component, and `none` has
+/// no operands. `None`: there is no command, or the operands or the flags are not those of the
+/// command.
+pub fn asked_of<'m, 'w>(
+    found: &'m ArgMatches<'w>,
+    init: Option<&'m UrlPatternInit>,
+    none: &'m [&'w str],
+) -> Option<Asked<'m, 'w>> {
     match found.subcommand() {
         Some(("policy", of_command)) => {
+            if init.is_some() {
+                return None;
+            }
             let words = of_command.get_strs(OPERANDS)?;
             let command = policy_of(words, found.get_str("base"))?;
             let flags = flags_of(found, of_command)?;
             Some(Asked::Policy(command, flags.json))
         }
-        _ => Some(Asked::Command(arguments_of(found)?)),
+        _ => Some(Asked::Command(arguments_of(found, init, none)?)),
     }
 }
 
-/// The arguments that parsed words have. `None`: there is no command, or the operands or the flags
-/// are not those of the command.
-fn arguments_of<'m, 'w>(found: &'m ArgMatches<'w>) -> Option<Arguments<'m, 'w>> {
-    let before = found.get_str("base");
-    let Some((name, of_command)) = found.subcommand() else {
-        let command = short_of(found, before)?;
-        let flags = flags_of(found, found)?;
-        return Some(Arguments {
-            flags: Flags {
-                explain_errors: true,
-                ..flags
-            },
-            command,
-        });
+/// The arguments that parsed words have, as `asked_of` returns them.
+fn arguments_of<'m, 'w>(
+    found: &'m ArgMatches<'w>,
+    init: Option<&'m UrlPatternInit>,
+    none: &'m [&'w str],
+) -> Option<Arguments<'m, 'w>> {
+    let after = after_command(found);
+    let mut flags = flags_of(found, after)?;
+    let given = Given {
+        base: after.get_str("base").or(found.get_str("base")),
+        init,
+        json: flags.json,
+        none,
     };
-    let flags = flags_of(found, of_command)?;
-    let explain_errors = flags.explain_errors || !is_fixed(name);
+    let (command, files) = match found.subcommand_name() {
+        Some(name) => {
+            if init.is_some() && !form_of(name)?.takes_init() {
+                return None;
+            }
+            flags.explain_errors = flags.explain_errors || !is_fixed(name);
+            command_of(name, after, given)?
+        }
+        None => {
+            flags.explain_errors = true;
+            short_of(found, given)?
+        }
+    };
     Some(Arguments {
-        flags: Flags {
-            explain_errors,
-            ..flags
-        },
-        command: command_of(name, of_command, of_command.get_str("base").or(before))?,
+        flags,
+        command,
+        files,
     })
+}
+
+/// The arguments after the command, or all of them in the short form.
+fn after_command<'m, 'w>(found: &'m ArgMatches<'w>) -> &'m ArgMatches<'w> {
+    second(found.subcommand()).unwrap_or(found)
+}
+
+/// The arguments of a command, without its name.
+fn second<'m, 'w>(command: Option<(&'w str, &'m ArgMatches<'w>)>) -> Option<&'m ArgMatches<'w>> {
+    let (_, after) = command?;
+    Some(after)
+}
+
+/// Reads the pattern that options give by component. `None`: no option gives one.
+///
+/// The error says that the text of `--init` is not the JSON of an init, or that memory ran out.
+pub fn given_init(alloc: Global, found: &ArgMatches<'_>) -> Result<Option<UrlPatternInit>, Error> {
+    let after = after_command(found);
+    let Some(text) = after.get_str(INIT).or(found.get_str(INIT)) else {
+        return Ok(components_given(alloc, found, after)?);
+    };
+    match init_of_json(alloc, text)? {
+        Some(init) => Ok(Some(init)),
+        None => {
+            let message = format!(in alloc;
+                "invalid value '{text}' for '--init <JSON>': not the JSON of an init"
+            )?;
+            Err(parser_of(alloc, found)?.error(ErrorKind::ValueValidation, &message)?)
+        }
+    }
+}
+
+/// Parses the JSON of an init. `None`: the text is not the JSON of one.
+fn init_of_json(alloc: Global, text: &str) -> Result<Option<UrlPatternInit>, AllocError> {
+    let value = match Value::from_str(alloc, text) {
+        Ok(value) => value,
+        Err(error) if error.is_memory() => return Err(AllocError),
+        Err(_) => return Ok(None),
+    };
+    match UrlPatternInit::from_json_value(alloc, &value) {
+        Ok(init) => Ok(init),
+        Err(_) => Err(AllocError),
+    }
+}
+
+/// The init with the patterns that options give for single components. `None`: no option gives one.
+fn components_given(
+    alloc: Global,
+    found: &ArgMatches<'_>,
+    after: &ArgMatches<'_>,
+) -> Result<Option<UrlPatternInit>, AllocError> {
+    let text = |name: ComponentName| -> Result<Option<String>, AllocError> {
+        match after
+            .get_str(name.as_str())
+            .or(found.get_str(name.as_str()))
+        {
+            Some(text) => Ok(Some(String::from_str(alloc, text)?)),
+            None => Ok(None),
+        }
+    };
+    let texts = Eight::try_from_fn(text)?;
+    let mut any = false;
+    for name in ComponentName::all() {
+        any = any || texts.get(name).is_some();
+    }
+    if any {
+        Ok(Some(UrlPatternInit::from_eight(texts, None)))
+    } else {
+        Ok(None)
+    }
 }
 
 /// The flags before a command and among its arguments. `None`: the command does not accept a flag
@@ -160,32 +249,43 @@ fn first_operand(words: &[String]) -> Option<&String> {
     words.iter().skip(1).find(|word| !word.starts_with('-'))
 }
 
-/// The error that the operands among parsed words are not those of their command.
-pub fn misused(alloc: Global, found: &ArgMatches<'_>) -> Result<Error, AllocError> {
-    match found.subcommand() {
-        Some((name, of_command)) => match form_of(name) {
-            Some(form) => misused_by(
-                alloc,
-                command(alloc, form, false)?,
-                form.least,
-                form.most,
-                of_command,
-            ),
-            None => misused_by(alloc, short_form(alloc)?, 2, 2, found),
+/// The parser of the command whose words were parsed.
+fn parser_of<'a>(alloc: Global, found: &ArgMatches<'_>) -> Result<Parser<'a>, AllocError> {
+    match found.subcommand_name() {
+        Some(name) => match form_of(name) {
+            Some(form) => command(alloc, form, false),
+            None => short_form(alloc),
         },
-        None => misused_by(alloc, short_form(alloc)?, 2, 2, found),
+        None => short_form(alloc),
     }
 }
 
-/// The error that there are fewer operands than `least`, or more than `most`, or other ones.
-fn misused_by(
-    alloc: Global,
-    mut parser: Parser<'_>,
-    least: usize,
-    most: usize,
-    found: &ArgMatches<'_>,
-) -> Result<Error, AllocError> {
-    let words = found.get_strs(OPERANDS).unwrap_or(&[]);
+/// The least and the most operands of the command whose words were parsed. `given` says whether
+/// options give the pattern.
+fn bounds_of(found: &ArgMatches<'_>, given: bool) -> (usize, usize) {
+    let (least, most) = match found.subcommand_name() {
+        Some(name) => match form_of(name) {
+            Some(form) => (form.least, form.most),
+            None => (2, 2),
+        },
+        None => (2, 2),
+    };
+    if given {
+        (least.saturating_sub(1), most.saturating_sub(1))
+    } else {
+        (least, most)
+    }
+}
+
+/// The error that the operands among parsed words are not those of their command: there are too few
+/// or too many, or they are others. `given` says whether options give the pattern.
+pub fn misused(alloc: Global, found: &ArgMatches<'_>, given: bool) -> Result<Error, AllocError> {
+    let mut parser = parser_of(alloc, found)?;
+    let (least, most) = bounds_of(found, given);
+    let words = after_command(found).get_strs(OPERANDS).unwrap_or(&[]);
+    if let Some(error) = no_action(alloc, found.subcommand_name(), words)? {
+        return Ok(error);
+    }
     if words.len() < least {
         return parser.error(ErrorKind::WrongNumberOfValues, "an argument is missing");
     }
@@ -198,5 +298,28 @@ fn misused_by(
             ErrorKind::WrongNumberOfValues,
             "these are not the arguments of the command",
         ),
+    }
+}
+
+/// The error that the first word is nothing that `policy` does. It names what is like it. `None`:
+/// the command is another one, or the word is what it does.
+fn no_action(
+    alloc: Global,
+    command: Option<&str>,
+    words: &[&str],
+) -> Result<Option<Error>, AllocError> {
+    let (Some("policy"), [word, ..]) = (command, words) else {
+        return Ok(None);
+    };
+    let Some(form) = form_of("policy") else {
+        return Ok(None);
+    };
+    if word.starts_with('-') {
+        return Ok(None);
+    }
+    let given = ["policy", *word];
+    match policy_actions(alloc, form)?.try_get_matches_from(given.as_slice()) {
+        Ok(_) => Ok(None),
+        Err(error) => Ok(Some(error)),
     }
 }

@@ -1,7 +1,7 @@
 //! Runs each command of the program.
 
 ghost use Rattle.std.specs.Prelude.{◌≡◌, ◌≢◌, ◌⊎◌};
-ghost use Rattle.urlpat.specs.Commands.{MayPrintInPart, MayReport, RunsCommand};
+ghost use Rattle.urlpat.specs.Commands.{MayPrintInPart, MayReport, RunsCommand, status_of_both};
 
 use std::alloc::Global;
 use std::io::{BufRead, Write};
@@ -47,5 +47,18 @@ pub fn run<T: Tables, P: ExplanationPrinter, In: BufRead, Out: Write, Err: Write
         Command::Link(asked) => link(alloc, asked, flags, out, err),
         Command::Covers(asked) => covers(alloc, asked, flags, out, err),
         Command::Unreachable(asked) => { list_unreachable(alloc, tables, asked, flags, out, err) }
+    }
+}
+
+/// The exit status of two runs: `FAILED` if one of them failed, else `DONE` if one of them has it.
+pub fn status_of_both(one: u8, other: u8) -> u8
+    ensures { result ≡ status_of_both one other }
+{
+    if one == FAILED || other == FAILED {
+        FAILED
+    } else if one == DONE || other == DONE {
+        DONE
+    } else {
+        NO_MATCH
     }
 }

@@ -122,8 +122,8 @@ AnswersMatch json Matched Unmatched text status =
 abbrev pub IsMatchAnswer : Flags → MatchArguments → (text : List ℕ) → (status : ℕ) → Type 0
 IsMatchAnswer flags asked text status =
     AnswersMatch flags.json
-    (IsMatchText flags asked.pattern.now asked.input.now (option_copied asked.base) text)
-    (IsUnmatched flags.ignore_case asked.pattern.now asked.input.now (option_copied asked.base))
+    (IsMatchText flags asked.pattern asked.input.now (option_copied asked.base) text)
+    (IsUnmatched flags.ignore_case asked.pattern asked.input.now (option_copied asked.base))
     text status
 
 -- The output and the exit status of `first` for its arguments.

@@ -6,7 +6,7 @@ use Rattle.std.specs.Borrow.{Bor}
 use Rattle.std.specs.Str.{chars}
 use Rattle.url.specs.Parts.{Parts}
 use Rattle.urlpattern_canonical.specs.BaseUrls.{BaseView, IsRejectedUnder, IsUrlUnder, base_view}
-use Rattle.urlpat_matching.specs.PatternWords.{IsPatternOf}
+use Rattle.urlpat_matching.specs.GivenPatterns.{IsPatternGiven}
 use Rattle.urlpat_matching.specs.MatchTexts.{HasNoMatchUnder}
 use Rattle.urlpat_matching.specs.GroupLines.{group_bytes}
 use Rattle.urlpat_matching.specs.Groups.{IsOwnGroup, LacksGroup}
@@ -118,12 +118,12 @@ abbrev pub FiltersBy : PatternView PatternRegexp → FilterArguments → (status
 FiltersBy compiled asked status input old new =
     (shape : Shape) × IsShapeOf compiled asked.shape shape
     × Filters (IsFiltered compiled (base_view (option_copied asked.base)) asked.inverted shape)
-    shape status input old new
+    asked.style shape status input old new
 
 -- `filter` writes its output by the pattern that is asked for (`FiltersBy`).
 abbrev pub FiltersLines : (ignores : Bool) → FilterArguments → (status : ℕ)
     → (input old new : Option (List ℕ)) → Type 0
 FiltersLines ignores asked status input old new =
     (compiled : PatternView PatternRegexp)
-    × IsPatternOf ignores asked.pattern.now (option_copied asked.base) compiled
+    × IsPatternGiven ignores asked.pattern (option_copied asked.base) compiled
     × FiltersBy compiled asked status input old new

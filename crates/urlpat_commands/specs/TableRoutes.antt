@@ -17,7 +17,7 @@ use Rattle.urlpat_matching.specs.declared.answers.Verdict.{Verdict}
 use Rattle.urlpat_matching.specs.declared.answers.Verdict.TheVariants.{NoUrl, Passed, Selected}
 use Rattle.urlpat_matching.specs.Tables.{EntryView, entries_view, entry_view, table_entries}
 use Rattle.urlpat_matching.specs.declared.table.Entry.{Entry}
-use Rattle.urlpat_matching.specs.declared.command.{Flags.Flags, TableArguments.TableArguments}
+use Rattle.urlpat_matching.specs.declared.command.{Flags.Flags, RouteArguments.RouteArguments}
 use Rattle.urlpat_matching.specs.declared.command.Shape.TheVariants.{Line}
 use Rattle.urlpattern.specs.FirstMatch.{IsFirstMatch}
 use Rattle.urlpattern.specs.PatternMaps.{entry_patterns}
@@ -114,15 +114,17 @@ IsLineAnswered json routes base text line verdict written =
 
 -- The output for the lines of the reader is written, by the patterns of a table. The output and the
 -- exit status are known if the contents of the reader are.
-abbrev pub RoutesBy : Flags → (table : List ℕ) → (base : Option (List ℕ))
-    → (status : ℕ) → (input old new : Option (List ℕ)) → Type 0
-RoutesBy flags table base status input old new =
-    (routes : Routes) × AreRoutesOf flags.ignore_case base (table_entries table) routes
-    × Filters (IsLineAnswered flags.json routes (base_view base)) Line status input old new
+abbrev pub RoutesBy : Flags → RouteArguments → (table : List ℕ) → (status : ℕ)
+    → (input old new : Option (List ℕ)) → Type 0
+RoutesBy flags asked table status input old new =
+    (routes : Routes)
+    × AreRoutesOf flags.ignore_case (option_copied asked.base) (table_entries table) routes
+    × Filters (IsLineAnswered flags.json routes (base_view (option_copied asked.base))) asked.style
+    Line status input old new
 
 -- The output of `route` for its arguments is written. `Has` says which file has which table.
-abbrev pub RoutesLines : Flags → (Has : (name table : List ℕ) → Type 0) → TableArguments
+abbrev pub RoutesLines : Flags → (Has : (name table : List ℕ) → Type 0) → RouteArguments
     → (status : ℕ) → (input old new : Option (List ℕ)) → Type 0
 RoutesLines flags Has asked status input old new =
     (table : List ℕ) × Has asked.file.now table
-    × RoutesBy flags table (option_copied asked.base) status input old new
+    × RoutesBy flags asked table status input old new

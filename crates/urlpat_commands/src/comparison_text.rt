@@ -109,7 +109,7 @@ fn doubt_text(alloc: Global, entries: &[Entry<'_>], doubt: Doubt) -> Result<Stri
 pub fn reason_text(reason: Reason) -> &'static str {
     match reason {
         Reason::CustomExpression => "has a custom expression",
-        Reason::IgnoredCase => "ignores case",
+        Reason::IgnoredCase => "has a custom expression, and ignores case",
         Reason::TooMany => "would take too many steps to compare",
     }
 }

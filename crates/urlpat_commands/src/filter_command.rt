@@ -33,7 +33,7 @@ struct UrlFilter<'a> {
 /// Runs `filter`. Returns the exit status: `NO_MATCH` if no line is selected.
 pub fn filter<In: BufRead, Out: Write, Err: Write>(
     alloc: Global,
-    asked: FilterArguments<'_>,
+    asked: FilterArguments<'_, '_>,
     flags: Flags,
     input: &mut In,
     out: &mut Out,
@@ -58,7 +58,7 @@ pub fn filter<In: BufRead, Out: Write, Err: Write>(
 fn filter_by<In: BufRead, Out: Write, Err: Write>(
     alloc: Global,
     pattern: &UrlPattern<PatternRegexp>,
-    asked: FilterArguments<'_>,
+    asked: FilterArguments<'_, '_>,
     input: &mut In,
     out: &mut Out,
     err: &mut Err,
@@ -85,7 +85,7 @@ fn filter_by<In: BufRead, Out: Write, Err: Write>(
         inverted: asked.inverted,
         shape,
     };
-    write_answers(alloc, &rule, shape, input, out, err)
+    write_answers(alloc, &rule, asked.style, shape, input, out, err)
 }
 
 /// What is printed for a selected line. The error is the word that names no group of the pattern.

@@ -9,7 +9,7 @@ ghost use Rattle.urlpattern.specs.FirstMatch.{patterns_view};
 
 use crate::first_json::first_json;
 use std::alloc::{AllocError, Global};
-use urlpat_matching::{FirstArguments, Flags, compiled, push_match};
+use urlpat_matching::{FirstArguments, Flags, GivenPattern, compiled, push_match};
 use urlpattern::regexp::PatternRegexp;
 use urlpattern::{Error, UrlPatternCaptures, UrlPatternList};
 use urlpattern_canonical::find_url;
@@ -52,7 +52,7 @@ fn compiled_list(
 {
     let mut list = UrlPatternList::new(alloc);
     for pattern in patterns {
-        let pattern = compiled(alloc, *pattern, base, ignore_case)?;
+        let pattern = compiled(alloc, GivenPattern::Text(*pattern), base, ignore_case)?;
         if let Err(refused) = list.push(pattern) {
             drop(refused);
             return Err(Error::OutOfMemory);

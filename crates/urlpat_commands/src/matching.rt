@@ -20,7 +20,7 @@ use urlpat_matching::{
 /// input that is not a URL.
 pub fn print_match<Out: Write, Err: Write>(
     alloc: Global,
-    asked: MatchArguments<'_>,
+    asked: MatchArguments<'_, '_>,
     flags: Flags,
     out: &mut Out,
     err: &mut Err,

@@ -10,8 +10,8 @@ use crate::tables::{Tables, read_entries, read_table};
 use std::alloc::{AllocError, Global};
 use std::io::{BufRead, Write};
 use urlpat_matching::{
-    DONE, Entry, FAILED, Flags, NO_MATCH, Rule, Shape, TableArguments, Verdict, compiled_or_report,
-    fail, write_answers,
+    DONE, Entry, FAILED, Flags, GivenPattern, NO_MATCH, RouteArguments, Rule, Shape, Verdict,
+    compiled_or_report, fail, write_answers,
 };
 use urlpattern::UrlPatternMap;
 use urlpattern::regexp::PatternRegexp;
@@ -31,7 +31,7 @@ struct Router<'a, 't> {
 pub fn route<T: Tables, In: BufRead, Out: Write, Err: Write>(
     alloc: Global,
     tables: &T,
-    asked: TableArguments<'_>,
+    asked: RouteArguments<'_>,
     flags: Flags,
     input: &mut In,
     out: &mut Out,
@@ -44,7 +44,7 @@ pub fn route<T: Tables, In: BufRead, Out: Write, Err: Write>(
     let Some(table) = read_table(tables, asked.file, err) else {
         return FAILED;
     };
-    let status = route_by(alloc, &table, asked.base, flags, input, out, err);
+    let status = route_by(alloc, &table, asked, flags, input, out, err);
     drop(table);
     status
 }
@@ -55,7 +55,7 @@ pub fn route<T: Tables, In: BufRead, Out: Write, Err: Write>(
 fn route_by<In: BufRead, Out: Write, Err: Write>(
     alloc: Global,
     table: &[u8],
-    base: Option<&str>,
+    asked: RouteArguments<'_>,
     flags: Flags,
     input: &mut In,
     out: &mut Out,
@@ -63,16 +63,16 @@ fn route_by<In: BufRead, Out: Write, Err: Write>(
 ) -> u8
     ensures status { (result ≡ DONE) ⊎ (result ≡ NO_MATCH) ⊎ (result ≡ FAILED) }
     ensures answers { result ≢ FAILED
-        → RoutesBy flags table.now (option_copied base.entry) result (In.remaining input.old)
+        → RoutesBy flags asked.entry table.now result (In.remaining input.old)
         (Out.contents out.old) (Out.contents out.new) }
 {
     let Some(entries) = read_entries(alloc, table, err) else {
         return FAILED;
     };
-    let Some(routes) = routes_of(alloc, &entries, base, flags.ignore_case, err) else {
+    let Some(routes) = routes_of(alloc, &entries, asked.base, flags.ignore_case, err) else {
         return FAILED;
     };
-    let kept = match BaseUrl::parse(alloc, base) {
+    let kept = match BaseUrl::parse(alloc, asked.base) {
         Ok(kept) => kept,
         Err(error) => return fail(&error, err),
     };
@@ -82,7 +82,7 @@ fn route_by<In: BufRead, Out: Write, Err: Write>(
         base: &kept,
         json: flags.json,
     };
-    let status = write_answers(alloc, &router, Shape::Line, input, out, err);
+    let status = write_answers(alloc, &router, asked.style, Shape::Line, input, out, err);
     drop(routes);
     status
 }
@@ -102,7 +102,8 @@ fn routes_of<'t, Err: Write>(
     let mut routes = UrlPatternMap::new(alloc);
     for entry in entries {
         let number = Some(entry.number);
-        let pattern = compiled_or_report(alloc, number, entry.pattern, base, ignore_case, err)?;
+        let text = GivenPattern::Text(entry.pattern);
+        let pattern = compiled_or_report(alloc, number, text, base, ignore_case, err)?;
         let Ok(()) = routes.try_insert(pattern, *entry) else {
             let _ = err.write_all(b"out of memory\n");
             return None;

@@ -6,7 +6,7 @@ ghost use Rattle.urlpat_commands.specs.Coverings.{ArePartsOf};
 
 use std::alloc::Global;
 use std::io::Write;
-use urlpat_matching::compiled_or_report;
+use urlpat_matching::{GivenPattern, compiled_or_report};
 use urlpattern::rules::PatternParts;
 
 /// The parts of the pattern of a constructor string, compiled with the engine `PatternRegexp`.
@@ -23,6 +23,7 @@ pub fn parts_or_report<Err: Write>(
     ensures parts { IfSome result (ArePartsOf ignore_case text.now (option_copied base.entry)) }
     ensures quiet { IfSome result (λ parts. err.new ≡ err.old) }
 {
+    let text = GivenPattern::Text(text);
     let pattern = compiled_or_report(alloc, line, text, base, ignore_case, err)?;
     match pattern.into_parts() {
         Some(parts) => Some(parts),

@@ -53,7 +53,7 @@ abbrev pub IsExplanation : (Prints : Explained → Option Outcome → List ℕ �
     → ExplainArguments → Explanation → Type 0
 IsExplanation Prints flags asked found =
     (explained : Explained)
-    × IsExplained flags.ignore_case asked.pattern.now (option_copied asked.base) explained
+    × IsExplained flags.ignore_case asked.pattern (option_copied asked.base) explained
     × IsAnswer Prints explained (option_copied asked.base) (option_copied asked.input) found
 
 -- The output for the arguments of `explain` is appended to `old`. `status` is the exit status.

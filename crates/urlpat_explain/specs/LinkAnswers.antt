@@ -4,7 +4,7 @@ use Rattle.std.specs.Io.KnownBytes.{Appends}
 use Rattle.url.specs.Parts.{Parts, serialize}
 use Rattle.urlpat_matching.specs.Texts.{texts_view}
 use Rattle.urlpat_matching.specs.declared.command.LinkArguments.{LinkArguments}
-use Rattle.urlpat_matching.specs.PatternWords.{IsPatternOf, KeepsPartsOfWord}
+use Rattle.urlpat_matching.specs.GivenPatterns.{IsPatternGiven, KeepsPartsGiven}
 use Rattle.urlpat_explain.specs.GivenWords.{AreGiven, Given, IsFirstUnread}
 use Rattle.urlpat_explain.specs.declared.link_command.LinkError.{LinkError}
 use Rattle.urlpat_explain.specs.declared.link_command.LinkError.TheVariants as unlinked
@@ -40,14 +40,14 @@ LacksUrl pattern words unlinked.OutOfMemory = Unit {0}
 
 -- ---- output
 
--- `Is` is true of the pattern to which the text that is asked is compiled, which keeps its parts.
+-- `Is` is true of what the pattern that is given is compiled to, which keeps its parts.
 -- `ignores` says whether the pattern ignores case.
 abbrev pub OfPattern : (Is : UrlPattern PatternRegexp → Type 0) → (ignores : Bool) → LinkArguments
     → Type 0
 OfPattern Is ignores asked =
     (compiled : UrlPattern PatternRegexp)
-    × IsPatternOf ignores asked.pattern.now (option_copied asked.base) (pattern_view compiled)
-    × KeepsPartsOfWord ignores asked.pattern.now (option_copied asked.base) compiled × Is compiled
+    × IsPatternGiven ignores asked.pattern (option_copied asked.base) (pattern_view compiled)
+    × KeepsPartsGiven ignores asked.pattern (option_copied asked.base) compiled × Is compiled
 
 -- The URL that is asked for and a line end are appended to the output `old`.
 abbrev pub WritesLink : (ignores : Bool) → LinkArguments → (old new : Option (List ℕ)) → Type 0

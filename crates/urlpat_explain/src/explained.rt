@@ -1,4 +1,4 @@
-//! A constructor string and its pattern, as `explain` shows them.
+//! A pattern that is given, as `explain` shows it.
 
 ghost use Rattle.std.specs.Prelude.{◌≡◌};
 ghost use Rattle.std.specs.Str.{chars};
@@ -17,14 +17,14 @@ use urlpattern_engine::PatternRegexp;
 use urlpattern_init::UrlPatternInit;
 use urlpattern_pattern::UrlPattern;
 
-/// What `explain` explains: the pattern of a constructor string, and the values of its components.
+/// What `explain` explains: a pattern, and the values of its components.
 #[derive(Clone, Copy)]
 pub struct Explained<'a> {
-    /// The pattern to which the constructor string is compiled.
+    /// The compiled pattern.
     pub pattern: &'a UrlPattern<PatternRegexp>,
-    /// The texts that the constructor string itself has for components.
+    /// The texts that the pattern itself has for components.
     pub init: &'a UrlPatternInit,
-    /// The places of these texts in the constructor string.
+    /// The places of these texts in the constructor string, if there is one.
     pub places: &'a Eight<Option<Span>>,
     /// The values of the components, inherited ones included.
     pub values: &'a UrlPatternInit,
@@ -35,8 +35,8 @@ pub struct Explained<'a> {
 }
 
 impl Explained<'_> {
-    /// The origin of a component's value: `given` in the constructor string, `inherited` from the
-    /// base URL, or `left out`.
+    /// The origin of a component's value: `given` by the pattern, `inherited` from the base URL, or
+    /// `left out`.
     pub fn origin(&self, name: ComponentName) -> &'static str
         ensures { result.now ≡ origin (at (values_view self.now.init.now) name)
             (at (values_view self.now.values.now) name) }
@@ -59,8 +59,8 @@ impl Explained<'_> {
     }
 }
 
-/// The origin of a component's value. `given` is its text in the constructor string, and `value` is
-/// the value.
+/// The origin of a component's value. `given` is the text that the pattern has, and `value` is the
+/// value.
 fn origin_of(given: Option<&str>, value: Option<&str>) -> &'static str
     ensures { result.now ≡ origin (option_text given.entry) (option_text value.entry) }
 {

@@ -6,7 +6,8 @@ ghost use Rattle.urlpat_explain.specs.Explanations.{Explains, HasNoUrl, IsAnswer
 ghost use Rattle.urlpat_explain.specs.declared.explained.Explained.{Explained};
 ghost use Rattle.urlpat_explain.specs.declared.outcome.Outcome.{Outcome};
 
-use crate::explained::{Explained, text_places};
+use crate::explained::Explained;
+use crate::given_init::given_init;
 use crate::noted::noted_of;
 use crate::outcome::{Outcome, outcome_of};
 use std::alloc::{AllocError, Global};
@@ -15,7 +16,7 @@ use urlpat_matching::{
     DONE, ExplainArguments, FAILED, Flags, NO_MATCH, compiled, fail, note_of, print, status_of,
     write_refusal,
 };
-use urlpattern_canonical::{find_url, parse_base};
+use urlpattern_canonical::find_url;
 use urlpattern_compile::pattern_values;
 use urlpattern_components::Eight;
 use urlpattern_diagnosis::Span;
@@ -56,7 +57,7 @@ struct Explanation {
 pub fn explain<P: ExplanationPrinter, Out: Write, Err: Write>(
     alloc: Global,
     printer: &P,
-    asked: ExplainArguments<'_>,
+    asked: ExplainArguments<'_, '_>,
     flags: Flags,
     out: &mut Out,
     err: &mut Err,
@@ -109,38 +110,32 @@ fn input_note(
 fn explanation_for<P: ExplanationPrinter>(
     alloc: Global,
     printer: &P,
-    asked: ExplainArguments<'_>,
+    asked: ExplainArguments<'_, '_>,
     flags: Flags,
 ) -> Result<Explanation, Error>
     ensures text { IfOk result (IsExplanation (P.Prints printer.now flags.json) flags asked.entry) }
     ensures status { IfOk result (λ found. (found.status ≡ DONE) ⊎ (found.status ≡ NO_MATCH)) }
 {
     let pattern = compiled(alloc, asked.pattern, asked.base, flags.ignore_case)?;
-    let base = parse_base(alloc, asked.base)?;
-    let (init, starts) = UrlPatternInit::parse_constructor_string_with_starts::<PatternRegexp>(
-        alloc,
-        asked.pattern,
-        base,
-    )?;
-    let places = text_places(asked.pattern, &init, &starts);
+    let (init, places) = given_init(alloc, asked.pattern, asked.base)?;
     let found = explanation_of(alloc, printer, asked, flags, &pattern, &init, &places);
     drop(init);
     found
 }
 
-/// The output of `explain` for its arguments, given the compiled pattern, the init of the
-/// constructor string, and the places of its texts in the string.
+/// The output of `explain` for its arguments, given the compiled pattern, its init, and the places
+/// of the init's texts in the constructor string, if there is one.
 fn explanation_of<P: ExplanationPrinter>(
     alloc: Global,
     printer: &P,
-    asked: ExplainArguments<'_>,
+    asked: ExplainArguments<'_, '_>,
     flags: Flags,
     pattern: &UrlPattern<PatternRegexp>,
     init: &UrlPatternInit,
     places: &Eight<Option<Span>>,
 ) -> Result<Explanation, Error>
-    requires { IsRead flags.ignore_case asked.pattern.now (option_copied asked.base)
-        pattern.now init.now places.now }
+    requires { IsRead flags.ignore_case asked.pattern (option_copied asked.base) pattern.now
+        init.now places.now }
     ensures text { IfOk result (IsExplanation (P.Prints printer.now flags.json) flags asked.entry) }
     ensures status { IfOk result (λ found. (found.status ≡ DONE) ⊎ (found.status ≡ NO_MATCH)) }
 {

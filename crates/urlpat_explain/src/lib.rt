@@ -5,6 +5,7 @@ mod explained;
 mod explained_json;
 mod explained_text;
 mod explaining;
+mod given_init;
 mod given_words;
 mod link_command;
 mod link_reason;

@@ -7,3 +7,4 @@ pub mod LineReadingLemmas
 pub mod LineAnswerLemmas
 pub mod EntryLemmas
 mod TableExamples
+mod LabelExamples

@@ -6,8 +6,9 @@ use Rattle.std.specs.Prelude.{MatchOption, Option, None, Some, String, string_by
 use Rattle.std.specs.declared.alloc.Global.{Global}
 use Rattle.urlpat_matching.specs.GroupLines.{AreGroupLines, AreLines, named_results}
 use Rattle.urlpat_matching.specs.MatchTexts.{IsMatchText, IsMatchTextBy, IsUnmatched, IsUnmatchedBy}
-use Rattle.urlpat_matching.specs.PatternWords.{IsPatternOf}
+use Rattle.urlpat_matching.specs.GivenPatterns.{IsPatternGiven}
 use Rattle.urlpat_matching.specs.declared.command.Flags.{Flags}
+use Rattle.urlpat_matching.specs.declared.given_pattern.GivenPattern.{GivenPattern}
 use Rattle.urlpattern_components.specs.Eight.{name_text}
 use Rattle.urlpattern_components.specs.declared.eight.ComponentName.{ComponentName}
 use Rattle.urlpattern_components.specs.declared.eight.ComponentName.TheVariants.{Protocol}
@@ -55,7 +56,7 @@ bytes_of_texts strings texts same = bytes_of_each strings ∙ ap (map encode_utf
 -- ---- matches
 
 -- The outcome of a compiled pattern is that of its text.
-pub found_by : (flags : Flags) (pattern input : List ℕ) (base : Option (List ℕ)) (compiled : PatternView PatternRegexp) (found : Option (String Global)) → IsPatternOf flags.ignore_case pattern base compiled
+pub found_by : (flags : Flags) (pattern : GivenPattern) (input : List ℕ) (base : Option (List ℕ)) (compiled : PatternView PatternRegexp) (found : Option (String Global)) → IsPatternGiven flags.ignore_case pattern base compiled
     → MatchOption found (IsUnmatchedBy compiled input base) (λ text. IsMatchTextBy flags.json compiled input base (string_bytes text))
     → MatchOption found (IsUnmatched flags.ignore_case pattern input base) (λ text. IsMatchText flags pattern input base (string_bytes text))
 found_by flags pattern input base compiled None is answer = (compiled, is, answer)

@@ -3,8 +3,10 @@
 use Rattle.std.specs.Prelude.{◌≡◌, ℕ, List, [], ◌++◌, codes, decimal, nat_lt, IfSome, Option}
 use Rattle.std.specs.Io.KnownBytes.{Appends}
 use Rattle.urlpat_matching.specs.LineAnswers.{AreAnswersTo, lines_of}
+use Rattle.urlpat_matching.specs.LineLabels.{name_label}
 use Rattle.urlpat_matching.specs.Status.{status_of}
 use Rattle.urlpat_matching.specs.declared.answers.Verdict.{Verdict}
+use Rattle.urlpat_matching.specs.declared.command.LineStyle.{LineStyle}
 use Rattle.urlpat_matching.specs.declared.command.Shape.{Shape}
 use Rattle.urlpat_matching.specs.declared.command.Shape.TheVariants as shapes
 
@@ -13,23 +15,24 @@ abbrev pub AppendsPiece : (IsSuch : List ℕ → Type 0) → (old new : List ℕ
 AppendsPiece IsSuch old new = (piece : List ℕ) × (new ≡ old ++ piece) × IsSuch piece
 
 -- The line with the number of selected lines, if the shape is `Count`. Otherwise empty.
-abbrev pub count_line : Shape → (selected : ℕ) → List ℕ
-count_line shapes.Line selected = []
-count_line shapes.Count selected = decimal selected ++ codes "\n"
-count_line (shapes.Group component name) selected = []
-count_line shapes.Json selected = []
+abbrev pub count_line : LineStyle → Shape → (selected : ℕ) → List ℕ
+count_line style shapes.Line selected = []
+count_line style shapes.Count selected = name_label style ++ decimal selected ++ codes "\n"
+count_line style (shapes.Group component name) selected = []
+count_line style shapes.Json selected = []
 
 -- The output of the rule `Answers` for the lines of a text is written, and after it the count if
 -- lines are counted. The exit status says whether a line is selected.
 abbrev pub FiltersText : (Answers : (text line : List ℕ) → Verdict → (written : List ℕ) → Type 0)
-    → Shape → (status : ℕ) → (text : List ℕ) → (old new : Option (List ℕ)) → Type 0
-FiltersText Answers shape status text old new =
-    (selected : ℕ) × (written : List ℕ) × AreAnswersTo Answers (lines_of text) selected written
-    × Appends old new (written ++ count_line shape selected)
+    → LineStyle → Shape → (status : ℕ) → (text : List ℕ) → (old new : Option (List ℕ)) → Type 0
+FiltersText Answers style shape status text old new =
+    (selected : ℕ) × (written : List ℕ)
+    × AreAnswersTo Answers style 1 (lines_of text) selected written
+    × Appends old new (written ++ count_line style shape selected)
     × (status ≡ status_of (nat_lt 0 selected))
 
 -- `FiltersText` for the lines of a reader, if the contents of the reader (`input`) are known.
 abbrev pub Filters : (Answers : (text line : List ℕ) → Verdict → (written : List ℕ) → Type 0)
-    → Shape → (status : ℕ) → (input old new : Option (List ℕ)) → Type 0
-Filters Answers shape status input old new =
-    IfSome input (λ text. FiltersText Answers shape status text old new)
+    → LineStyle → Shape → (status : ℕ) → (input old new : Option (List ℕ)) → Type 0
+Filters Answers style shape status input old new =
+    IfSome input (λ text. FiltersText Answers style shape status text old new)

@@ -3,7 +3,9 @@ pub mod Groups
 pub mod MatchJson
 pub mod MatchTexts
 pub mod PatternWords
+pub mod GivenPatterns
 pub mod Status
+pub mod LineLabels
 pub mod LineAnswers
 pub mod Lines
 pub mod Filters

@@ -6,10 +6,12 @@ use Rattle.std.specs.Io.KnownBytes.{Appends}
 use Rattle.bstr.specs.Records.{records}
 use Rattle.bstr.specs.Text.{without_terminator}
 use Rattle.std.specs.Str.{IsUtf8}
+use Rattle.urlpat_matching.specs.LineLabels.{labelled}
 use Rattle.urlpat_matching.specs.Lines.{longest}
 use Rattle.urlpat_matching.specs.declared.answers.Tally.{Tally}
 use Rattle.urlpat_matching.specs.declared.answers.Verdict.{Verdict}
 use Rattle.urlpat_matching.specs.declared.answers.Verdict.TheVariants as verdicts
+use Rattle.urlpat_matching.specs.declared.command.LineStyle.{LineStyle}
 
 -- The lines of a text, with their ends.
 abbrev pub lines_of : List ℕ → List (List ℕ)
@@ -40,27 +42,30 @@ module _ (Answers : (text line : List ℕ) → Verdict → (written : List ℕ) 
       (IsRejectedLine line × (verdict ≡ verdicts.Rejected) × (written ≡ []))
       ⊎ ((¬ IsRejectedLine line) × Answers (without_terminator line) line verdict written)
 
-  -- The number of selected lines among these lines, and what is written for them, line by line.
-  unfoldable pub AreAnswersTo : (lines : List (List ℕ)) → (selected : ℕ)
-      → (written : List ℕ) → Type 0
-  AreAnswersTo [] selected written = (selected ≡ 0) × (written ≡ [])
-  AreAnswersTo (line ∷ lines) selected written =
-      (verdict : Verdict) × (more : ℕ)
-      × (piece rest : List ℕ) × IsAnswerTo line verdict piece
-      × AreAnswersTo lines more rest
-      × (selected ≡ selected_by verdict + more) × (written ≡ piece ++ rest)
-
   -- `new` is `old` with what is written for the line appended: by the rule, or nothing for a line
   -- that is rejected (`IsAnswerTo`).
   abbrev pub AppendsAnswerTo : (line old new : List ℕ) → Verdict → Type 0
   AppendsAnswerTo line old new verdict =
       (written : List ℕ) × (new ≡ old ++ written) × IsAnswerTo line verdict written
 
+module _ (Answers : (text line : List ℕ) → Verdict → (written : List ℕ) → Type 0)
+    (style : LineStyle) where
+  -- The number of selected lines among these lines, and what is written for them, line by line,
+  -- each after its label. `number` is that of the first line.
+  unfoldable pub AreAnswersTo : (number : ℕ) → (lines : List (List ℕ)) → (selected : ℕ)
+      → (written : List ℕ) → Type 0
+  AreAnswersTo number [] selected written = (selected ≡ 0) × (written ≡ [])
+  AreAnswersTo number (line ∷ lines) selected written =
+      (verdict : Verdict) × (more : ℕ)
+      × (piece rest : List ℕ) × IsAnswerTo Answers line verdict piece
+      × AreAnswersTo (number + 1) lines more rest
+      × (selected ≡ selected_by verdict + more) × (written ≡ labelled style number piece ++ rest)
+
   -- The output for the lines of a text is appended to `old`. `selected` is the number of selected
   -- lines.
   abbrev pub WritesAnswers : (text : List ℕ) → (selected : ℕ) → (old new : Option (List ℕ)) → Type 0
   WritesAnswers text selected old new =
-      (written : List ℕ) × AreAnswersTo (lines_of text) selected written × Appends old new written
+      (written : List ℕ) × AreAnswersTo 1 (lines_of text) selected written × Appends old new written
 
   -- The output for the lines of a reader is appended to `old`, if the contents of the reader
   -- (`input`) are known. The tally has the number of selected lines.

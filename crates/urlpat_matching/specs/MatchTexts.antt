@@ -5,8 +5,9 @@ use Rattle.url.specs.Parts.{Parts}
 use Rattle.urlpat_matching.specs.GroupLines.{AreLines, all_named_results}
 use Rattle.urlpattern_canonical.specs.BaseUrls.{BaseView, IsRejectedText, IsUrlOf, IsUrlUnder, base_view}
 use Rattle.urlpat_matching.specs.MatchJson.{IsMatchJson}
-use Rattle.urlpat_matching.specs.PatternWords.{IsPatternOf}
+use Rattle.urlpat_matching.specs.GivenPatterns.{IsPatternGiven}
 use Rattle.urlpat_matching.specs.declared.command.Flags.{Flags}
+use Rattle.urlpat_matching.specs.declared.given_pattern.GivenPattern.{GivenPattern}
 use Rattle.urlpattern_components.specs.declared.eight.ComponentName.{ComponentName}
 use Rattle.urlpattern_engine.specs.PatternRegexps.{pattern_result}
 use Rattle.urlpattern_engine.specs.declared.pattern_regexp.PatternRegexp.{PatternRegexp}
@@ -30,12 +31,11 @@ pub record IsMatchTextBy (json : Bool) (compiled : PatternView PatternRegexp) (i
   pub is_match : IsMatch pattern_result compiled (match_inputs.Url url) result
   pub shows : ShowsMatch json result text
 
--- The constructor string `pattern` is compiled to a pattern that matches the input, and `text` is
--- what is printed of the match.
-abbrev pub IsMatchText : Flags → (pattern input : List ℕ) → (base : Option (List ℕ))
+-- The pattern that is given matches the input, and `text` is what is printed of the match.
+abbrev pub IsMatchText : Flags → GivenPattern → (input : List ℕ) → (base : Option (List ℕ))
     → (text : List ℕ) → Type 0
 IsMatchText flags pattern input base text =
-    (compiled : PatternView PatternRegexp) × IsPatternOf flags.ignore_case pattern base compiled
+    (compiled : PatternView PatternRegexp) × IsPatternGiven flags.ignore_case pattern base compiled
     × IsMatchTextBy flags.json compiled input base text
 
 -- The input is a URL under the base URL, and the pattern has no match on it.
@@ -52,11 +52,11 @@ abbrev pub IsUnmatchedBy : (compiled : PatternView PatternRegexp) → (input : L
 IsUnmatchedBy compiled input base =
     IsRejectedText input base ⊎ HasNoMatchUnder compiled input (base_view base)
 
--- The constructor string `pattern` is compiled to a pattern that does not match the input.
-abbrev pub IsUnmatched : (ignores : Bool) → (pattern input : List ℕ)
+-- The pattern that is given does not match the input.
+abbrev pub IsUnmatched : (ignores : Bool) → GivenPattern → (input : List ℕ)
     → (base : Option (List ℕ)) → Type 0
 IsUnmatched ignores pattern input base =
-    (compiled : PatternView PatternRegexp) × IsPatternOf ignores pattern base compiled
+    (compiled : PatternView PatternRegexp) × IsPatternGiven ignores pattern base compiled
     × IsUnmatchedBy compiled input base
 
 -- The input is a URL under the base URL, and no pattern of the list has a match on it.
@@ -66,9 +66,9 @@ HaveNoMatchUnder compiled input base =
     (url : Parts) × IsUrlUnder input base url
     × All (λ pattern. HasNoMatch pattern_result pattern (match_inputs.Url url)) compiled
 
--- `found` is what is printed of the match of the input by the pattern to which the constructor
--- string `pattern` is compiled. `None`: the input does not match.
-abbrev pub FindsMatch : Flags → (pattern input : List ℕ) → (base : Option (List ℕ))
+-- `found` is what is printed of the match of the input by the pattern that is given. `None`: the
+-- input does not match.
+abbrev pub FindsMatch : Flags → GivenPattern → (input : List ℕ) → (base : Option (List ℕ))
     → Option (String Global) → Type 0
 FindsMatch flags pattern input base found =
     MatchOption found (IsUnmatched flags.ignore_case pattern input base) (λ text.

@@ -1,9 +1,12 @@
 //! Writes the output of a rule for the lines of a reader.
 ghost use Rattle.std.specs.Prelude.{◌≡◌, ◌+◌, ◌<◌, ◌^◌, ℕ, List, IfOk, OnOk};
-ghost use Rattle.std.specs.Io.KnownBytes.{Appends};
+ghost use Rattle.std.specs.Io.KnownBytes.{Appends, Keeps};
 ghost use Rattle.urlpat_matching.specs.LineAnswers.{AppendsAnswer, AppendsAnswerTo, WritesInput, selected_by};
+ghost use Rattle.urlpat_matching.specs.LineLabels.{labelled};
 ghost use Rattle.urlpat_matching.specs.declared.answers.Verdict.{Verdict};
 
+use crate::command::LineStyle;
+use crate::line_labels::{FilePlace, label_of};
 use crate::lines::{LONGEST, read_line, without_end};
 use std::alloc::{AllocError, Global};
 use std::io::{BufRead, Write};
@@ -75,16 +78,18 @@ impl From<AllocError> for LinesError {
     }
 }
 
-/// Writes the output of a rule for each line of a reader. Returns how many lines there are of each
-/// kind. A line that is too long or not UTF-8 is reported to `err`, with its number.
+/// Writes the output of a rule for each line of a reader, after the label that `style` asks for.
+/// Returns how many lines there are of each kind. A line that is too long or not UTF-8 is reported
+/// to `err`, with its number.
 pub fn answer_lines<In: BufRead, Out: Write, Err: Write, R: Rule>(
     alloc: Global,
     rule: &R,
+    style: LineStyle<'_>,
     input: &mut In,
     out: &mut Out,
     err: &mut Err,
 ) -> Result<Tally, LinesError>
-    ensures { IfOk result (WritesInput (R.Answers rule.now) (In.remaining input.old)
+    ensures { IfOk result (WritesInput (R.Answers rule.now) style.entry (In.remaining input.old)
         (Out.contents out.old) (Out.contents out.new)) }
 {
     let mut tally = Tally {
@@ -100,11 +105,46 @@ pub fn answer_lines<In: BufRead, Out: Write, Err: Write, R: Rule>(
         }
         written.clear();
         let verdict = answer_line(rule, &line, &mut written)?;
-        write_piece(out, &written)?;
-        report(verdict, number, &line, err);
+        write_labelled(alloc, style, number + 1, &written, out)?;
+        report(verdict, style, number, &line, err);
         tally = counted(tally, verdict);
     }
     Err(LinesError::Read(io::ErrorKind::Other.into()))
+}
+
+/// Writes the output for a line, after its label unless the output is empty. `number` is that of
+/// the line.
+fn write_labelled<Out: Write>(
+    alloc: Global,
+    style: LineStyle<'_>,
+    number: u64,
+    piece: &[u8],
+    out: &mut Out,
+) -> Result<(), LinesError>
+    ensures { OnOk result (Appends (Out.contents out.old) (Out.contents out.new)
+        (labelled style.entry number piece.now)) }
+{
+    if piece.is_empty() {
+        return Ok(());
+    }
+    let label = label_of(alloc, style, number)?;
+    write_piece(out, label.as_bytes())?;
+    write_piece(out, piece)?;
+    flush_if(style.flushed, out)?;
+    Ok(())
+}
+
+/// Flushes the output, if `flushed`.
+fn flush_if<Out: Write>(flushed: bool, out: &mut Out) -> Result<(), LinesError>
+    ensures { OnOk result (Keeps (Out.contents out.old) (Out.contents out.new)) }
+{
+    if flushed {
+        return match out.flush() {
+            Ok(()) => Ok(()),
+            Err(_) => Err(LinesError::Write),
+        };
+    }
+    Ok(())
 }
 
 /// Writes the output for a line.
@@ -134,13 +174,23 @@ fn answer_line<R: Rule>(rule: &R, line: &[u8], written: &mut Vec<u8>) -> Result<
 
 /// Reports that a line is too long or not UTF-8, if the verdict is `Rejected`. `number` is how many
 /// lines are before it.
-fn report<Err: Write>(verdict: Verdict, number: u64, line: &[u8], err: &mut Err) {
+fn report<Err: Write>(
+    verdict: Verdict,
+    style: LineStyle<'_>,
+    number: u64,
+    line: &[u8],
+    err: &mut Err,
+) {
     if verdict == Verdict::Rejected {
+        let place = FilePlace(style.file);
         let number = number.saturating_add(1);
         let _ = if line.len() > LONGEST {
-            writeln!(err, "urlpat: line {number} is longer than {LONGEST} bytes")
+            writeln!(
+                err,
+                "urlpat: {place}line {number} is longer than {LONGEST} bytes"
+            )
         } else {
-            writeln!(err, "urlpat: line {number} is not UTF-8")
+            writeln!(err, "urlpat: {place}line {number} is not UTF-8")
         };
     }
 }

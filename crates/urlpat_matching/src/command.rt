@@ -1,5 +1,6 @@
 //! The commands of the program, with their arguments.
 
+use crate::given_pattern::GivenPattern;
 use urlpattern_components::ComponentName;
 
 /// How patterns match, and how results and errors are printed.
@@ -35,9 +36,9 @@ pub struct ComponentArguments<'w> {
 
 /// The arguments of `match`, and of the short form, which has no base URL as an operand.
 #[derive(Clone, Copy, Debug)]
-pub struct MatchArguments<'w> {
+pub struct MatchArguments<'m, 'w> {
     /// The pattern.
-    pub pattern: &'w str,
+    pub pattern: GivenPattern<'m, 'w>,
     /// The base URL of pattern and input.
     pub base: Option<&'w str>,
     /// The input.
@@ -82,33 +83,59 @@ pub enum Shape<'w> {
     Json,
 }
 
+/// How the output for lines is written.
+#[derive(Clone, Copy, Debug)]
+pub struct LineStyle<'w> {
+    /// The name of the file that has the lines. `None`: standard input has them.
+    pub file: Option<&'w str>,
+    /// Whether the name of the file is written before the output for a line.
+    pub named: bool,
+    /// Whether the number of the line is written before the output for a line.
+    pub numbered: bool,
+    /// Whether the output is flushed after each line.
+    pub flushed: bool,
+}
+
 /// The arguments of `filter`.
 #[derive(Clone, Copy, Debug)]
-pub struct FilterArguments<'w> {
+pub struct FilterArguments<'m, 'w> {
     /// The pattern.
-    pub pattern: &'w str,
+    pub pattern: GivenPattern<'m, 'w>,
     /// The base URL of the pattern and of the lines.
     pub base: Option<&'w str>,
     /// Whether the lines that do not match are selected, in place of those that match.
     pub inverted: bool,
     /// What is printed for a selected line.
     pub shape: AskedShape<'w>,
+    /// How the output for lines is written.
+    pub style: LineStyle<'w>,
 }
 
-/// The arguments of `route` and of `unreachable`.
+/// The arguments of `route`.
+#[derive(Clone, Copy, Debug)]
+pub struct RouteArguments<'w> {
+    /// The name of the file that has the table.
+    pub file: &'w str,
+    /// The base URL of the patterns and of the lines.
+    pub base: Option<&'w str>,
+    /// How the output for lines is written.
+    pub style: LineStyle<'w>,
+}
+
+/// The arguments of `unreachable`.
 #[derive(Clone, Copy, Debug)]
 pub struct TableArguments<'w> {
     /// The name of the file that has the table.
     pub file: &'w str,
-    /// The base URL of the patterns, and of the lines that `route` reads.
+    /// The base URL of the patterns.
     pub base: Option<&'w str>,
 }
 
 /// The arguments of `explain`.
 #[derive(Clone, Copy, Debug)]
-pub struct ExplainArguments<'w> {
+pub struct ExplainArguments<'m, 'w> {
     /// The pattern.
-    pub pattern: &'w str,
+    pub pattern: GivenPattern<'m, 'w>,
     /// The base URL of pattern and input.
     pub base: Option<&'w str>,
     /// The input.
@@ -119,7 +146,7 @@ pub struct ExplainArguments<'w> {
 #[derive(Clone, Copy, Debug)]
 pub struct LinkArguments<'m, 'w> {
     /// The pattern.
-    pub pattern: &'w str,
+    pub pattern: GivenPattern<'m, 'w>,
     /// The base URL of the pattern.
     pub base: Option<&'w str>,
     /// The texts that are given for groups, each as `NAME=VALUE`.
@@ -143,15 +170,15 @@ pub enum Command<'m, 'w> {
     /// Shows what the pattern of a component is compiled to.
     Component(ComponentArguments<'w>),
     /// Matches a URL against a pattern.
-    Match(MatchArguments<'w>),
+    Match(MatchArguments<'m, 'w>),
     /// Finds the first pattern that matches a URL.
     First(FirstArguments<'m, 'w>),
     /// Prints the lines that match.
-    Filter(FilterArguments<'w>),
+    Filter(FilterArguments<'m, 'w>),
     /// Finds a pattern of a table for each line.
-    Route(TableArguments<'w>),
+    Route(RouteArguments<'w>),
     /// Shows each component of a pattern.
-    Explain(ExplainArguments<'w>),
+    Explain(ExplainArguments<'m, 'w>),
     /// Prints the URL of given groups.
     Link(LinkArguments<'m, 'w>),
     /// Says whether a pattern covers another.
@@ -167,4 +194,7 @@ pub struct Arguments<'m, 'w> {
     pub flags: Flags,
     /// The command.
     pub command: Command<'m, 'w>,
+    /// The names of the files whose lines `filter` and `route` read, `-` for standard input. None:
+    /// they read standard input.
+    pub files: &'m [&'w str],
 }

@@ -9,8 +9,10 @@
 mod answers;
 mod command;
 mod exit_status;
+mod given_pattern;
 mod group_names;
 mod json_output;
+mod line_labels;
 mod lines;
 mod notes;
 mod pattern_matching;
@@ -20,13 +22,14 @@ mod writing;
 pub use answers::{LinesError, Rule, Tally, Verdict, answer_lines};
 pub use command::{
     Arguments, AskedShape, Command, ComponentArguments, CoversArguments, ExplainArguments,
-    FilterArguments, FirstArguments, Flags, Kind, LinkArguments, MatchArguments, Shape,
-    TableArguments,
+    FilterArguments, FirstArguments, Flags, Kind, LineStyle, LinkArguments, MatchArguments,
+    RouteArguments, Shape, TableArguments,
 };
 pub use exit_status::{DONE, FAILED, NO_MATCH, fail, print, report, status_of};
+pub use given_pattern::{GivenPattern, compiled, init_of};
 pub use group_names::own_group;
 pub use json_output::{json_line, match_json, match_tree};
 pub use notes::{compiled_or_report, first_diagnosis, match_diagnosis, note_of, write_refusal};
-pub use pattern_matching::{capture_of, compiled, matched_groups, push_match};
+pub use pattern_matching::{capture_of, matched_groups, push_match};
 pub use table::{Entry, NoTable, entries_of};
 pub use writing::write_answers;

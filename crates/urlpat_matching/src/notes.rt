@@ -2,12 +2,12 @@
 //! a URL.
 
 ghost use Rattle.std.specs.Prelude.{◌≡◌, option_copied, IfOk, IfSome};
-ghost use Rattle.urlpat_matching.specs.PatternWords.{IsPatternOf, KeepsPartsOfWord};
+ghost use Rattle.urlpat_matching.specs.GivenPatterns.{IsPatternGiven, KeepsPartsGiven};
 ghost use Rattle.urlpattern_canonical.specs.BaseUrls.{IsRejectedText};
 ghost use Rattle.urlpattern_pattern.specs.Patterns.{pattern_view};
 
 use crate::exit_status::FAILED;
-use crate::pattern_matching::compiled;
+use crate::given_pattern::{GivenPattern, compiled, init_of};
 use std::alloc::Global;
 use std::fmt;
 use std::io::Write;
@@ -68,13 +68,13 @@ impl fmt::Display for Place {
     }
 }
 
-/// Reports the error with which a constructor string or its base is rejected, with the number of
-/// the line that has the string, if it is that of a table, and after it a diagnosis. If memory runs
-/// out, only that is reported. Returns the exit status, `FAILED`.
+/// Reports the error with which a pattern or its base is rejected, with the number of the line that
+/// has the pattern, if it is that of a table, and after it a diagnosis. If memory runs out, only
+/// that is reported. Returns the exit status, `FAILED`.
 pub fn write_refusal<Err: Write>(
     alloc: Global,
     line: Option<u64>,
-    pattern: &str,
+    pattern: GivenPattern<'_, '_>,
     base: Option<&str>,
     error: Error,
     err: &mut Err,
@@ -99,21 +99,21 @@ pub fn write_refusal<Err: Write>(
     FAILED
 }
 
-/// Compiles a constructor string, under a base URL if there is one, with the engine
-/// `PatternRegexp`. `None`: the string or its base is rejected, or memory ran out, which is
-/// reported as by `write_refusal`.
+/// Compiles a pattern as `compiled` does. `None`: the pattern or its base is rejected, or memory
+/// ran out, which is reported as by `write_refusal`.
 pub fn compiled_or_report<Err: Write>(
     alloc: Global,
     line: Option<u64>,
-    pattern: &str,
+    pattern: GivenPattern<'_, '_>,
     base: Option<&str>,
     ignore_case: bool,
     err: &mut Err,
 ) -> Option<UrlPattern<PatternRegexp>>
     ensures compiled { IfSome result (λ compiled.
-        IsPatternOf ignore_case pattern.now (option_copied base.entry) (pattern_view compiled)) }
+        IsPatternGiven ignore_case pattern.entry (option_copied base.entry)
+        (pattern_view compiled)) }
     ensures kept { IfSome result
-        (KeepsPartsOfWord ignore_case pattern.now (option_copied base.entry)) }
+        (KeepsPartsGiven ignore_case pattern.entry (option_copied base.entry)) }
     ensures quiet { IfSome result (λ compiled. err.new ≡ err.old) }
 {
     match compiled(alloc, pattern, base, ignore_case) {
@@ -125,11 +125,10 @@ pub fn compiled_or_report<Err: Write>(
     }
 }
 
-/// Returns a diagnosis of a constructor string and its base, as lines of text. `None`: neither is
-/// rejected.
+/// Returns a diagnosis of a pattern and its base, as lines of text. `None`: neither is rejected.
 pub fn match_diagnosis(
     alloc: Global,
-    pattern: &str,
+    pattern: GivenPattern<'_, '_>,
     base: Option<&str>,
 ) -> Result<Option<String>, OutOfMemory> {
     match diagnosed(alloc, pattern, base)? {
@@ -150,7 +149,7 @@ pub fn first_diagnosis(
     patterns: &[&str],
 ) -> Result<Option<String>, OutOfMemory> {
     for (index, pattern) in patterns.iter().enumerate() {
-        if let Some(diagnosis) = diagnosed(alloc, pattern, base)? {
+        if let Some(diagnosis) = diagnosed(alloc, GivenPattern::Text(*pattern), base)? {
             let text = numbered(alloc, index, &diagnosis);
             drop(diagnosis);
             return Ok(Some(text?));
@@ -168,13 +167,39 @@ fn numbered(alloc: Global, index: usize, diagnosis: &Diagnosis) -> Result<String
     }
 }
 
-/// Diagnoses a constructor string and its base, under the default options. `None`: neither is
-/// rejected.
+/// Diagnoses a pattern and its base, under the default options. `None`: neither is rejected.
 fn diagnosed(
     alloc: Global,
-    pattern: &str,
+    pattern: GivenPattern<'_, '_>,
     base: Option<&str>,
 ) -> Result<Option<Diagnosis>, OutOfMemory> {
-    let options = UrlPatternOptions::default();
-    UrlPattern::<PatternRegexp>::diagnose(alloc, pattern, base, options)
+    match pattern {
+        GivenPattern::Text(text) => diagnosed_text(alloc, text, base),
+        GivenPattern::Init(plain) => match init_of(alloc, plain, base) {
+            Ok(init) => {
+                let found = UrlPattern::<PatternRegexp>::diagnose_init(
+                    alloc,
+                    &init,
+                    UrlPatternOptions::default(),
+                );
+                drop(init);
+                found
+            }
+            Err(Error::OutOfMemory) => Err(OutOfMemory),
+            // The base is rejected, whatever the pattern.
+            Err(_) => match plain.base_url.as_deref() {
+                Some(own) => diagnosed_text(alloc, "*", Some(own)),
+                None => diagnosed_text(alloc, "*", base),
+            },
+        },
+    }
+}
+
+/// Diagnoses a constructor string and its base. `None`: neither is rejected.
+fn diagnosed_text(
+    alloc: Global,
+    text: &str,
+    base: Option<&str>,
+) -> Result<Option<Diagnosis>, OutOfMemory> {
+    UrlPattern::<PatternRegexp>::diagnose(alloc, text, base, UrlPatternOptions::default())
 }

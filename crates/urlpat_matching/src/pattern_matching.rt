@@ -1,12 +1,11 @@
-//! Compiles the pattern of an argument, matches an input by it, and writes the match: a line for
-//! each group, or JSON.
+//! Matches an input by a pattern, and writes the match: a line for each group, or JSON.
 
 ghost use Rattle.std.specs.Map.{keys_of};
 ghost use Rattle.std.specs.Prelude.{◌≡◌, ◌++◌, ◌∷◌, [], map, option_copied, string_bytes, IfErr, IfOk, IfSome, OnOk};
 ghost use Rattle.std.specs.Str.{chars};
 ghost use Rattle.urlpat_matching.specs.GroupLines.{AreGroupLines, AreLines, AreNames, AppendsLines, group_bytes, all_named_results, group_line};
 ghost use Rattle.urlpat_matching.specs.MatchTexts.{FindsMatch, FindsMatchBy, ShowsMatch};
-ghost use Rattle.urlpat_matching.specs.PatternWords.{IsPatternOf, KeepsPartsOfWord, RejectsPatternOf};
+ghost use Rattle.urlpat_matching.specs.GivenPatterns.{RejectsGiven};
 ghost use Rattle.urlpattern_matches.specs.BorrowedMatches.{pattern_captures_view, groups_view};
 ghost use Rattle.urlpattern_components.specs.Eight.{name_text};
 ghost use Rattle.urlpattern_syntax.specs.Errors.{MemoryOr, OnlyOutOfMemory};
@@ -14,15 +13,15 @@ ghost use Rattle.urlpattern_pattern.specs.Patterns.{pattern_view};
 ghost use Rattle.urlpattern_syntax.specs.Text.{text_of};
 
 use crate::command::{Flags, MatchArguments};
+use crate::given_pattern::compiled;
 use crate::json_output::match_json;
 use std::alloc::{AllocError, Global};
 use urlpattern_canonical::find_url;
 use urlpattern_components::ComponentName;
 use urlpattern_engine::PatternRegexp;
-use urlpattern_inputs::UrlPatternOptions;
 use urlpattern_matches::UrlPatternCaptures;
 use urlpattern_pattern::UrlPattern;
-use urlpattern_syntax::{Error, RegexSyntax};
+use urlpattern_syntax::Error;
 
 /// Returns what the groups of a pattern capture of an input, a URL under a base URL if there is
 /// one: a line for each group, or JSON, as `flags` say. `None`: the input does not match, or is not
@@ -31,44 +30,19 @@ use urlpattern_syntax::{Error, RegexSyntax};
 /// The error is the one with which the pattern or its base is rejected, or that memory ran out.
 pub fn matched_groups(
     alloc: Global,
-    asked: MatchArguments<'_>,
+    asked: MatchArguments<'_, '_>,
     flags: Flags,
 ) -> Result<Option<String>, Error>
     ensures found { IfOk result
-        (FindsMatch flags asked.entry.pattern.now asked.entry.input.now
+        (FindsMatch flags asked.entry.pattern asked.entry.input.now
         (option_copied asked.entry.base)) }
     ensures refused { IfErr result (MemoryOr
-        (RejectsPatternOf flags.ignore_case asked.entry.pattern.now
-        (option_copied asked.entry.base))) }
+        (RejectsGiven flags.ignore_case asked.entry.pattern (option_copied asked.entry.base))) }
 {
     let pattern = compiled(alloc, asked.pattern, asked.base, flags.ignore_case)?;
     let answer = groups_of_match(alloc, &pattern, asked.base, flags.json, asked.input);
     drop(pattern);
     Ok(answer?)
-}
-
-/// Compiles a constructor string, under a base URL if there is one, with the engine
-/// `PatternRegexp`.
-///
-/// The error is the one with which the pattern or its base is rejected, or that memory ran out.
-pub fn compiled(
-    alloc: Global,
-    pattern: &str,
-    base: Option<&str>,
-    ignore_case: bool,
-) -> Result<UrlPattern<PatternRegexp>, Error>
-    ensures compiled { IfOk result (λ compiled.
-        IsPatternOf ignore_case pattern.now (option_copied base.entry) (pattern_view compiled)) }
-    ensures kept { IfOk result
-        (KeepsPartsOfWord ignore_case pattern.now (option_copied base.entry)) }
-    ensures refused { IfErr result
-        (MemoryOr (RejectsPatternOf ignore_case pattern.now (option_copied base.entry))) }
-{
-    let options = UrlPatternOptions {
-        regex_syntax: RegexSyntax::Rust,
-        ignore_case,
-    };
-    UrlPattern::from_constructor_string(alloc, pattern, base, options)
 }
 
 /// Returns what the groups of a pattern capture of an input, a URL under a base URL if there is

@@ -1,13 +1,15 @@
 //! Writes the output of a rule for lines, and what is said of all of them.
 ghost use Rattle.std.specs.Io.KnownBytes.{Appends};
-ghost use Rattle.std.specs.Prelude.{◌≡◌, ◌≢◌, ◌⊎◌, OnOk, nat_lt};
+ghost use Rattle.std.specs.Prelude.{◌≡◌, ◌≢◌, ◌⊎◌, ◌++◌, codes, decimal, string_bytes, IfOk, OnOk, nat_lt};
 ghost use Rattle.urlpat_matching.specs.Filters.{Filters, count_line};
+ghost use Rattle.urlpat_matching.specs.LineLabels.{name_label};
 ghost use Rattle.urlpat_matching.specs.Status.{status_of};
 
 use crate::answers::{LinesError, Rule, Tally, answer_lines};
-use crate::command::Shape;
-use crate::exit_status::{DONE, FAILED, NO_MATCH, status_of};
-use std::alloc::Global;
+use crate::command::{LineStyle, Shape};
+use crate::exit_status::{DONE, FAILED, NO_MATCH, print, status_of};
+use crate::line_labels::{FilePlace, name_of};
+use std::alloc::{AllocError, Global};
 use std::io;
 use std::io::{BufRead, Write};
 
@@ -17,25 +19,28 @@ use std::io::{BufRead, Write};
 pub fn write_answers<In: BufRead, Out: Write, Err: Write, R: Rule>(
     alloc: Global,
     rule: &R,
+    style: LineStyle<'_>,
     shape: Shape<'_>,
     input: &mut In,
     out: &mut Out,
     err: &mut Err,
 ) -> u8
     ensures status { (result ≡ DONE) ⊎ (result ≡ NO_MATCH) ⊎ (result ≡ FAILED) }
-    ensures written { result ≢ FAILED → Filters (R.Answers rule.now) shape.entry result
+    ensures written { result ≢ FAILED → Filters (R.Answers rule.now) style.entry shape.entry result
         (In.remaining input.old) (Out.contents out.old) (Out.contents out.new) }
 {
-    match answer_lines(alloc, rule, input, out, err) {
-        Ok(tally) => finish(shape, tally, out, err),
-        Err(fault) => report_fault(&fault, err),
+    match answer_lines(alloc, rule, style, input, out, err) {
+        Ok(tally) => finish(alloc, style, shape, tally, out, err),
+        Err(fault) => report_fault(&fault, style, err),
     }
 }
 
 /// Writes the count, if lines are counted, and reports how many lines were not URLs or were
-/// rejected. Returns the exit status: `NO_MATCH` if no line is selected, and `FAILED` if the output
-/// failed.
+/// rejected. Returns the exit status: `NO_MATCH` if no line is selected, and `FAILED` if memory ran
+/// out, which is reported, or the output failed.
 fn finish<Out: Write, Err: Write>(
+    alloc: Global,
+    style: LineStyle<'_>,
     shape: Shape<'_>,
     tally: Tally,
     out: &mut Out,
@@ -43,54 +48,83 @@ fn finish<Out: Write, Err: Write>(
 ) -> u8
     ensures status { (result ≡ DONE) ⊎ (result ≡ NO_MATCH) ⊎ (result ≡ FAILED) }
     ensures written { result ≢ FAILED → Appends (Out.contents out.old) (Out.contents out.new)
-        (count_line shape.entry tally.selected) }
+        (count_line style.entry shape.entry tally.selected) }
     ensures any { result ≢ FAILED → result ≡ status_of (nat_lt 0 tally.selected) }
 {
-    match write_count(shape, tally.selected, out) {
+    match write_count(alloc, style, shape, tally.selected, out) {
         Ok(()) => {
-            report_tally(tally, err);
+            report_tally(tally, style, err);
             status_of(tally.selected > 0)
         }
-        Err(_) => FAILED,
+        Err(error) => report_fault(&fault_of(error), style, err),
+    }
+}
+
+/// Why the count is not written: memory ran out, or the output failed.
+fn fault_of(error: io::Error) -> LinesError {
+    match error.kind() {
+        io::ErrorKind::OutOfMemory => LinesError::OutOfMemory,
+        _ => LinesError::Write,
     }
 }
 
 /// Writes the count, if lines are counted, and flushes the output.
-fn write_count<Out: Write>(shape: Shape<'_>, selected: u64, out: &mut Out) -> io::Result<()>
-    ensures { OnOk result
-        (Appends (Out.contents out.old) (Out.contents out.new) (count_line shape.entry selected)) }
+fn write_count<Out: Write>(
+    alloc: Global,
+    style: LineStyle<'_>,
+    shape: Shape<'_>,
+    selected: u64,
+    out: &mut Out,
+) -> io::Result<()>
+    ensures { OnOk result (Appends (Out.contents out.old) (Out.contents out.new)
+        (count_line style.entry shape.entry selected)) }
 {
     match shape {
         Shape::Count => {
-            writeln!(out, "{selected}")?;
-            out.flush()
+            let text = count_text(alloc, style, selected)?;
+            print(text.as_bytes(), out)
         }
         Shape::Line | Shape::Group(_, _) | Shape::Json => out.flush(),
     }
 }
 
+/// The line with the number of selected lines, after the name of the file if `style` asks for it.
+fn count_text(alloc: Global, style: LineStyle<'_>, selected: u64) -> Result<String, AllocError>
+    ensures { IfOk result (λ text.
+        string_bytes text ≡ name_label style.entry ++ decimal selected ++ codes "\n") }
+{
+    let mut text = name_of(alloc, style)?;
+    let number = format!(in alloc; "{selected}\n")?;
+    text.push_str(&number)?;
+    Ok(text)
+}
+
 /// Reports how many lines were not URLs, and how many were rejected, if there are any.
-fn report_tally<Err: Write>(tally: Tally, err: &mut Err) {
+fn report_tally<Err: Write>(tally: Tally, style: LineStyle<'_>, err: &mut Err) {
+    let place = FilePlace(style.file);
     let Tally {
         selected: _,
         no_url,
         rejected,
     } = tally;
     if no_url > 0 {
-        let _ = writeln!(err, "urlpat: lines that are no URL: {no_url}");
+        let _ = writeln!(err, "urlpat: {place}lines that are no URL: {no_url}");
     }
     if rejected > 0 {
-        let _ = writeln!(err, "urlpat: lines that are rejected: {rejected}");
+        let _ = writeln!(err, "urlpat: {place}lines that are rejected: {rejected}");
     }
 }
 
 /// Reports why not all lines were processed, unless the output failed. Returns the exit status,
 /// `FAILED`.
-fn report_fault<Err: Write>(fault: &LinesError, err: &mut Err) -> u8
+fn report_fault<Err: Write>(fault: &LinesError, style: LineStyle<'_>, err: &mut Err) -> u8
     ensures { result ≡ FAILED }
 {
     let _ = match fault {
-        LinesError::Read(error) => writeln!(err, "urlpat: standard input cannot be read: {error}"),
+        LinesError::Read(error) => match style.file {
+            Some(file) => writeln!(err, "urlpat: the file `{file}` cannot be read: {error}"),
+            None => writeln!(err, "urlpat: standard input cannot be read: {error}"),
+        },
         LinesError::Write => Ok(()),
         LinesError::OutOfMemory => err.write_all(b"out of memory\n"),
     };

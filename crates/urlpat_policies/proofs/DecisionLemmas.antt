@@ -10,6 +10,7 @@ use Rattle.urlpat_matching.specs.LineAnswers.{WritesAnswers, WritesInput}
 use Rattle.urlpat_matching.specs.Status.{status_of}
 use Rattle.urlpat_matching.specs.declared.answers.Tally.{Tally}
 use Rattle.urlpat_matching.specs.declared.answers.Verdict.{Verdict}
+use Rattle.urlpat_matching.specs.declared.command.LineStyle.{LineStyle}
 use Rattle.urlpattern_matcher.specs.declared.regexp.RegExp.{Ghosts as Engine}
 use Rattle.urlpattern_policy.specs.declared.decision.Decision.{Decision}
 use Rattle.urlpattern_policy.specs.declared.policy.UrlPolicy.{UrlPolicy}
@@ -38,8 +39,8 @@ appends_kept (Some old) (Some mid) None written first second = absurd second
 appends_kept (Some old) (Some mid) (Some new) written first second = second ∙ append-nil mid ∙ first
 
 -- The output for the lines is written, and then nothing.
-pub lines_decided : (Answers : (text line : List ℕ) → Verdict → (written : List ℕ) → Type 0) (input old mid new : Option (List ℕ)) (tally : Tally) (status : ℕ)
-    → WritesInput Answers input old mid tally → Appends mid new [] → status ≡ status_of (tally.selected == 0)
-    → IfSome input (λ text. (denied : ℕ) × (status ≡ status_of (denied == 0)) × WritesAnswers Answers text denied old new)
-lines_decided Answers None old mid new tally status writes kept is = tt
-lines_decided Answers (Some text) old mid new tally status (written, are, grown) kept is = (tally.selected, is, (written, are, appends_kept old mid new written grown kept))
+pub lines_decided : (Answers : (text line : List ℕ) → Verdict → (written : List ℕ) → Type 0) (style : LineStyle) (input old mid new : Option (List ℕ)) (tally : Tally) (status : ℕ)
+    → WritesInput Answers style input old mid tally → Appends mid new [] → status ≡ status_of (tally.selected == 0)
+    → IfSome input (λ text. (denied : ℕ) × (status ≡ status_of (denied == 0)) × WritesAnswers Answers style text denied old new)
+lines_decided Answers style None old mid new tally status writes kept is = tt
+lines_decided Answers style (Some text) old mid new tally status (written, are, grown) kept is = (tally.selected, is, (written, are, appends_kept old mid new written grown kept))

@@ -8,6 +8,7 @@ use Rattle.urlpat_matching.specs.LineAnswers.{WritesAnswers}
 use Rattle.urlpat_matching.specs.Status.{status_of}
 use Rattle.urlpat_matching.specs.declared.answers.Verdict.{Verdict}
 use Rattle.urlpat_matching.specs.declared.answers.Verdict.TheVariants.{Passed, Selected}
+use Rattle.urlpat_matching.specs.declared.command.LineStyle.{LineStyle}
 use Rattle.urlpattern_compare.specs.declared.candidates.TheConstants.{USUAL_LIMITS}
 use Rattle.urlpattern_matcher.specs.declared.regexp.RegExp.{Ghosts as Engine}
 use Rattle.urlpattern_policy.specs.Decisions.{Decides as DecidesText}
@@ -47,6 +48,10 @@ IsLineDecided engine policy Prints text line verdict written =
     (decision : Decision) × IsDecided engine policy text decision
     × Prints (decision ∷ []) written × (verdict ≡ verdict_of decision)
 
+-- Nothing is written before the output for a line.
+abbrev pub unlabelled : LineStyle
+unlabelled = record { file = None; named = false; numbered = false; flushed = false }
+
 -- The decisions about the lines of the reader are printed, if they are known. The exit status is 0
 -- if none of the lines is denied, else 1.
 abbrev pub DecidesLines : {E : Type 0} → Engine E → UrlPolicy E
@@ -54,7 +59,7 @@ abbrev pub DecidesLines : {E : Type 0} → Engine E → UrlPolicy E
     → (input old new : Option (List ℕ)) → Type 0
 DecidesLines engine policy Prints status input old new =
     IfSome input (λ text. (denied : ℕ) × (status ≡ status_of (denied == 0))
-    × WritesAnswers (IsLineDecided engine policy Prints) text denied old new)
+    × WritesAnswers (IsLineDecided engine policy Prints) unlabelled text denied old new)
 
 -- The decisions are printed. The exit status is 0 if none of them denies, else 1.
 abbrev pub PrintsDecided : (Prints : List Decision → List ℕ → Type 0) → List Decision

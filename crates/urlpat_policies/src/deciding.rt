@@ -13,7 +13,7 @@ use crate::reports::{report_lines, report_memory, report_refusal};
 use std::alloc::{AllocError, Global};
 use std::io::{BufRead, Write};
 use urlpat_commands::Tables;
-use urlpat_matching::{DONE, FAILED, NO_MATCH, Tally, answer_lines, print, status_of};
+use urlpat_matching::{DONE, FAILED, LineStyle, NO_MATCH, Tally, answer_lines, print, status_of};
 use urlpattern_matcher::regexp::RegExp;
 use urlpattern_policy::{Decision, UrlPolicy};
 
@@ -89,7 +89,13 @@ fn decide_lines<R: RegExp, P: PolicyPrinter, In: BufRead, Out: Write, Err: Write
         (P.PrintsDecisions decider.now.printer.now decider.now.json) result
         (In.remaining input.old) (Out.contents out.old) (Out.contents out.new) }
 {
-    match answer_lines(decider.alloc, decider, input, out, err) {
+    let style = LineStyle {
+        file: None,
+        named: false,
+        numbered: false,
+        flushed: false,
+    };
+    match answer_lines(decider.alloc, decider, style, input, out, err) {
         Ok(tally) => finish(tally, out),
         Err(fault) => {
             report_lines(&fault, err);

@@ -1,7 +1,7 @@
 //! What is found of policies, as JSON.
 
 use crate::policy_file::NoPolicy;
-use crate::printed_text::{decision_words, doubt_words, reason_words, rule_words};
+use crate::printed_text::{decision_words, doubt_words, reason_words, rule_number, rule_words};
 use serde_json::{Map, Value, put};
 use std::alloc::{AllocError, Global};
 use urlpat_matching::json_line;
@@ -12,7 +12,7 @@ use urlpattern_policy_differences::{PolicyDifference, PolicyExcess};
 use urlpattern_policy_text::{JsonFault, PolicyFault};
 
 /// Returns a line of JSON for each decision: an object with `decision` and `reason`, and with
-/// `rule` if one decides.
+/// `rule`, a number counted from 1, if one decides.
 pub fn decisions_json(alloc: Global, decisions: &[Decision]) -> Result<String, AllocError> {
     let mut text = String::new(alloc);
     for decision in decisions {
@@ -29,7 +29,7 @@ fn decision_line(alloc: Global, decision: Decision) -> Result<String, AllocError
     put_text(&mut members, alloc, "decision", effect)?;
     put_text(&mut members, alloc, "reason", &reason)?;
     if let Decision::Allow(Some(rule)) | Decision::Deny(DenyReason::Rule(rule)) = decision {
-        put(&mut members, alloc, "rule", Value::from(rule))?;
+        put(&mut members, alloc, "rule", Value::from(rule_number(rule)))?;
     }
     json_line(alloc, &Value::Object(members))
 }

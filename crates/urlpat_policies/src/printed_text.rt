@@ -30,12 +30,20 @@ pub(crate) fn decision_words(
     }
 }
 
-/// Returns a rule in words. `None`: no rule matches.
+/// Returns a rule in words, by its number. `None`: no rule matches.
 pub(crate) fn rule_words(alloc: Global, rule: Option<usize>) -> Result<String, AllocError> {
     match rule {
-        Some(index) => format!(in alloc; "rule {index}"),
+        Some(index) => {
+            let number = rule_number(index);
+            format!(in alloc; "rule {number}")
+        }
         None => String::from_str(alloc, "no rule"),
     }
+}
+
+/// Returns the number of a rule, counted from 1 as lines are.
+pub(crate) fn rule_number(index: usize) -> usize {
+    index.saturating_add(1)
 }
 
 /// Returns why a URL is denied, in words.

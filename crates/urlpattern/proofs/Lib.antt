@@ -10,6 +10,7 @@ pub mod ListLemmas
 pub mod NextLemmas
 pub mod PatternMapLemmas
 pub mod MapFinding
+pub mod QuickLemmas
 pub mod RouteLemmas
 pub mod RouteExamples
 pub mod RouteReachLemmas

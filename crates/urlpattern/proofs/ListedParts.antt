@@ -44,6 +44,7 @@ copy_made engine parts others view equal made name =
       is_component = subst (λ options. IsComponentOf engine options (kept_parts other) (view name)) (equal name).options
           (subst (λ them. IsComponentOf engine (kept_options own) them (view name)) (equal name).parts (made name).is_component);
       has_engine = (made name).has_engine;
+      case = sym (equal name).case ∙ (made name).case;
     }
 
 pub zip_push : {A B : Type 0} (R : A → B → Type 0) (xs : List A) (ys : List B) (x : A) (y : B) → AllZip R xs ys → R x y → AllZip R (xs ++ x ∷ []) (ys ++ y ∷ [])

@@ -114,6 +114,7 @@ pub mod Paths
 pub mod PatternKeys
 pub mod PatternMaps
 pub mod RouteReach
+pub mod QuickRoutes
 pub mod Routes
 pub mod Theorem
 pub mod Reached

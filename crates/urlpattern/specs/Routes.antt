@@ -149,6 +149,13 @@ SomeMatches {E} {T} answer routes texts =
     (index : ℕ) × (entry : UrlPattern E × Route T) × (slice_get routes index ≡ Some entry)
     × AreMatched answer (pattern_view entry.0) texts
 
+-- No route matches the texts, whatever its method.
+abbrev pub NoneMatches : {E T : Type 0} → (answer : E → List ℕ → Option Captures)
+    → Routes E T → Texts → Type 0
+NoneMatches {E} {T} answer routes texts =
+    (index : ℕ) (entry : UrlPattern E × Route T) → slice_get routes index ≡ Some entry
+    → DoesNotMatch answer (pattern_view entry.0) texts
+
 -- `found` is the first route that takes `HEAD` and matches the texts, and has this method itself.
 abbrev pub IsOwnHead : {E T : Type 0} → (answer : E → List ℕ → Option Captures) → Routes E T
     → Texts → Option (ℕ × Bor T × UrlPatternCaptures) → Type 0
@@ -193,9 +200,7 @@ IsRouted answer router method texts (MethodNotAllowed allowed) =
     IsServed answer router method texts None
     × SomeMatches answer router.routes texts
     × (allowed_left allowed ≡ all_routes router.routes texts)
-IsRouted {E} {T} answer router method texts NotFound =
-    (index : ℕ) (entry : UrlPattern E × Route T) → slice_get router.routes index ≡ Some entry
-    → DoesNotMatch answer (pattern_view entry.0) texts
+IsRouted answer router method texts NotFound = NoneMatches answer router.routes texts
 
 -- The text is a path, and `routed` is what the router returns for it.
 abbrev pub IsRoutedPath : {E T : Type 0} → (answer : E → List ℕ → Option Captures)

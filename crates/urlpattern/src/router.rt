@@ -16,6 +16,7 @@ mod allowed_methods;
 mod contending;
 mod copy;
 mod named;
+mod quick;
 mod reach;
 mod route;
 mod route_contentions;
@@ -25,7 +26,7 @@ mod routed;
 mod serving;
 
 use crate::map::UrlPatternMap;
-use crate::path::is_path;
+use crate::path::{is_path, is_plain_path};
 use crate::path_error::PathError;
 pub use allowed_methods::AllowedMethods;
 use http_header::is_token;
@@ -71,8 +72,33 @@ impl<T, R: RegExp> UrlPatternRouter<T, R> {
     /// Returns the first route that serves this method and whose pattern matches the path, all
     /// other components being empty. Case counts in the method. The path is not made canonical.
     ///
-    /// The error is `NotAPath` unless `is_path`, else `OutOfMemory`. Only an engine allocates.
+    /// The error is `NotAPath` unless `is_path`, else `OutOfMemory`. Only an engine allocates, or
+    /// reading captures in place of one.
     pub fn at<'m, 'u>(
+        &'m self,
+        alloc: Global,
+        method: &str,
+        path: &'u str,
+    ) -> Result<Routed<'m, 'u, T, R>, PathError>
+        ensures routed { IfOk result
+            (IsRoutedPath R.answer self.now (chars method.now) (chars path.now)) }
+        ensures refused { IfErr result
+            (IsRoutePathError R.answer self.now (chars method.now) (chars path.now)) }
+    {
+        let mut hashes = AddressHashes::new();
+        if !is_plain_path(path, &mut hashes) {
+            return self.at_any_path(alloc, method, path);
+        }
+        let Some(first) = self.routes.next_candidate(&hashes, 0) else {
+            return Ok(Routed::NotFound);
+        };
+        self.at_plain_path(alloc, method, path, &hashes, first)
+    }
+
+    /// Returns what the router has for a request with this method and a text that may be a path, as
+    /// `at` does.
+    #[inline(never)]
+    fn at_any_path<'m, 'u>(
         &'m self,
         alloc: Global,
         method: &str,

@@ -7,9 +7,9 @@ use Rattle.std.specs.Prelude.{◌||◌}
 use Rattle.urlpattern_compare.specs.Answers.{is_custom_part, is_custom_kind}
 use Rattle.urlpattern_compare.specs.Automata.{AcceptsText, IsWithin}
 use Rattle.urlpattern_compare.specs.MeantTexts.{MeansText}
-use Rattle.urlpattern_compare.specs.Making.{made, made_view}
+use Rattle.urlpattern_compare.specs.Making.{IsMadeOf}
 use Rattle.urlpattern_compare.specs.declared.parts_automaton.PartsAutomaton.{PartsAutomaton}
-use Rattle.urlpattern_compare.proofs.PartsRead.{parts_accepted, parts_within}
+use Rattle.urlpattern_compare.proofs.PartsRead.{made_within, meaning_accepted}
 use Rattle.urlpattern_meaning.specs.PartMeaning.{AreGenerated}
 use Rattle.urlpattern_syntax.specs.declared.parser.PartType.{PartType}
 use Rattle.urlpattern_syntax.specs.{Options.OptionsView, Parts.PartView, Parts.part_view, Parts.parts_view}
@@ -44,15 +44,15 @@ custom (part ∷ parts) some are = custom_cases part parts (is_custom_part part)
 
 -- ---- automata
 
-pub made_within : (options : OptionsView) (parts : List PartView) (result : Result (Option PartsAutomaton) AllocError) →
-    IfOk result (λ found. IfSome found (λ automaton. made_view automaton ≡ made options parts)) → IfOk result (λ found. IfSome found IsWithin)
-made_within options parts (Err e) is = is
-made_within options parts (Ok None) is = is
-made_within options parts (Ok (Some automaton)) is = parts_within options parts automaton is
+pub all_within : (options : OptionsView) (parts : List PartView) (result : Result (Option PartsAutomaton) AllocError) →
+    IfOk result (λ found. IfSome found (IsMadeOf options parts)) → IfOk result (λ found. IfSome found IsWithin)
+all_within options parts (Err e) is = is
+all_within options parts (Ok None) is = is
+all_within options parts (Ok (Some automaton)) is = made_within options parts automaton is
 
 pub made_accepts : (options : OptionsView) (parts : List PartView) (result : Result (Option PartsAutomaton) AllocError) → AreGenerated parts →
-    IfOk result (λ found. IfSome found (λ automaton. made_view automaton ≡ made options parts)) →
+    IfOk result (λ found. IfSome found (IsMadeOf options parts)) →
     IfOk result (λ found. IfSome found (λ automaton. (text : List ℕ) → AcceptsText automaton text ↔ MeansText options parts text))
 made_accepts options parts (Err e) gen is = is
 made_accepts options parts (Ok None) gen is = is
-made_accepts options parts (Ok (Some automaton)) gen is = parts_accepted options parts automaton gen is
+made_accepts options parts (Ok (Some automaton)) gen is = meaning_accepted options parts automaton gen is

@@ -44,10 +44,10 @@ ends : is_in (states_by edges start (codes "a")) 0 ≡ true
 ends = refl
 
 -- At the start an `a` alone counts, and after it a line feed alone.
-at_the_start : with_named_from (codes "\n") start edges ≡ codes "\na"
+at_the_start : with_named_from false (codes "\n") start edges ≡ codes "\na"
 at_the_start = refl
 
-after_the_first : with_named_from (codes "\n") (true ∷ true ∷ false ∷ []) edges ≡ codes "\n"
+after_the_first : with_named_from false (codes "\n") (true ∷ true ∷ false ∷ []) edges ≡ codes "\n"
 after_the_first = refl
 
 -- ---- values that are apart

@@ -10,15 +10,15 @@ use Rattle.std.specs.declared.alloc.AllocError.{AllocError}
 use Rattle.std.specs.declared.alloc.Global.{Global}
 use Rattle.urlpattern_compare.proofs.CandidateLemmas.{all_back, all_front}
 use Rattle.urlpattern_compare.proofs.DecidedLemmas.{fine_text}
-use Rattle.urlpattern_compare.proofs.PartsRead.{parts_accepted, parts_within}
+use Rattle.urlpattern_compare.proofs.PartsRead.{made_within, meaning_accepted}
 use Rattle.urlpattern_compare.proofs.StateSets.{leads_moved, leads_starts, length_moved, length_starts}
-use Rattle.urlpattern_compare.proofs.WorkLemmas.{parts_states}
+use Rattle.urlpattern_compare.proofs.WorkLemmas.{made_states}
 use Rattle.urlpattern_compare.specs.Automata.{AcceptsText, IsWithin}
 use Rattle.urlpattern_compare.specs.Candidates.{AreLines, LackLines, TextAt, text_at}
 use Rattle.urlpattern_compare.specs.CommonTexts.{AreAutomata, AreCommon, AreMeanings, AreTaken, HasAutomata, IsAutomatonOf, IsAutomatonOrLacks, IsLack, IsLackOf, IsSameIn, IsSure, LacksBy, MeanAlike, MeansByParts, MeansEach, PatternMeaning, Takes, TakesAll, TakesEach, parts_of, string_at}
 use Rattle.urlpattern_compare.specs.Comparing.{AreSame, IsKnown, IsUnknownBy, MeansIn}
 use Rattle.urlpattern_compare.specs.Conditions.{accepts, states_by}
-use Rattle.urlpattern_compare.specs.Making.{HasManyStates, Made, made, made_view}
+use Rattle.urlpattern_compare.specs.Making.{HasManyStates, IsMadeOf}
 use Rattle.urlpattern_compare.specs.Searching.{LeadsIn, is_in, moved, starts_of}
 use Rattle.urlpattern_compare.specs.TextSearch.{IsLine}
 use Rattle.urlpattern_compare.specs.declared.common_texts.Lack.{Lack}
@@ -31,6 +31,7 @@ use Rattle.urlpattern_compare.specs.declared.pattern_parts.PatternParts.{Pattern
 use Rattle.urlpattern_components.specs.Eight.{at}
 use Rattle.urlpattern_components.specs.declared.eight.ComponentName.{ComponentName}
 use Rattle.urlpattern_components.specs.declared.eight.Eight.{Eight}
+use Rattle.urlpattern_meaning.specs.Matching.{folded_character}
 use Rattle.urlpattern_syntax.specs.Options.{options_view}
 use Rattle.urlpattern_syntax.specs.Parts.{parts_view}
 use Rattle.urlpattern_syntax.specs.Text.{lacks, line_feed}
@@ -49,17 +50,17 @@ leads_by edges from (c ∷ text) within =
 pub accepts_text : (automaton : PartsAutomaton) (text : List ℕ) → IsWithin automaton → AcceptsText automaton text ↔ IsTrue (accepts automaton text)
 accepts_text automaton text within =
     let starts = leads_starts automaton text within in
-    let by = leads_by automaton.edges.items (starts_of automaton) text (λ k d lt. subst (λ n. (get_or automaton.edges.items k d).to < n) (sym (length_starts automaton)) (within.edges k d lt)) in
+    let by = leads_by automaton.edges.items (starts_of automaton) (map (folded_character automaton.ignore_case) text) (λ k d lt. subst (λ n. (get_or automaton.edges.items k d).to < n) (sym (length_starts automaton)) (within.edges k d lt)) in
     (λ leads. by.0 (starts.0 leads), λ has. starts.1 (by.1 has))
 
 -- An automaton that is made of a component's parts accepts the texts that they mean.
-made_means : (component : ComponentParts) (automaton : PartsAutomaton) (text : List ℕ) → IsKnown component → made_view automaton ≡ made (options_view component.options) (parts_view component.parts.items) →
+made_means : (component : ComponentParts) (automaton : PartsAutomaton) (text : List ℕ) → IsKnown component → IsMadeOf (options_view component.options) (parts_view component.parts.items) automaton →
     IsTrue (accepts automaton text) ↔ MeansIn component text
 made_means component automaton text known is =
     let options = options_view component.options in
     let parts = parts_view component.parts.items in
-    let here = accepts_text automaton text (parts_within options parts automaton is) in
-    let meant = parts_accepted options parts automaton known.generated is text in
+    let here = accepts_text automaton text (made_within options parts automaton is) in
+    let meant = meaning_accepted options parts automaton known.generated is text in
     (λ has. meant.0 (here.1 has), λ means. here.0 (meant.1 means))
 
 -- The automaton of a component accepts the texts that its parts mean.
@@ -209,19 +210,19 @@ lacks_by component reasons.IgnoredCase is = is
 lacks_by component reasons.TooMany is = absurd is
 
 pub only_many : (component : ComponentParts) → IsKnown component → (reason : Reason) → LacksBy component reason → LacksBy component reasons.TooMany
-only_many component known reasons.CustomExpression is = absurd (is known.generated)
-only_many component known reasons.IgnoredCase is = absurd (false≢true (sym known.case_kept ∙ is))
+only_many component known reasons.CustomExpression is = absurd (is.0 known)
+only_many component known reasons.IgnoredCase is = absurd (is.0 known)
 only_many component known reasons.TooMany is = is
 
 pub automaton_found : (component : ComponentParts) (result : Result (Option PartsAutomaton) AllocError) → IsKnown component →
-    IfOk result (λ found. IfSome found (λ automaton. made_view automaton ≡ made (options_view component.options) (parts_view component.parts.items))) →
+    IfOk result (λ found. IfSome found (IsMadeOf (options_view component.options) (parts_view component.parts.items))) →
     IfOk result (λ found. IfNone found (HasManyStates (options_view component.options) (parts_view component.parts.items))) → IfOk result (IsAutomatonOrLacks component)
 automaton_found component (Err e) known is many = is
 automaton_found component (Ok None) known is many = (reasons.TooMany, many)
 automaton_found component (Ok (Some automaton)) known is many = record {
   known = known;
   means = λ text. made_means component automaton text known is;
-  size = ap (λ (m : Made). m.count) is ∙ parts_states (options_view component.options) (parts_view component.parts.items);
+  size = made_states (options_view component.options) (parts_view component.parts.items) automaton is;
 }
 
 pub lacks_if : (component : ComponentParts) (found : Option PartsAutomaton) → IsAutomatonOrLacks component found → ¬ IsSome found → (reason : Reason) × LacksBy component reason

@@ -1,5 +1,5 @@
 -- What a text does to several automata.
-use Rattle.std.proofs.Common.{◌≡◌, ℕ, zero, suc, ◌+◌, ◌≤◌, Bool, true, false, List, [], ◌∷◌, ◌++◌, length, refl, sym, subst, ap, ap₂, ◌∙◌, ◌↔◌, arith, append_assoc, append-nil, take, drop, take_at, drop_at, length-append, length-drop, length-take-le, replicate, if◌then◌else◌}
+use Rattle.std.proofs.Common.{◌≡◌, ℕ, zero, suc, ◌+◌, ◌≤◌, Bool, true, false, List, [], ◌∷◌, ◌++◌, length, map, refl, sym, subst, ap, ap₂, ◌∙◌, ◌↔◌, arith, append_assoc, append-nil, take, drop, take_at, drop_at, length-append, length-drop, length-take-le, replicate, if◌then◌else◌}
 use Rattle.std.proofs.lemmas.List.Elements.{All-cons, All-head, All-nil, All-tail}
 use Rattle.std.specs.List.{All, list_any}
 use Rattle.std.specs.Prelude.{◌&&◌, ◌||◌, IsTrue, not, slice_set}
@@ -11,19 +11,20 @@ use Rattle.urlpattern_compare.specs.declared.condition.Condition.{Condition}
 use Rattle.urlpattern_compare.specs.declared.parts_automaton.PartsAutomaton.{PartsAutomaton}
 use Rattle.urlpattern_compare.specs.declared.parts_automaton.Edge.{Edge}
 use Rattle.urlpattern_compare.proofs.StateSets.{both, length_moved, length_starts}
+use Rattle.urlpattern_meaning.specs.Matching.{folded_character}
 
 -- ---- one automaton
 
-states_push : (edges : List Edge) (from : List Bool) (text : List ℕ) (c : ℕ) → states_by edges from (text ++ c ∷ []) ≡ moved edges (states_by edges from text) c
-states_push edges from [] c = refl
-states_push edges from (d ∷ text) c = states_push edges (moved edges from d) text c
+states_push : (edges : List Edge) (read : ℕ → ℕ) (from : List Bool) (text : List ℕ) (c : ℕ) → states_by edges from (map read (text ++ c ∷ [])) ≡ moved edges (states_by edges from (map read text)) (read c)
+states_push edges read from [] c = refl
+states_push edges read from (d ∷ text) c = states_push edges read (moved edges from (read d)) text c
 
 length_by : (edges : List Edge) (from : List Bool) (text : List ℕ) → length (states_by edges from text) ≡ length from
 length_by edges from [] = refl
 length_by edges from (c ∷ text) = length_by edges (moved edges from c) text ∙ length_moved edges from c
 
 pub length_after : (automaton : PartsAutomaton) (text : List ℕ) → length (states_after automaton text) ≡ automaton.states
-length_after automaton text = length_by automaton.edges.items (starts_of automaton) text ∙ length_starts automaton
+length_after automaton text = length_by automaton.edges.items (starts_of automaton) (map (folded_character automaton.ignore_case) text) ∙ length_starts automaton
 
 -- ---- several automata
 
@@ -40,8 +41,8 @@ pub moved_after : (conditions : List Condition) (text : List ℕ) (c : ℕ) → 
 moved_after [] text c = refl
 moved_after (it ∷ others) text c =
     let one = it.automaton.now in
-    cut (λ own rest. moved one.edges.items own c ++ joint_moved others rest c) (states_after one text) (joint_after others text) one.states (length_after one text)
-    ∙ ap₂ (λ (own rest : List Bool). own ++ rest) (sym (states_push one.edges.items (starts_of one) text c)) (moved_after others text c)
+    cut (λ own rest. moved one.edges.items own (folded_character one.ignore_case c) ++ joint_moved others rest c) (states_after one text) (joint_after others text) one.states (length_after one text)
+    ∙ ap₂ (λ (own rest : List Bool). own ++ rest) (sym (states_push one.edges.items (folded_character one.ignore_case) (starts_of one) text c)) (moved_after others text c)
 
 met_is : (it : Condition) (others : List Condition) (text : List ℕ) → are_met (it ∷ others) (joint_after (it ∷ others) text) ≡ (is_met it text && are_met others (joint_after others text))
 met_is it others text =
@@ -101,10 +102,11 @@ length_joint_moved (it ∷ others) from c e =
     let n = it.automaton.now.states in
     let le : n ≤ length from = omega arith in
     let first = length-take-le n from le in
-    let own = length_moved it.automaton.now.edges.items (take n from) c in
+    let d = folded_character it.automaton.now.ignore_case c in
+    let own = length_moved it.automaton.now.edges.items (take n from) d in
     let dropped = length-drop n from in
     let rest = length_joint_moved others (drop n from) c (omega arith) in
-    let all = length-append (moved it.automaton.now.edges.items (take n from) c) (joint_moved others (drop n from) c) in
+    let all = length-append (moved it.automaton.now.edges.items (take n from) d) (joint_moved others (drop n from) c) in
     omega arith
 
 -- ---- sets without a state
@@ -151,12 +153,13 @@ closed_moved (it ∷ others) from c e h =
     let own = take n from in
     let rest = drop n from in
     let edges = it.automaton.now.edges.items in
+    let d = folded_character it.automaton.now.ignore_case c in
     let le : n ≤ length from = omega arith in
     let dropped = length-drop n from in
-    let long : length (moved edges own c) ≡ n = length_moved edges own c ∙ length-take-le n from le in
-    cut (λ a b. (not it.is_accepted || list_any (λ flag. flag) a) && are_open others b) (moved edges own c) (joint_moved others rest c) n long
-    ∙ closed_and it.is_accepted (list_any (λ flag. flag) own) (list_any (λ flag. flag) (moved edges own c)) (are_open others rest) (are_open others (joint_moved others rest c)) h
-    (none_moved edges own c) (closed_moved others rest c (omega arith))
+    let long : length (moved edges own d) ≡ n = length_moved edges own d ∙ length-take-le n from le in
+    cut (λ a b. (not it.is_accepted || list_any (λ flag. flag) a) && are_open others b) (moved edges own d) (joint_moved others rest c) n long
+    ∙ closed_and it.is_accepted (list_any (λ flag. flag) own) (list_any (λ flag. flag) (moved edges own d)) (are_open others rest) (are_open others (joint_moved others rest c)) h
+    (none_moved edges own d) (closed_moved others rest c (omega arith))
 
 closed_unmet : (conditions : List Condition) (from : List Bool) → are_open conditions from ≡ false → are_met conditions from ≡ false
 closed_unmet [] from h = absurd cc

@@ -1,19 +1,21 @@
 -- The result of a comparison, by what a search found.
-use Rattle.std.proofs.Common.{◌≡◌, ◌∙◌, ◌↔◌, ℕ, Bool, true, false, List, [], ◌∷◌, inr, refl, subst, sym}
+use Rattle.std.proofs.Common.{◌≡◌, ◌∙◌, ◌↔◌, ℕ, Bool, true, false, List, [], ◌∷◌, inl, inr, refl, subst, sym}
 use Rattle.std.proofs.lemmas.Bool.{false≢true}
 use Rattle.std.proofs.lemmas.List.Elements.{All-cons, All-head, All-nil, All-tail}
 use Rattle.std.specs.Prelude.{IsTrue, not}
 use Rattle.urlpattern_compare.proofs.CommonLemmas.{accepts_text}
-use Rattle.urlpattern_compare.proofs.PartsRead.{parts_accepted, parts_within}
-use Rattle.urlpattern_compare.specs.Answers.{IsFoundBy, IsSought, LeadBothAlike, answer_of}
+use Rattle.urlpattern_compare.proofs.PartsRead.{made_within, meaning_accepted}
+use Rattle.urlpattern_compare.specs.Answers.{IsFoundBy, IsReason, IsSought, IsUntold, LeadBothAlike, answer_of}
 use Rattle.urlpattern_compare.specs.Automata.{IsWhether}
 use Rattle.urlpattern_compare.specs.Conditions.{accepts, is_as, is_met, states_after}
-use Rattle.urlpattern_compare.specs.Making.{made, made_view}
+use Rattle.urlpattern_compare.specs.Making.{IsMadeOf}
 use Rattle.urlpattern_compare.specs.MeantTexts.{MeansText}
 use Rattle.urlpattern_compare.specs.Searching.{IsMostSets}
 use Rattle.urlpattern_compare.specs.TextSearch.{AreApart, IsFoundText, LeadAlike}
 use Rattle.urlpattern_compare.specs.declared.condition.Condition.{Condition}
 use Rattle.urlpattern_compare.specs.declared.coverage.Answer.{Answer}
+use Rattle.urlpattern_compare.specs.declared.coverage.Reason.{Reason}
+use Rattle.urlpattern_compare.specs.declared.coverage.Reason.TheVariants as reasons
 use Rattle.urlpattern_compare.specs.declared.parts_automaton.PartsAutomaton.{PartsAutomaton}
 use Rattle.urlpattern_compare.specs.declared.search.Found.{Found}
 use Rattle.urlpattern_compare.specs.declared.search.Found.TheVariants.{Text, Nothing, TooMany}
@@ -89,23 +91,33 @@ found_by one other is_accepted first second conditions most found are is_one acc
 
 -- ---- results
 
+pub first_untold : (options : OptionsView) (parts : List PartView) (other_options : OptionsView) (others : List PartView) (reason : Reason) → IsUntold options parts reason → IsReason options parts other_options others reason
+first_untold options parts other_options others reasons.CustomExpression is = inl is
+first_untold options parts other_options others reasons.IgnoredCase is = inl is
+first_untold options parts other_options others reasons.TooMany is = absurd is
+
+pub other_untold : (options : OptionsView) (parts : List PartView) (other_options : OptionsView) (others : List PartView) (reason : Reason) → IsUntold other_options others reason → IsReason options parts other_options others reason
+other_untold options parts other_options others reasons.CustomExpression is = inr is
+other_untold options parts other_options others reasons.IgnoredCase is = inr is
+other_untold options parts other_options others reasons.TooMany is = absurd is
+
 -- Whether the parts mean the text, by whether their automaton accepts it.
 whether_means : (asked found : Bool) (Means : Type 0) → IsTrue found ↔ Means → found ≡ asked → IsWhether asked Means
 whether_means true found Means same is = same.0 is
 whether_means false found Means same is = λ means. false≢true (sym is ∙ same.1 means)
 
 module _ (options : OptionsView) (parts : List PartView) (other_options : OptionsView) (others : List PartView) (one other : PartsAutomaton) (gen : AreGenerated parts) (other_gen : AreGenerated others)
-    (same : made_view one ≡ made options parts) (other_same : made_view other ≡ made other_options others) where
+    (same : IsMadeOf options parts one) (other_same : IsMadeOf other_options others other) where
   means_one : (text : List ℕ) → IsTrue (accepts one text) ↔ MeansText options parts text
   means_one text =
-      let here = accepts_text one text (parts_within options parts one same) in
-      let there = parts_accepted options parts one gen same text in
+      let here = accepts_text one text (made_within options parts one same) in
+      let there = meaning_accepted options parts one gen same text in
       (λ is. there.0 (here.1 is), λ means. here.0 (there.1 means))
 
   means_other : (text : List ℕ) → IsTrue (accepts other text) ↔ MeansText other_options others text
   means_other text =
-      let here = accepts_text other text (parts_within other_options others other other_same) in
-      let there = parts_accepted other_options others other other_gen other_same text in
+      let here = accepts_text other text (made_within other_options others other other_same) in
+      let there = meaning_accepted other_options others other other_gen other_same text in
       (λ is. there.0 (here.1 is), λ means. here.0 (there.1 means))
 
   found_answer : (is_meant : Bool) (found : Found) → IsFoundBy one other is_meant found → IsSought options parts other_options others is_meant (answer_of found)
@@ -116,7 +128,7 @@ module _ (options : OptionsView) (parts : List PartView) (other_options : Option
   found_answer is_meant TooMany many = inr (one, other, same, other_same, many)
 
 pub found_parts : (options : OptionsView) (parts : List PartView) (other_options : OptionsView) (others : List PartView) (is_meant : Bool) (one other : PartsAutomaton) (found : Found) (answer : Answer) →
-    answer ≡ answer_of found → AreGenerated parts → AreGenerated others → made_view one ≡ made options parts → made_view other ≡ made other_options others → IsFoundBy one other is_meant found →
+    answer ≡ answer_of found → AreGenerated parts → AreGenerated others → IsMadeOf options parts one → IsMadeOf other_options others other → IsFoundBy one other is_meant found →
     IsSought options parts other_options others is_meant answer
 found_parts options parts other_options others is_meant one other found answer e gen other_gen same other_same is =
     subst (IsSought options parts other_options others is_meant) (sym e) (found_answer options parts other_options others one other gen other_gen same other_same is_meant found is)

@@ -1,5 +1,5 @@
 -- A component that decides a comparison leaves no doubt.
-use Rattle.std.proofs.Common.{◌∙◌, ℕ, List, Option, Some, None, inl, inr, refl, sym, true≢false}
+use Rattle.std.proofs.Common.{ℕ, List, Option, Some, None, inl, inr, refl}
 use Rattle.std.proofs.lemmas.Str.{scalars-chars, IsUtf8-string_bytes}
 use Rattle.std.specs.Prelude.{IsSomeAnd, IsTrue, String, string_bytes}
 use Rattle.std.specs.Str.{all_scalars}
@@ -19,9 +19,10 @@ use Rattle.urlpattern_syntax.specs.declared.parts.ComponentParts.{ComponentParts
 
 -- If both meanings are known, the work is too much.
 known_reason : (component other : ComponentParts) (reason : Reason) → IsKnown component → IsKnown other → IsReasonFor component other reason → IsReasonFor component other reasons.TooMany
-known_reason component other reasons.CustomExpression known other_known is = absurd (is (other_known.generated, known.generated))
-known_reason component other reasons.IgnoredCase known other_known (inl e) = absurd (true≢false (sym e ∙ other_known.case_kept))
-known_reason component other reasons.IgnoredCase known other_known (inr e) = absurd (true≢false (sym e ∙ known.case_kept))
+known_reason component other reasons.CustomExpression known other_known (inl is) = absurd (is.0 other_known)
+known_reason component other reasons.CustomExpression known other_known (inr is) = absurd (is.0 known)
+known_reason component other reasons.IgnoredCase known other_known (inl is) = absurd (is.0 other_known)
+known_reason component other reasons.IgnoredCase known other_known (inr is) = absurd (is.0 known)
 known_reason component other reasons.TooMany known other_known is = is
 
 uncovered : (component asked : ComponentParts) (text : List ℕ) → IsTrue (all_scalars text) → IsOnlyIn component asked text → ¬ IsComponentCovered component asked

@@ -256,8 +256,8 @@ all_or P R Q (x ∷ xs) f all = elim (f x (All-head R x xs all)) [
 
 -- A component without automaton is settled, or needs too many states.
 settled_or : (component : ComponentParts) (found : Option PartsAutomaton) → IsAutomatonOrLacks component found → IsSettled component found ⊎ ((¬ IsSome found) × LacksBy component reasons.TooMany)
-settled_or component None (reasons.CustomExpression, lacks) = inl (inr (λ known. lacks known.generated))
-settled_or component None (reasons.IgnoredCase, lacks) = inl (inr (λ known. false≢true (sym known.case_kept ∙ lacks)))
+settled_or component None (reasons.CustomExpression, lacks) = inl (inr (λ known. lacks.0 known))
+settled_or component None (reasons.IgnoredCase, lacks) = inl (inr (λ known. lacks.0 known))
 settled_or component None (reasons.TooMany, lacks) = inr (λ some. false≢true some, lacks)
 settled_or component (Some automaton) made = inl (inl refl)
 

@@ -17,6 +17,7 @@ pub mod ListedLemmas
 pub mod OrderLemmas
 pub mod PatternPartLemmas
 pub mod NamelessParts
+pub mod KeptCase
 pub mod SameParts
 pub mod HashLemmas
 pub mod DecidedLemmas
@@ -30,6 +31,7 @@ pub mod WorkLemmas
 pub mod BoundLemmas
 pub mod SmallLemmas
 pub mod CommonExamples
+pub mod CaseExamples
 pub mod WorkExamples
 pub mod TogetherLemmas
 pub mod ReachLemmas

@@ -1,9 +1,11 @@
 -- The texts that parts mean do not depend on names.
-use Rattle.std.proofs.Common.{◌≡◌, ℕ, zero, suc, List, [], ◌∷◌, map, ap, refl, subst, sym}
+use Rattle.std.proofs.Common.{◌≡◌, ◌∙◌, ℕ, zero, suc, Bool, List, [], ◌∷◌, map, ap, refl, subst, sym}
 use Rattle.std.proofs.lemmas.List.Elements.{All-cons, All-head, All-map, All-nil, All-tail}
 use Rattle.std.specs.Prelude.{Option}
 use Rattle.urlpattern_meaning.specs.PartMeaning.{AreCaptures, AreGenerated, Captures, IsCapture, IsCopyOf, PartMeans, PartsMean}
 use Rattle.urlpattern_compare.specs.Comparing.{unnamed, unnamed_view}
+use Rattle.urlpattern_compare.specs.MeantTexts.{MeansText, folded_options, folded_part, folded_parts}
+use Rattle.urlpattern_meaning.specs.Matching.{folded_character}
 use Rattle.urlpattern_syntax.specs.declared.parser.Part.{Part}
 use Rattle.urlpattern_syntax.specs.declared.parser.PartType.{PartType}
 use Rattle.urlpattern_syntax.specs.declared.parser.PartType.TheVariants.{FixedText, FullWildcard, Regexp, SegmentWildcard}
@@ -67,7 +69,7 @@ head_same part other parts others e = cc e
 tail_same : (part other : PartView) (parts others : List PartView) → nameless part ∷ all_nameless parts ≡ nameless other ∷ all_nameless others → all_nameless parts ≡ all_nameless others
 tail_same part other parts others e = cc e
 
-pub renamed : (options : OptionsView) (parts others : List PartView) → all_nameless parts ≡ all_nameless others → (text : List ℕ) (captures : Captures) → PartsMean options others text captures → PartsMean options parts text captures
+renamed : (options : OptionsView) (parts others : List PartView) → all_nameless parts ≡ all_nameless others → (text : List ℕ) (captures : Captures) → PartsMean options others text captures → PartsMean options parts text captures
 renamed options [] [] same text captures means = means
 renamed options [] (other ∷ others) same text captures means = absurd cc
 renamed options (part ∷ parts) [] same text captures means = absurd cc
@@ -81,6 +83,18 @@ renamed options (part ∷ parts) (other ∷ others) same text captures (first, r
   part_renamed options part other first own (head_same part other parts others same) means,
   renamed options parts others (tail_same part other parts others same) rest later more,
 )
+
+folded_nameless : (ignore_case : Bool) (parts : List PartView) → all_nameless (map (folded_part ignore_case) parts) ≡ map (folded_part ignore_case) (all_nameless parts)
+folded_nameless ignore_case [] = refl
+folded_nameless ignore_case (part ∷ parts) = ap (λ views. nameless (folded_part ignore_case part) ∷ views) (folded_nameless ignore_case parts)
+
+-- The texts that parts mean, with case ignored or kept, do not depend on names.
+pub means_renamed : (options : OptionsView) (parts others : List PartView) → all_nameless parts ≡ all_nameless others → (text : List ℕ) → MeansText options others text → MeansText options parts text
+means_renamed options parts others same text (captures, means) =
+    let ignore_case = options.ignore_case in
+    let folded_same : all_nameless (folded_parts options parts) ≡ all_nameless (folded_parts options others) =
+    folded_nameless ignore_case parts ∙ ap (λ views. map (folded_part ignore_case) views) same ∙ sym (folded_nameless ignore_case others) in
+    (captures, renamed (folded_options options) (folded_parts options parts) (folded_parts options others) folded_same (map (folded_character ignore_case) text) captures means)
 
 pub generated_renamed : (parts others : List PartView) → all_nameless parts ≡ all_nameless others → AreGenerated others → AreGenerated parts
 generated_renamed [] others same are = All-nil IsNotCustom

@@ -1,11 +1,12 @@
 -- The automaton of parts accepts the texts that the parts mean.
-use Rattle.std.proofs.Common.{◌≡◌, ℕ, ◌+◌, ◌<◌, ◌≤◌, Bool, true, false, List, [], ◌∷◌, ◌++◌, length, refl, sym, subst, ap, ◌∙◌, ◌⊎◌, inl, inr, ◌↔◌, arith, append_assoc, reverse, get_or}
-use Rattle.std.proofs.lemmas.List.Elements.{Contains-append_cases, Contains-get_or}
+use Rattle.std.proofs.Common.{◌≡◌, ◌≢◌, ℕ, ◌+◌, ◌<◌, ◌≤◌, Bool, true, false, List, [], ◌∷◌, ◌++◌, length, refl, sym, subst, ap, ◌∙◌, ◌⊎◌, inl, inr, ◌↔◌, arith, append_assoc, reverse, get_or, map}
+use Rattle.std.proofs.lemmas.List.Elements.{All-map, Contains-append_cases, Contains-get_or}
 use Rattle.std.specs.List.{Contains}
 use Rattle.std.specs.Prelude.{◌&&◌, if◌then◌else◌}
 use Rattle.urlpattern_compare.specs.Automata.{AcceptsText, IsWithin, Leads, LeadsFrom}
 use Rattle.urlpattern_compare.specs.Cells.{cells_of, has_one}
-use Rattle.urlpattern_compare.specs.Making.{HasManyStates, Made, made, made_view, may_miss, new_starts, repeats, with_cell, with_cells, with_copies, with_repeat_starts}
+use Rattle.urlpattern_compare.specs.Making.{HasManyStates, IsMadeOf, Made, made, made_view, may_miss, new_starts, repeats, with_cell, with_cells, with_copies, with_repeat_starts}
+use Rattle.urlpattern_compare.specs.MeantTexts.{MeansText, folded_options, folded_part, folded_parts}
 use Rattle.urlpattern_compare.specs.declared.parts_automaton.PartsAutomaton.{PartsAutomaton}
 use Rattle.urlpattern_compare.specs.declared.parts_automaton.Edge.{Edge}
 use Rattle.urlpattern_compare.specs.declared.cells.Cell.{Cell}
@@ -16,9 +17,11 @@ use Rattle.urlpattern_compare.proofs.CellTexts.{times_map}
 use Rattle.urlpattern_compare.proofs.MadeStates.{IsPartOf, cell_count, cell_edges, edges_to_has, targets, test_of}
 use Rattle.urlpattern_compare.proofs.PartTexts.{PartsThen, absorbs, parts_then}
 use Rattle.urlpattern_compare.proofs.StateSets.{contains_cons}
+use Rattle.urlpattern_meaning.specs.Matching.{folded_character}
 use Rattle.urlpattern_meaning.specs.PartMeaning.{AreGenerated, Captures, PartsMean}
 use Rattle.urlpattern_syntax.specs.{Options.OptionsView, Parts.PartView}
 use Rattle.urlpattern_syntax.specs.declared.parser.PartModifier.{PartModifier}
+use Rattle.urlpattern_syntax.specs.declared.parser.PartType.{PartType}
 
 -- ---- accepted texts
 
@@ -51,17 +54,25 @@ parts_read all options (first ∷ parts) part text =
 
 -- The automaton of parts accepts exactly the texts that the parts mean.
 pub parts_accepted : (options : OptionsView) (parts : List PartView) (automaton : PartsAutomaton) → AreGenerated parts → made_view automaton ≡ made options parts → (text : List ℕ) →
-    AcceptsText automaton text ↔ ((captures : Captures) × PartsMean options parts text captures)
+    LeadsFrom automaton.edges.items automaton.starts.items text ↔ ((captures : Captures) × PartsMean options parts text captures)
 parts_accepted options parts automaton generated same text =
     let all = (made options parts).edges in
     let is = parts_made options parts in
     let part : IsPartOf all (made options parts) = record { kept = λ edge has. has; only = λ edge lt has. has; below = is.below; some = is.some } in
     let reads = parts_read all options parts part text in
     let means = parts_then options parts generated text in
-    let both : AcceptsText automaton text ≡ LeadsFrom all (made options parts).starts text = ap (λ (it : Made). LeadsFrom it.edges it.starts text) same in (
+    let both : LeadsFrom automaton.edges.items automaton.starts.items text ≡ LeadsFrom all (made options parts).starts text = ap (λ (it : Made). LeadsFrom it.edges it.starts text) same in (
       λ accepts. means.0 (reads.0 (subst (λ (T : Type 0). T) both accepts)),
       λ meant. subst (λ (T : Type 0). T) (sym both) (reads.1 (means.1 meant)),
     )
+
+-- The automaton of parts accepts exactly the texts that they mean, with case ignored or kept.
+pub meaning_accepted : (options : OptionsView) (parts : List PartView) (automaton : PartsAutomaton) → AreGenerated parts → IsMadeOf options parts automaton → (text : List ℕ) →
+    AcceptsText automaton text ↔ MeansText options parts text
+meaning_accepted options parts automaton generated is text =
+    subst (λ (ignore_case : Bool). LeadsFrom automaton.edges.items automaton.starts.items (map (folded_character ignore_case) text) ↔ MeansText options parts text) (sym is.case)
+    (parts_accepted (folded_options options) (folded_parts options parts) automaton (All-map (λ (part : PartView). part.kind ≢ PartType.Regexp) (folded_part options.ignore_case) parts generated) is.view
+    (map (folded_character options.ignore_case) text))
 
 -- ---- states below their number
 
@@ -147,14 +158,17 @@ parts_below options [] = record {
 }
 parts_below options (part ∷ parts) = copies_below (made options parts) part.modifier (reverse (cells_of options part.kind part)) (parts_below options parts)
 
--- The states that the automaton of parts names are less than its number of states.
-pub parts_within : (options : OptionsView) (parts : List PartView) (automaton : PartsAutomaton) → made_view automaton ≡ made options parts → IsWithin automaton
+parts_within : (options : OptionsView) (parts : List PartView) (automaton : PartsAutomaton) → made_view automaton ≡ made options parts → IsWithin automaton
 parts_within options parts automaton same =
     let below : IsBelow automaton.states (made_view automaton) = subst (λ (it : Made). IsBelow it.count it) (sym same) (parts_below options parts) in
     record {
       edges = λ k d lt. below.edges (get_or automaton.edges.items k d) (Contains-get_or automaton.edges.items k d lt);
       starts = λ k d lt. below.starts (get_or automaton.starts.items k d) (Contains-get_or automaton.starts.items k d lt);
     }
+
+-- The states that the automaton of parts names are less than its number of states.
+pub made_within : (options : OptionsView) (parts : List PartView) (automaton : PartsAutomaton) → IsMadeOf options parts automaton → IsWithin automaton
+made_within options parts automaton is = parts_within (folded_options options) (folded_parts options parts) automaton is.view
 
 -- ---- the number of states
 

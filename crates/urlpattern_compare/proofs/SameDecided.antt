@@ -176,9 +176,10 @@ dec_kept component = by component.options.ignore_case refl (list_any is_custom_p
 
 pub dec_same : (component other : ComponentParts) → Dec (AreSame component other)
 dec_same component other =
-    dec_via ((options_view component.options ≡ options_view other.options) × ((unnamed component.parts.items ≡ unnamed other.parts.items) × IsCaseKeptOrGenerated component))
-    (λ (e, (f, kept)). record { options = e; parts = f; kept_or_generated = kept }) (λ same. (same.options, (same.parts, same.kept_or_generated)))
-    (both (dec_options (options_view component.options) (options_view other.options)) (both (dec_parts (unnamed component.parts.items) (unnamed other.parts.items)) (dec_kept component)))
+    dec_via ((options_view component.options ≡ options_view other.options) × ((unnamed component.parts.items ≡ unnamed other.parts.items) × ((component.honours_case ≡ other.honours_case) × IsCaseKeptOrGenerated component)))
+    (λ (e, (f, (g, kept))). record { options = e; parts = f; case = g; kept_or_generated = kept }) (λ same. (same.options, (same.parts, (same.case, same.kept_or_generated))))
+    (both (dec_options (options_view component.options) (options_view other.options))
+    (both (dec_parts (unnamed component.parts.items) (unnamed other.parts.items)) (both (Bool-discrete component.honours_case other.honours_case) (dec_kept component))))
 
 pub same_trans : (component mid other : ComponentParts) → AreSame component mid → AreSame mid other → AreSame component other
-same_trans component mid other one two = record { options = one.options ∙ two.options; parts = one.parts ∙ two.parts; kept_or_generated = one.kept_or_generated }
+same_trans component mid other one two = record { options = one.options ∙ two.options; parts = one.parts ∙ two.parts; case = one.case ∙ two.case; kept_or_generated = one.kept_or_generated }

@@ -1,18 +1,18 @@
 -- Components with equal parts but for names.
-use Rattle.std.proofs.Common.{◌≡◌, ◌≢◌, ◌∙◌, ◌↔◌, ◌⊎◌, ℕ, Bool, true, false, List, ap, inl, inr, refl, subst, sym, true≢false, ◌+◌, ◌<◌, get_or, length, take}
+use Rattle.std.proofs.Common.{◌≡◌, ◌≢◌, ◌∙◌, ◌↔◌, ◌⊎◌, ℕ, Bool, true, false, List, ap, ap₂, inl, inr, refl, subst, sym, true≢false, ◌+◌, ◌<◌, get_or, length, take}
 use Rattle.std.proofs.lemmas.List.{get_or-map, length-map, take_more_same}
 use Rattle.std.specs.List.{list_any}
-use Rattle.std.specs.Prelude.{IsTrue, map, not, String, encode_utf8_all, string_bytes}
+use Rattle.std.specs.Prelude.{◌&&◌, IsTrue, map, not, String, encode_utf8_all, string_bytes}
 use Rattle.std.specs.Str.{chars}
 use Rattle.std.specs.Cmp.Lexicographic.{bytes_decides}
 use Rattle.std.specs.String.{string_eq}
 use Rattle.std.specs.declared.alloc.Global.{Global}
 use Rattle.urlpattern_compare.specs.Answers.{is_custom_part}
-use Rattle.urlpattern_meaning.specs.PartMeaning.{PartsMean}
 use Rattle.urlpattern_compare.proofs.AnswerLemmas.{custom, generated}
-use Rattle.urlpattern_compare.proofs.NamelessParts.{all_nameless, generated_renamed, renamed, unnamed_views}
-use Rattle.urlpattern_compare.specs.Comparing.{AreSame, IsCaseKeptOrGenerated, IsKnown, MeansAllOf}
+use Rattle.urlpattern_compare.proofs.NamelessParts.{all_nameless, generated_renamed, means_renamed, unnamed_views}
+use Rattle.urlpattern_compare.specs.Comparing.{AreSame, IsCaseKeptOrGenerated, IsKnown, MeansAllOf, misses_case}
 use Rattle.urlpattern_compare.specs.EqualParts.{AreEqual}
+use Rattle.urlpattern_compare.specs.MeantTexts.{MeansText}
 use Rattle.urlpattern_syntax.specs.declared.parts.ComponentParts.{ComponentParts}
 use Rattle.urlpattern_syntax.proofs.StringTexts.{text_bytes}
 use Rattle.urlpattern_syntax.specs.declared.parser.Part.{Part}
@@ -56,12 +56,12 @@ same_nameless component asked same = sym (unnamed_views component.parts.items) �
 
 -- The texts that the parts mean are known, or not.
 pub known_or_not : (component : ComponentParts) → IsKnown component ⊎ ¬ IsKnown component
-known_or_not component = by component.options.ignore_case refl (list_any is_custom_part component.parts.items) refl
+known_or_not component = by (list_any is_custom_part component.parts.items) refl (misses_case component) refl
   where
-    by : (ignored : Bool) → component.options.ignore_case ≡ ignored → (some : Bool) → list_any is_custom_part component.parts.items ≡ some → IsKnown component ⊎ ¬ IsKnown component
-    by true e some f = inr (λ known. true≢false (sym e ∙ known.case_kept))
-    by false e true f = inr (λ known. custom component.parts.items f known.generated)
-    by false e false f = inl (record { generated = generated component.parts.items f; case_kept = e })
+    by : (some : Bool) → list_any is_custom_part component.parts.items ≡ some → (missed : Bool) → misses_case component ≡ missed → IsKnown component ⊎ ¬ IsKnown component
+    by true e missed f = inr (λ known. custom component.parts.items e known.generated)
+    by false e true f = inr (λ known. true≢false (sym f ∙ known.case))
+    by false e false f = inl (record { generated = generated component.parts.items e; case = f })
 
 -- Where case is ignored, `IsCaseKeptOrGenerated` says that no part is custom.
 pub settled_by : (component : ComponentParts) (some : Bool) → component.options.ignore_case ≡ true → some ≡ list_any is_custom_part component.parts.items → IsTrue (not some) ↔ IsCaseKeptOrGenerated component
@@ -82,6 +82,7 @@ same_flips component other same =
     record {
       options = sym same.options;
       parts = sym same.parts;
+      case = sym same.case;
       kept_or_generated = elim same.kept_or_generated [
         | inl kept ↦ inl (sym (ap (λ (o : OptionsView). o.ignore_case) same.options) ∙ kept)
         | inr generated ↦ inr (generated_renamed others parts (sym (same_nameless component other same)) generated)
@@ -93,8 +94,13 @@ pub equal_same : (component other : ComponentParts) → AreEqual component other
 equal_same component other equal kept = record {
   options = equal.options;
   parts = unnamed_views component.parts.items ∙ ap all_nameless equal.parts ∙ sym (unnamed_views other.parts.items);
+  case = equal.case;
   kept_or_generated = kept;
 }
+
+-- Equal components miss case alike.
+same_missed : (component other : ComponentParts) → AreSame component other → misses_case component ≡ misses_case other
+same_missed component other same = ap₂ (λ ignored honours. ignored && not honours) (ap (λ (o : OptionsView). o.ignore_case) same.options) same.case
 
 -- Equal parts mean the same texts, where these are known.
 pub same_within : (component asked : ComponentParts) → AreSame component asked → IsKnown component → MeansAllOf component asked
@@ -104,12 +110,7 @@ same_within component asked same known =
     let nameless = same_nameless component asked same in
     record {
       known = known;
-      asked_known = record {
-        generated = generated_renamed others parts (sym nameless) known.generated;
-        case_kept = sym (ap (λ (o : OptionsView). o.ignore_case) same.options) ∙ known.case_kept;
-      };
-      within = λ text fine line means. (
-        means.0,
-        subst (λ (o : OptionsView). PartsMean o parts text means.0) (sym same.options) (renamed (options_view asked.options) parts others nameless text means.0 means.1),
-      );
+      asked_known = record { generated = generated_renamed others parts (sym nameless) known.generated; case = sym (same_missed component asked same) ∙ known.case };
+      within = λ text fine line means.
+          subst (λ (o : OptionsView). MeansText o parts text) (sym same.options) (means_renamed (options_view asked.options) parts others nameless text means);
     }

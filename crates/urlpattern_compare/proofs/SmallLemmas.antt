@@ -4,11 +4,10 @@ use Rattle.std.proofs.lemmas.Bool.{cases_lt}
 use Rattle.std.proofs.Math.Nat.{pow-le-pow_right}
 use Rattle.urlpattern_compare.proofs.BoundLemmas.{few_values, pieces}
 use Rattle.urlpattern_compare.proofs.ConditionLemmas.{length_after}
-use Rattle.urlpattern_compare.proofs.WorkLemmas.{parts_states}
+use Rattle.urlpattern_compare.proofs.WorkLemmas.{made_states, parts_states}
 use Rattle.urlpattern_compare.specs.Answers.{IsSearchLong, LeadBothAlike}
 use Rattle.urlpattern_compare.specs.Comparing.{IsReasonToShare}
 use Rattle.urlpattern_compare.specs.Conditions.{states_after}
-use Rattle.urlpattern_compare.specs.Making.{Made}
 use Rattle.urlpattern_compare.specs.TextSearch.{AreApart}
 use Rattle.urlpattern_compare.specs.WorkBounds.{SmallAreCompared, component_size, parts_size}
 use Rattle.urlpattern_compare.specs.declared.coverage.Reason.TheVariants.{TooMany}
@@ -31,8 +30,8 @@ few_sets one other texts apart =
 long_search : (options : OptionsView) (parts : List PartView) (other_options : OptionsView) (others : List PartView) → IsSearchLong options parts other_options others → 19 < parts_size parts + parts_size others
 long_search options parts other_options others (one, other, same, other_same, (most, is_most, texts, many, apart)) =
     let few = few_sets one other texts apart in
-    let states : one.states ≡ parts_size parts = ap (λ (m : Made). m.count) same ∙ parts_states options parts in
-    let other_states : other.states ≡ parts_size others = ap (λ (m : Made). m.count) other_same ∙ parts_states other_options others in
+    let states : one.states ≡ parts_size parts = made_states options parts one same in
+    let other_states : other.states ≡ parts_size others = made_states other_options others other other_same in
     elim (cases_lt 19 (one.states + other.states)) [
       | inl large ↦ omega arith
       | inr small ↦

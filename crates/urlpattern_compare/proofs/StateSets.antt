@@ -1,5 +1,5 @@
 -- Sets of states, with a flag for each state.
-use Rattle.std.proofs.Common.{◌≡◌, ℕ, zero, suc, ◌+◌, ◌<◌, ◌≤◌, Bool, true, false, List, [], ◌∷◌, get_or, length, replicate, refl, sym, subst, ap, ◌∙◌, ◌⊎◌, inl, inr, ◌↔◌, arith, length-set, if◌then◌else◌, take, take_all}
+use Rattle.std.proofs.Common.{◌≡◌, ℕ, zero, suc, ◌+◌, ◌<◌, ◌≤◌, Bool, true, false, List, [], ◌∷◌, get_or, length, map, replicate, refl, sym, subst, ap, ◌∙◌, ◌⊎◌, inl, inr, ◌↔◌, arith, length-set, if◌then◌else◌, take, take_all}
 use Rattle.std.proofs.lemmas.List.{length-replicate, take_more}
 use Rattle.std.proofs.lemmas.List.Elements.{All-head, All-tail, Contains-push_cases}
 use Rattle.std.specs.List.{All, Contains}
@@ -8,6 +8,7 @@ use Rattle.urlpattern_compare.specs.Automata.{AcceptsText, IsWithin, Leads, pass
 use Rattle.urlpattern_compare.specs.Searching.{LeadsIn, is_in, moved, starts_of, with_moves, with_states}
 use Rattle.urlpattern_compare.specs.declared.parts_automaton.PartsAutomaton.{PartsAutomaton}
 use Rattle.urlpattern_compare.specs.declared.parts_automaton.Edge.{Edge}
+use Rattle.urlpattern_meaning.specs.Matching.{folded_character}
 
 -- ---- elements
 
@@ -173,7 +174,7 @@ pub length_moved : (edges : List Edge) (from : List Bool) (c : ℕ) → length (
 length_moved edges from c = length_moves (replicate (length from) false) from c edges ∙ length-replicate (length from) false
 
 -- A text is accepted if it leads from the set of starts.
-pub leads_starts : (automaton : PartsAutomaton) (text : List ℕ) → IsWithin automaton → AcceptsText automaton text ↔ LeadsIn automaton.edges.items (starts_of automaton) text
+pub leads_starts : (automaton : PartsAutomaton) (text : List ℕ) → IsWithin automaton → AcceptsText automaton text ↔ LeadsIn automaton.edges.items (starts_of automaton) (map (folded_character automaton.ignore_case) text)
 leads_starts automaton text within =
     let starts = automaton.starts.items in
     let n = automaton.states in (

@@ -1,13 +1,17 @@
 -- The automaton of parts has as many states as the size of the parts.
-use Rattle.std.proofs.Common.{◌≡◌, ◌+◌, ℕ, List, [], ◌∷◌, ◌++◌, arith, length, length-append, refl}
+use Rattle.std.proofs.Common.{◌≡◌, ◌∙◌, ◌+◌, ◌<◌, ℕ, Bool, List, [], ◌∷◌, ◌++◌, ap, ap₂, arith, length, length-append, map, refl, subst, sym}
 use Rattle.std.proofs.lemmas.List.{length-map, length-reverse}
 use Rattle.urlpattern_compare.proofs.PartsRead.{part_count}
 use Rattle.urlpattern_compare.specs.Cells.{cells_of, text_cells}
-use Rattle.urlpattern_compare.specs.Making.{made}
+use Rattle.urlpattern_compare.specs.Making.{HasManyStates, IsMadeOf, Made, made}
+use Rattle.urlpattern_compare.specs.MeantTexts.{folded_options, folded_part, folded_parts}
 use Rattle.urlpattern_compare.specs.WorkBounds.{part_size, parts_size}
 use Rattle.urlpattern_compare.specs.declared.cells.Cell.{Cell}
 use Rattle.urlpattern_compare.specs.declared.cells.Cell.TheVariants.{One}
+use Rattle.urlpattern_compare.specs.declared.parts_automaton.PartsAutomaton.{PartsAutomaton}
 use Rattle.urlpattern_compare.specs.declared.parts_automaton.Test.TheVariants.{Only}
+use Rattle.urlpattern_compare.specs.declared.parts_automaton.TheConstants.{MOST_STATES}
+use Rattle.urlpattern_meaning.specs.Matching.{folded_character}
 use Rattle.urlpattern_syntax.specs.{Options.OptionsView, Parts.PartView}
 use Rattle.urlpattern_syntax.specs.declared.parser.PartType.{PartType}
 
@@ -35,3 +39,29 @@ parts_states options (part ∷ parts) =
     let cells = length-reverse (cells_of options part.kind part) in
     let size = cells_size options part.kind part in
     omega arith
+
+-- ---- with case ignored or kept
+
+affixes_folded : (ignore_case : Bool) (part : PartView) (n : ℕ) → length (map (folded_character ignore_case) part.prefix) + (n + length (map (folded_character ignore_case) part.suffix)) ≡ length part.prefix + (n + length part.suffix)
+affixes_folded ignore_case part n =
+    ap₂ (λ (a b : ℕ). a + (n + b)) (length-map part.prefix (folded_character ignore_case)) (length-map part.suffix (folded_character ignore_case))
+
+part_folded : (ignore_case : Bool) (kind : PartType) (part : PartView) → part_size kind (folded_part ignore_case part) ≡ part_size kind part
+part_folded ignore_case PartType.FixedText part = length-map part.value (folded_character ignore_case)
+part_folded ignore_case PartType.SegmentWildcard part = affixes_folded ignore_case part 2
+part_folded ignore_case PartType.FullWildcard part = affixes_folded ignore_case part 1
+part_folded ignore_case PartType.Regexp part = affixes_folded ignore_case part 0
+
+parts_folded : (ignore_case : Bool) (parts : List PartView) → parts_size (map (folded_part ignore_case) parts) ≡ parts_size parts
+parts_folded ignore_case [] = refl
+parts_folded ignore_case (part ∷ parts) = ap₂ (λ (a b : ℕ). a + b) (parts_folded ignore_case parts) (part_folded ignore_case part.kind part)
+
+folded_states : (options : OptionsView) (parts : List PartView) → (made (folded_options options) (folded_parts options parts)).count ≡ parts_size parts
+folded_states options parts = parts_states (folded_options options) (folded_parts options parts) ∙ parts_folded options.ignore_case parts
+
+pub made_states : (options : OptionsView) (parts : List PartView) (automaton : PartsAutomaton) → IsMadeOf options parts automaton → automaton.states ≡ parts_size parts
+made_states options parts automaton is = ap (λ (it : Made). it.count) is.view ∙ folded_states options parts
+
+-- The automaton of folded parts has as many states.
+pub many_folded : (options : OptionsView) (parts : List PartView) → HasManyStates (folded_options options) (folded_parts options parts) → HasManyStates options parts
+many_folded options parts many = subst (λ (n : ℕ). MOST_STATES < n) (folded_states options parts ∙ sym (parts_states options parts)) many

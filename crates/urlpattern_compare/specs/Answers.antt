@@ -3,7 +3,7 @@
 use Rattle.std.specs.Prelude.{◌≡◌, ◌↔◌, ◌<◌, ℕ, Bool, true, false, not, ◌⊎◌, IfOk, IfSome, List, IsTrue, Option, Result, length}
 use Rattle.std.specs.Str.{all_scalars}
 use Rattle.urlpattern_compare.specs.Automata.{AcceptsText, IsWhether}
-use Rattle.urlpattern_compare.specs.Making.{HasManyStates, made, made_view}
+use Rattle.urlpattern_compare.specs.Making.{HasManyStates, IsMadeOf}
 use Rattle.urlpattern_compare.specs.MeantTexts.{MeansText}
 use Rattle.urlpattern_compare.specs.Conditions.{accepts, states_after}
 use Rattle.urlpattern_compare.specs.Searching.{IsMostSets}
@@ -44,8 +44,7 @@ HaveManySets one other =
 -- not, reaches too many sets of states.
 abbrev pub IsSearchLong : OptionsView → List PartView → OptionsView → List PartView → Type 0
 IsSearchLong options parts other_options others =
-    (one other : PartsAutomaton) × (made_view one ≡ made options parts)
-    × (made_view other ≡ made other_options others)
+    (one other : PartsAutomaton) × IsMadeOf options parts one × IsMadeOf other_options others other
     × HaveManySets one other
 
 -- The work of the search for a text that the first list of parts matches, and that the second
@@ -56,15 +55,21 @@ IsTooMuch options parts other_options others =
     (HasManyStates options parts ⊎ HasManyStates other_options others)
     ⊎ IsSearchLong options parts other_options others
 
+-- `reason` is why parts do not tell which texts they match: a part is custom, and case is kept or
+-- ignored.
+abbrev pub IsUntold : OptionsView → List PartView → Reason → Type 0
+IsUntold options parts reasons.CustomExpression =
+    (¬ AreGenerated parts) × (options.ignore_case ≡ false)
+IsUntold options parts reasons.IgnoredCase = (¬ AreGenerated parts) × (options.ignore_case ≡ true)
+IsUntold options parts reasons.TooMany = ⊥
+
 -- `reason` is true of two lists of parts if no text is known that the first matches, and that the
--- second matches or does not: a part is custom, case is ignored, or the work is too much.
+-- second matches or does not: a part of one of the two is custom, or the work is too much.
 abbrev pub IsReason : OptionsView → List PartView → OptionsView → List PartView → Reason → Type 0
-IsReason options parts other_options others reasons.CustomExpression =
-    ¬ (AreGenerated parts × AreGenerated others)
-IsReason options parts other_options others reasons.IgnoredCase =
-    (options.ignore_case ≡ true) ⊎ (other_options.ignore_case ≡ true)
 IsReason options parts other_options others reasons.TooMany =
     IsTooMuch options parts other_options others
+IsReason options parts other_options others reason =
+    IsUntold options parts reason ⊎ IsUntold other_options others reason
 
 -- What each result of `covers` says. Covered: the parts match each text without line feed that the
 -- asked parts match. NotCovered: only the asked parts match the text, which has no line feed.

@@ -1,9 +1,10 @@
 -- The texts that automata accept.
-use Rattle.std.specs.Prelude.{◌≡◌, ℕ, ◌<◌, Bool, true, false, not, ◌==◌, All, Contains, List, [], ◌∷◌, IsTrue}
+use Rattle.std.specs.Prelude.{◌≡◌, ℕ, ◌<◌, Bool, true, false, not, ◌==◌, All, Contains, List, [], ◌∷◌, IsTrue, map}
 use Rattle.urlpattern_compare.specs.declared.parts_automaton.PartsAutomaton.{PartsAutomaton}
 use Rattle.urlpattern_compare.specs.declared.parts_automaton.Edge.{Edge}
 use Rattle.urlpattern_compare.specs.declared.parts_automaton.Test.{Test}
 use Rattle.urlpattern_compare.specs.declared.parts_automaton.Test.TheVariants.{Only, AnyBut}
+use Rattle.urlpattern_meaning.specs.Matching.{folded_character}
 
 -- Whether the character passes the test.
 abbrev pub passes : Test → ℕ → Bool
@@ -28,9 +29,12 @@ Leads edges state (c ∷ text) =
 abbrev pub LeadsFrom : List Edge → (states : List ℕ) → (text : List ℕ) → Type 0
 LeadsFrom edges states text = (state : ℕ) × Contains states state × Leads edges state text
 
--- The automaton accepts the text: the edges lead from a start state to state 0 by the text.
+-- The automaton accepts the text: the edges lead from a start state to state 0 by the text, in
+-- lower case if the automaton ignores case.
 abbrev pub AcceptsText : PartsAutomaton → (text : List ℕ) → Type 0
-AcceptsText automaton text = LeadsFrom automaton.edges.items automaton.starts.items text
+AcceptsText automaton text =
+    LeadsFrom automaton.edges.items automaton.starts.items
+    (map (folded_character automaton.ignore_case) text)
 
 -- The states that edges lead to and the start states are less than the automaton's number of
 -- states.

@@ -5,6 +5,7 @@ use Rattle.urlpattern_compare.specs.CommonTexts.{AreAutomata, AreMeanings, IsDou
 use Rattle.urlpattern_compare.specs.Comparing.{IsKnown, MeansIn}
 use Rattle.urlpattern_compare.specs.WorkBounds.{component_size}
 use Rattle.urlpattern_compare.specs.declared.candidates.Limits.{Limits}
+use Rattle.urlpattern_compare.specs.declared.candidates.TheConstants.{USUAL_LIMITS}
 use Rattle.urlpattern_compare.specs.declared.common_texts.Doubt.TheVariants as doubts
 use Rattle.urlpattern_compare.specs.declared.common_texts.Lack.{Lack}
 use Rattle.urlpattern_compare.specs.declared.common_texts.PatternAutomata.{PatternAutomata}
@@ -66,3 +67,8 @@ FewNeedFewTexts =
     → All (λ it. AreCounted (counted it) it) none_of
     → 2 ^ sum_by (λ it. length (counted it)) none_of ≤ limits.texts
     → ¬ IsDoubt all_of none_of limits doubts.TooManyTexts
+
+-- The usual limits allow a component 2 to the power of 13 sets of states, and eight texts to be
+-- tried 2 to the power of 9 times.
+abbrev pub UsualAreWide : Type 0
+UsualAreWide = (2 ^ 13 ≤ USUAL_LIMITS.sets) × (2 ^ 9 ≤ USUAL_LIMITS.texts)

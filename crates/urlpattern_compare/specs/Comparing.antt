@@ -1,11 +1,11 @@
 -- How patterns are compared, by the texts that their parts match. Parts *mean* a text if they can
 -- match it, one after the other; the *asked* pattern is the one of which it is asked whether
 -- another pattern covers it. Only texts without line feed are compared.
-use Rattle.std.specs.Prelude.{◌≡◌, ◌⊎◌, ℕ, All, Bool, true, Option, List, [], ◌∷◌, IsSomeAnd, IsTrue, MatchOption, false, map, take, Some, String}
+use Rattle.std.specs.Prelude.{◌≡◌, ◌⊎◌, ◌&&◌, ℕ, not, All, Bool, true, Option, List, [], ◌∷◌, IsSomeAnd, IsTrue, MatchOption, false, map, take, Some, String}
 use Rattle.std.specs.declared.alloc.Global.{Global}
 use Rattle.std.specs.List.{slice_get}
 use Rattle.std.specs.Str.{all_scalars}
-use Rattle.urlpattern_compare.specs.Answers.{IsReason}
+use Rattle.urlpattern_compare.specs.Answers.{IsTooMuch}
 use Rattle.urlpattern_compare.specs.MeantTexts.{MeansText}
 use Rattle.urlpattern_compare.specs.declared.coverage.Covering.{Covering}
 use Rattle.urlpattern_compare.specs.declared.coverage.Covering.TheVariants as coverings
@@ -30,35 +30,43 @@ use Rattle.urlpattern_syntax.specs.declared.parser.{Part.Part, PartModifier.Part
 
 -- ---- one component
 
--- The parts of the component match the text.
+-- The parts of the component match the text, with case ignored or kept.
 abbrev pub MeansIn : ComponentParts → (text : List ℕ) → Type 0
 MeansIn component text =
     MeansText (options_view component.options) (parts_view component.parts.items) text
 
--- The parts tell which texts the component matches: no part is a custom regular expression, and
--- case is kept.
+-- Whether a match keeps case where the options ignore it: an engine matches the component that does
+-- not honour the flag `i`.
+abbrev pub misses_case : ComponentParts → Bool
+misses_case component = component.options.ignore_case && not component.honours_case
+
+-- The parts tell which texts the component matches: no part is a custom regular expression, and a
+-- match ignores case if the options do.
 pub record IsKnown (component : ComponentParts) : Type 0 where
   pub generated : AreGenerated (parts_view component.parts.items)
-  pub case_kept : component.options.ignore_case ≡ false
+  pub case : misses_case component ≡ false
 
--- `reason` is a reason why the parts do not tell which texts the component matches: a part is
--- custom, or case is ignored.
+-- `reason` is why the parts do not tell which texts the component matches, as `IsKnown` says: case
+-- is kept, so that a part is custom; or case is ignored, and a part is custom, or the engine does
+-- not honour the flag `i`.
 abbrev pub IsUnknownBy : ComponentParts → Reason → Type 0
-IsUnknownBy component reasons.CustomExpression = ¬ AreGenerated (parts_view component.parts.items)
-IsUnknownBy component reasons.IgnoredCase = component.options.ignore_case ≡ true
+IsUnknownBy component reasons.CustomExpression =
+    (¬ IsKnown component) × (component.options.ignore_case ≡ false)
+IsUnknownBy component reasons.IgnoredCase =
+    (¬ IsKnown component) × (component.options.ignore_case ≡ true)
 IsUnknownBy component reasons.TooMany = ⊥
 
--- `reason` is a reason why it is not known whether a text exists that both components match: a part
--- is custom or case is ignored in one of them, or the search among the texts of the first is too
--- much work.
+-- `reason` is a reason why it is not known whether a text exists that both components match: the
+-- parts of one of them do not tell, or the search among the texts of the first is too much work.
 abbrev pub IsReasonToShare : (component other : ComponentParts) → Reason → Type 0
-IsReasonToShare component other =
-    IsReason (options_view component.options) (parts_view component.parts.items)
+IsReasonToShare component other reasons.TooMany =
+    IsTooMuch (options_view component.options) (parts_view component.parts.items)
     (options_view other.options) (parts_view other.parts.items)
+IsReasonToShare component other reason = IsUnknownBy component reason ⊎ IsUnknownBy other reason
 
 -- `reason` is a reason why it is not known whether a text exists that only the asked component
--- matches: a part is custom or case is ignored in one of the two, or the search among the texts of
--- the asked one is too much work.
+-- matches: the parts of one of the two do not tell, or the search among the texts of the asked one
+-- is too much work.
 abbrev pub IsReasonFor : (component asked : ComponentParts) → Reason → Type 0
 IsReasonFor component asked = IsReasonToShare asked component
 
@@ -74,34 +82,35 @@ anything_part = record {
   suffix = [];
 }
 
--- `reason` is a reason why no text is known that the component matches: why the comparison with a
--- full wildcard, which would find such a text, has no result (`IsReason`).
+-- `reason` is a reason why no text is known that the component matches: its parts do not tell, or
+-- the comparison with a full wildcard, which would find such a text, is too much work.
 abbrev pub IsReasonAlone : ComponentParts → Reason → Type 0
-IsReasonAlone component =
-    IsReason (options_view component.options) (parts_view component.parts.items) default_options
+IsReasonAlone component reasons.TooMany =
+    IsTooMuch (options_view component.options) (parts_view component.parts.items) default_options
     (anything_part ∷ [])
+IsReasonAlone component reason = IsUnknownBy component reason
 
--- The component matches each text without line feed; no part is custom, and case is kept.
+-- The component matches each text without line feed, as its parts tell.
 pub record MatchesEveryLine (component : ComponentParts) : Type 0 where
   pub known : IsKnown component
   pub takes : (text : List ℕ) → IsTrue (all_scalars text) → IsTrue (lacks line_feed text)
       → MeansIn component text
 
--- The component matches no text without line feed; no part is custom, and case is kept.
+-- The component matches no text without line feed, as its parts tell.
 pub record MatchesNoLine (component : ComponentParts) : Type 0 where
   pub known : IsKnown component
   pub takes_none : (text : List ℕ) → IsTrue (all_scalars text) → IsTrue (lacks line_feed text)
       → ¬ MeansIn component text
 
--- The component matches each text without line feed that the asked one matches; in each, no part is
--- custom, and case is kept.
+-- The component matches each text without line feed that the asked one matches, as the parts of
+-- both tell.
 pub record MeansAllOf (component asked : ComponentParts) : Type 0 where
   pub known : IsKnown component
   pub asked_known : IsKnown asked
   pub within : (text : List ℕ) → IsTrue (all_scalars text) → IsTrue (lacks line_feed text)
       → MeansIn asked text → MeansIn component text
 
--- The component matches the text, which has no line feed; no part is custom, and case is kept.
+-- The component matches the text, which has no line feed, as its parts tell.
 pub record IsMeantBy (component : ComponentParts) (text : List ℕ) : Type 0 where
   pub known : IsKnown component
   pub means : MeansIn component text
@@ -113,8 +122,7 @@ pub record IsOnlyIn (component asked : ComponentParts) (text : List ℕ) : Type 
   pub meant : IsMeantBy asked text
   pub not_meant : ¬ MeansIn component text
 
--- No text without line feed exists that both components match; in each, no part is custom, and case
--- is kept.
+-- No text without line feed exists that both components match, as the parts of both tell.
 pub record AreApart (component other : ComponentParts) : Type 0 where
   pub known : IsKnown component
   pub other_known : IsKnown other
@@ -134,11 +142,13 @@ abbrev pub IsCaseKeptOrGenerated : ComponentParts → Type 0
 IsCaseKeptOrGenerated component =
     (component.options.ignore_case ≡ false) ⊎ AreGenerated (parts_view component.parts.items)
 
--- The two components are equal but for the names of groups. Case is kept, or no part is custom, so
--- that two values that an engine made of one expression return equal captures.
+-- The two components are equal but for the names of groups, and honour the flag `i` alike. Case is
+-- kept, or no part is custom, so that two values that an engine made of one expression return equal
+-- captures.
 pub record AreSame (component other : ComponentParts) : Type 0 where
   pub options : options_view component.options ≡ options_view other.options
   pub parts : unnamed component.parts.items ≡ unnamed other.parts.items
+  pub case : component.honours_case ≡ other.honours_case
   pub kept_or_generated : IsCaseKeptOrGenerated component
 
 -- The component covers the asked one: it matches each text without line feed, or each such text
@@ -147,14 +157,19 @@ abbrev pub IsComponentCovered : (component asked : ComponentParts) → Type 0
 IsComponentCovered component asked =
     MatchesEveryLine component ⊎ (MeansAllOf component asked ⊎ AreSame component asked)
 
--- The component does not match some text without line feed, or it is not known to match each: the
--- search for a text that only a full wildcard matches has no result (`IsReason`).
+-- `reason` is a reason why the component is not known to match each text without line feed: its
+-- parts do not tell, or the search for a text that only a full wildcard matches is too much work.
+abbrev pub IsReasonToMiss : ComponentParts → Reason → Type 0
+IsReasonToMiss component reasons.TooMany =
+    IsTooMuch default_options (anything_part ∷ []) (options_view component.options)
+    (parts_view component.parts.items)
+IsReasonToMiss component reason = IsUnknownBy component reason
+
+-- The component does not match some text without line feed, or it is not known to match each.
 abbrev pub MayMissLine : ComponentParts → Type 0
 MayMissLine component =
     ((text : List ℕ) × IsTrue (lacks line_feed text) × ¬ MeansIn component text)
-    ⊎ ((reason : Reason)
-    × IsReason default_options (anything_part ∷ []) (options_view component.options)
-    (parts_view component.parts.items) reason)
+    ⊎ ((reason : Reason) × IsReasonToMiss component reason)
 
 -- `reason` is a reason why it is not known whether the component covers the asked one: the reason
 -- is true of the two, they are not equal in the sense of `AreSame`, and the component is not known

@@ -1,11 +1,12 @@
 -- Conditions on a text: that automata accept it, or reject it. What a text does to several automata
 -- is seen by the sets of states to which it leads them, one after the other in one list of flags.
-use Rattle.std.specs.Prelude.{◌≡◌, ℕ, ◌+◌, All, Bool, true, false, not, ◌&&◌, ◌||◌, List, [], ◌∷◌, ◌++◌, IsTrue, drop, take}
+use Rattle.std.specs.Prelude.{◌≡◌, ℕ, ◌+◌, All, Bool, true, false, not, ◌&&◌, ◌||◌, List, [], ◌∷◌, ◌++◌, IsTrue, drop, map, take}
 use Rattle.std.specs.List.{list_any}
 use Rattle.urlpattern_compare.specs.Searching.{is_in, moved, starts_of}
 use Rattle.urlpattern_compare.specs.declared.condition.Condition.{Condition}
 use Rattle.urlpattern_compare.specs.declared.parts_automaton.PartsAutomaton.{PartsAutomaton}
 use Rattle.urlpattern_compare.specs.declared.parts_automaton.Edge.{Edge}
+use Rattle.urlpattern_meaning.specs.Matching.{folded_character}
 
 -- ---- one automaton
 
@@ -14,9 +15,12 @@ abbrev pub states_by : List Edge → (from : List Bool) → (text : List ℕ) �
 states_by edges from [] = from
 states_by edges from (c ∷ text) = states_by edges (moved edges from c) text
 
--- The set of the states to which the text leads from the start states.
+-- The set of the states to which the text leads from the start states, in lower case if the
+-- automaton ignores case.
 abbrev pub states_after : PartsAutomaton → (text : List ℕ) → List Bool
-states_after automaton text = states_by automaton.edges.items (starts_of automaton) text
+states_after automaton text =
+    states_by automaton.edges.items (starts_of automaton)
+    (map (folded_character automaton.ignore_case) text)
 
 -- Whether the automaton accepts the text.
 abbrev pub accepts : PartsAutomaton → (text : List ℕ) → Bool
@@ -47,11 +51,13 @@ abbrev pub joint_after : List Condition → (text : List ℕ) → List Bool
 joint_after [] text = []
 joint_after (it ∷ others) text = states_after it.automaton.now text ++ joint_after others text
 
--- The sets of the states to which the character leads from the sets `from`.
+-- The sets of the states to which the character leads from the sets `from`, in lower case where an
+-- automaton ignores case.
 abbrev pub joint_moved : List Condition → (from : List Bool) → (c : ℕ) → List Bool
 joint_moved [] from c = []
 joint_moved (it ∷ others) from c =
-    moved it.automaton.now.edges.items (take it.automaton.now.states from) c
+    moved it.automaton.now.edges.items (take it.automaton.now.states from)
+    (folded_character it.automaton.now.ignore_case c)
     ++ joint_moved others (drop it.automaton.now.states from) c
 
 -- Whether a text that leads to the sets `flags` meets each of the conditions.

@@ -1,6 +1,7 @@
 -- How an automaton is made, from the end of a list of parts to the start.
-use Rattle.std.specs.Prelude.{ℕ, ◌+◌, ◌<◌, Bool, true, false, ◌&&◌, List, [], ◌∷◌, ◌++◌, map, reverse, if◌then◌else◌}
+use Rattle.std.specs.Prelude.{◌≡◌, ℕ, ◌+◌, ◌<◌, Bool, true, false, ◌&&◌, List, [], ◌∷◌, ◌++◌, map, reverse, if◌then◌else◌}
 use Rattle.urlpattern_compare.specs.Cells.{cells_of, has_one}
+use Rattle.urlpattern_compare.specs.MeantTexts.{folded_options, folded_parts}
 use Rattle.urlpattern_compare.specs.declared.parts_automaton.PartsAutomaton.{PartsAutomaton}
 use Rattle.urlpattern_compare.specs.declared.parts_automaton.Edge.{Edge}
 use Rattle.urlpattern_compare.specs.declared.parts_automaton.Test.{Test}
@@ -96,6 +97,13 @@ abbrev pub made : OptionsView → List PartView → Made
 made options [] = record { edges = []; starts = 0 ∷ []; count = 1 }
 made options (part ∷ parts) =
     with_copies (made options parts) part.modifier (reverse (cells_of options part.kind part))
+
+-- The automaton is that of the parts. If case is ignored, it is made of their texts in lower case,
+-- and reads texts in lower case.
+pub record IsMadeOf (options : OptionsView) (parts : List PartView) (automaton : PartsAutomaton) :
+    Type 0 where
+  pub view : made_view automaton ≡ made (folded_options options) (folded_parts options parts)
+  pub case : automaton.ignore_case ≡ options.ignore_case
 
 -- The automaton of the parts has more than `MOST_STATES` states. An automaton has a state for each
 -- cell, and one more.

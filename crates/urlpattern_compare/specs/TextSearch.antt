@@ -1,7 +1,7 @@
 -- The search for a text that meets conditions: it visits places, the sets of states to which texts
 -- lead all automata.
-use Rattle.std.specs.Prelude.{◌≡◌, ◌≢◌, ℕ, ◌<◌, ◌&&◌, All, Bool, Contains, List, [], ◌∷◌, ◌++◌, length, IsTrue, if◌then◌else◌, not}
-use Rattle.std.specs.{Char.IsScalar, Str.all_scalars}
+use Rattle.std.specs.Prelude.{◌≡◌, ◌≢◌, ℕ, ◌<◌, All, Bool, true, false, Contains, List, [], ◌∷◌, ◌++◌, length, IsTrue, if◌then◌else◌}
+use Rattle.std.specs.{Char.IsScalar, Char.to_ascii_uppercase, Str.all_scalars}
 use Rattle.urlpattern_compare.specs.Conditions.{Meets, are_open, joint_after, joint_moved, states_after}
 use Rattle.urlpattern_compare.specs.Automata.{named}
 use Rattle.urlpattern_compare.specs.Searching.{is_in}
@@ -45,14 +45,23 @@ IsFoundText conditions most TooMany = HasManySets conditions most
 
 -- ---- steps
 
+-- The characters `marks`, with `c` added if it is not among them.
+abbrev pub with_mark : (marks : List ℕ) → (c : ℕ) → List ℕ
+with_mark marks c = if is_among marks c then marks else (marks ++ c ∷ [])
+
+-- The characters `marks`, with `c` added and, if case is ignored, `c` in upper case.
+abbrev pub with_cases : (ignore_case : Bool) → (marks : List ℕ) → (c : ℕ) → List ℕ
+with_cases true marks c = with_mark (with_mark marks c) (to_ascii_uppercase c)
+with_cases false marks c = with_mark marks c
+
 -- The characters `marks`, with those added that the tests of those edges name that leave a state of
--- the set `from`, each once.
-abbrev pub with_named_from : (marks : List ℕ) → (from : List Bool) → List Edge → List ℕ
-with_named_from marks from [] = marks
-with_named_from marks from (edge ∷ edges) =
-    with_named_from
-    (if is_in from edge.from && not (is_among marks (named edge.test))
-    then (marks ++ named edge.test ∷ []) else marks)
+-- the set `from`, in both cases if case is ignored, each once.
+abbrev pub with_named_from : (ignore_case : Bool) → (marks : List ℕ) → (from : List Bool)
+    → List Edge → List ℕ
+with_named_from ignore_case marks from [] = marks
+with_named_from ignore_case marks from (edge ∷ edges) =
+    with_named_from ignore_case
+    (if is_in from edge.from then with_cases ignore_case marks (named edge.test) else marks)
     from edges
 
 -- Each character other than a line feed leads from the sets `flags` to the same sets as one of

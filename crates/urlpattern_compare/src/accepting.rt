@@ -5,6 +5,7 @@ ghost use Rattle.urlpattern_compare.specs.Candidates.{IsFirstMet, MeetsAt, Meets
 ghost use Rattle.urlpattern_compare.specs.Conditions.{Meets, accepts};
 
 use crate::condition::Condition;
+use crate::folding::folded_character;
 use crate::joint_states::is_as;
 use crate::parts_automaton::PartsAutomaton;
 use crate::states::{is_in, moved, set_of};
@@ -17,7 +18,8 @@ fn accepts(alloc: Global, automaton: &PartsAutomaton, text: &[char]) -> Result<b
 {
     let mut flags = set_of(alloc, &automaton.starts, automaton.states)?;
     for c in text {
-        flags = moved(alloc, &automaton.edges, &flags, *c)?;
+        let c = folded_character(automaton.ignore_case, *c);
+        flags = moved(alloc, &automaton.edges, &flags, c)?;
     }
     Ok(is_in(&flags, 0))
 }

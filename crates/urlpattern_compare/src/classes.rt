@@ -2,7 +2,7 @@
 
 ghost use Rattle.std.specs.Prelude.{◌≡◌, ◌<◌, ◌≤◌, ℕ, false, true, IfOk, IfNone, IfSome, OnOk, ◌∷◌, []};
 ghost use Rattle.std.specs.Char.{IsScalar};
-ghost use Rattle.urlpattern_compare.specs.TextSearch.{AreClassesAt, with_named_from};
+ghost use Rattle.urlpattern_compare.specs.TextSearch.{AreClassesAt, with_cases, with_mark, with_named_from};
 ghost use Rattle.urlpattern_syntax.specs.Text.{is_among, line_feed};
 
 use crate::condition::Condition;
@@ -13,7 +13,8 @@ use std::alloc::{AllocError, Global};
 
 /// Returns at least one character of each class that the automata of `conditions` tell apart in the
 /// sets of states `flags`: a line feed, the characters that the tests of the edges name that leave
-/// a state of these sets, and a further character, if one is left.
+/// a state of these sets, in both cases where case is ignored, and a further character, if one is
+/// left.
 pub(crate) fn classes_at(
     alloc: Global,
     conditions: &[Condition<'_>],
@@ -24,8 +25,9 @@ pub(crate) fn classes_at(
     let mut marks = line_feed(alloc)?;
     let mut left = flags;
     for condition in conditions {
-        let (own, others) = split(left, condition.automaton.states);
-        add_named_from(&mut marks, &condition.automaton.edges, own)?;
+        let automaton = condition.automaton;
+        let (own, others) = split(left, automaton.states);
+        add_named_from(&mut marks, automaton.ignore_case, &automaton.edges, own)?;
         left = others;
     }
     match other_than(&marks) {
@@ -47,14 +49,41 @@ fn line_feed(alloc: Global) -> Result<Vec<char>, AllocError>
 }
 
 /// Adds to `marks` the characters that the tests of those of `edges` name that leave a state of the
-/// set `from`, each once.
-fn add_named_from(marks: &mut Vec<char>, edges: &[Edge], from: &[bool]) -> Result<(), AllocError>
-    ensures { OnOk result (marks.new.items ≡ with_named_from marks.old.items from.now edges.now) }
+/// set `from`, in both cases if case is ignored, each once.
+fn add_named_from(
+    marks: &mut Vec<char>,
+    ignore_case: bool,
+    edges: &[Edge],
+    from: &[bool],
+) -> Result<(), AllocError>
+    ensures { OnOk result
+        (marks.new.items ≡ with_named_from ignore_case marks.old.items from.now edges.now) }
 {
     for edge in edges {
-        if is_in(from, edge.from) && !is_among(marks, edge.test.character()) {
-            marks.push(edge.test.character())?;
+        if is_in(from, edge.from) {
+            add_cases(marks, ignore_case, edge.test.character())?;
         }
+    }
+    Ok(())
+}
+
+/// Adds `c` to `marks` and, if case is ignored, `c` in upper case.
+fn add_cases(marks: &mut Vec<char>, ignore_case: bool, c: char) -> Result<(), AllocError>
+    ensures { OnOk result (marks.new.items ≡ with_cases ignore_case marks.old.items c) }
+{
+    add_mark(marks, c)?;
+    if ignore_case {
+        add_mark(marks, c.to_ascii_uppercase())?;
+    }
+    Ok(())
+}
+
+/// Adds `c` to `marks`, if it is not among them.
+fn add_mark(marks: &mut Vec<char>, c: char) -> Result<(), AllocError>
+    ensures { OnOk result (marks.new.items ≡ with_mark marks.old.items c) }
+{
+    if !is_among(marks, c) {
+        marks.push(c)?;
     }
     Ok(())
 }

@@ -1,6 +1,6 @@
 //! Laws of common texts.
 
-ghost use Rattle.urlpattern_compare.specs.CommonLaws.{FewNeedFewTexts, MeaningsExist, SmallHaveAutomata, SmallNeedFewSets};
+ghost use Rattle.urlpattern_compare.specs.CommonLaws.{FewNeedFewTexts, MeaningsExist, SmallHaveAutomata, SmallNeedFewSets, UsualAreWide};
 
 /// Some meanings exist of any patterns, unless a component needs too many states: ways in which
 /// unknown components may match. So what a result of [`find_common`](crate::find_common) says of
@@ -18,8 +18,10 @@ pub fn meanings_exist()
 /// in all patterns is at most the limit. Not too many texts have to be tried if 2 to the power of
 /// the number of components of `none_of` is at most the limit, without those that match any text
 /// without line feeds, as `*` does, or of which nothing is known. Most questions take far less.
+/// [`USUAL_LIMITS`](crate::USUAL_LIMITS) allow sizes of 13 and 9 such components.
 pub fn small_questions_have_results()
     ensures automata { SmallHaveAutomata }
     ensures sets { SmallNeedFewSets }
     ensures texts { FewNeedFewTexts }
+    ensures usual { UsualAreWide }
 {}

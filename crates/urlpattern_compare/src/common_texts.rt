@@ -62,8 +62,8 @@ pub enum Doubt {
 pub struct PatternAutomata {
     /// The parts of the pattern.
     pub parts: PatternParts,
-    /// The automata. `None`: nothing is known of the component, since a part is custom or case is
-    /// ignored, or its automaton has too many states.
+    /// The automata. `None`: nothing is known of the component, or its automaton has too many
+    /// states.
     pub automata: Eight<Option<PartsAutomaton>>,
 }
 

@@ -1,13 +1,13 @@
 //! Single components compared by their parts.
 
 ghost use Rattle.std.specs.Prelude.{◌≡◌, ◌↔◌, [], ◌∷◌, IfNone, IfOk, IfSome, IsTrue, false};
-ghost use Rattle.urlpattern_compare.specs.Comparing.{AreSame, IsCaseKeptOrGenerated, IsComponentCovering, IsComponentOverlap, IsExample, IsKnown, IsReasonFor, IsReasonToShare, IsUnknownBy, anything_part, unnamed, unnamed_view};
+ghost use Rattle.urlpattern_compare.specs.Comparing.{AreSame, IsCaseKeptOrGenerated, IsComponentCovering, IsComponentOverlap, IsExample, IsKnown, IsReasonFor, IsReasonToShare, IsUnknownBy, anything_part, misses_case, unnamed, unnamed_view};
 ghost use Rattle.urlpattern_compare.specs.ComparingSteps.{DecidesEveryLine, IsCoveringByMeaning};
 ghost use Rattle.urlpattern_syntax.specs.Options.{default_options, options_view};
 ghost use Rattle.urlpattern_syntax.specs.Parts.{parts_view};
 ghost use Rattle.urlpattern_syntax.specs.Text.{text_of};
 
-use crate::coverage::{Covering, Overlap, Reason, covers, has_custom, overlaps};
+use crate::coverage::{Covering, Overlap, Reason, covers, has_custom, overlaps, untold};
 use std::alloc::{AllocError, Global};
 use urlpattern_syntax::ComponentParts;
 use urlpattern_syntax::parser::{Options, Part, PartModifier, PartType};
@@ -30,22 +30,31 @@ fn anything(alloc: Global) -> Result<ComponentParts, AllocError>
     Ok(ComponentParts {
         options: Options::default(alloc),
         parts,
+        honours_case: true,
     })
 }
 
-/// Returns why the parts of `component` do not tell which texts it matches: case is ignored, or a
-/// part is a custom regular expression. `None`: the parts tell.
+/// Returns why the parts of `component` do not tell which texts it matches: a part is a custom
+/// regular expression, or an engine keeps case where it is to be ignored. `None`: the parts tell.
 pub(crate) fn unknown(component: &ComponentParts) -> Option<Reason>
     ensures known { IfNone result (IsKnown component.now) }
     ensures reason { IfSome result (IsUnknownBy component.now) }
 {
-    if component.options.ignore_case {
+    if misses_case(component) {
         return Some(Reason::IgnoredCase);
     }
-    if has_custom(&component.parts) {
-        return Some(Reason::CustomExpression);
+    match untold(&component.options, &component.parts) {
+        Some(reason) => Some(reason),
+        None => None,
     }
-    None
+}
+
+/// Whether a match keeps case where the options ignore it: an engine matches the component that
+/// does not honour the flag `i`.
+fn misses_case(component: &ComponentParts) -> bool
+    ensures { result ≡ misses_case component.now }
+{
+    component.options.ignore_case && !component.honours_case
 }
 
 /// Returns why the parts of two components do not tell which texts each matches. `None`: the parts
@@ -72,7 +81,7 @@ fn matches_every_line(alloc: Global, component: &ComponentParts) -> Result<bool,
     }
 }
 
-/// Whether `component`, of which no part is custom and case is kept, is known to match each text
+/// Whether `component`, whose parts tell which texts it matches, is known to match each text
 /// without line feed. `false`: a text does not match, or the comparison is given up (`TooMany`).
 fn covers_anything(alloc: Global, component: &ComponentParts) -> Result<bool, AllocError>
     requires { IsKnown component.now }
@@ -96,14 +105,15 @@ fn covers_anything(alloc: Global, component: &ComponentParts) -> Result<bool, Al
     }
 }
 
-/// Whether two components are equal but for the names of groups, and match alike: case is kept, or
-/// no part is a custom regular expression.
+/// Whether two components are equal but for the names of groups, and match alike: both honour the
+/// flag `i` or neither does, and case is kept, or no part is a custom regular expression.
 pub(crate) fn is_same(component: &ComponentParts, other: &ComponentParts) -> bool
     ensures { IsTrue result ↔ AreSame component.now other.now }
 {
     is_case_kept_or_generated(component)
         && are_same_options(&component.options, &other.options)
         && are_same_parts(&component.parts, &other.parts)
+        && component.honours_case == other.honours_case
 }
 
 /// Whether case is kept in `component`, or no part is a custom regular expression.
@@ -194,8 +204,8 @@ pub(crate) fn component_example(
     }
 }
 
-/// Returns as `Common` a text without line feed that `component`, of which no part is custom and
-/// case is kept, matches. `Apart`: no such text exists.
+/// Returns as `Common` a text without line feed that `component`, whose parts tell which texts it
+/// matches, does match. `Apart`: no such text exists.
 fn common_with_anything(alloc: Global, component: &ComponentParts) -> Result<Overlap, AllocError>
     requires { IsKnown component.now }
     ensures { IfOk result (IsExample component.now) }

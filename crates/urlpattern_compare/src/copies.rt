@@ -33,7 +33,11 @@ fn copied_component(alloc: Global, component: &ComponentParts) -> Result<Compone
         let copy = copied_part(part)?;
         parts.push(copy)?;
     }
-    Ok(ComponentParts { options, parts })
+    Ok(ComponentParts {
+        options,
+        parts,
+        honours_case: component.honours_case,
+    })
 }
 
 /// Returns a copy of the options.

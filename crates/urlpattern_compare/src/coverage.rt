@@ -1,8 +1,10 @@
 //! Compares the texts that two lists of parts match.
 
-ghost use Rattle.std.specs.Prelude.{◌≡◌, IfOk, false, true};
+ghost use Rattle.std.specs.Prelude.{◌≡◌, IfNone, IfOk, IfSome, false, true};
 ghost use Rattle.std.specs.List.{list_any};
-ghost use Rattle.urlpattern_compare.specs.Answers.{IsCoveringOf, IsFoundBy, IsOverlapOf, IsSoughtOf, answer_of, is_custom_part};
+ghost use Rattle.urlpattern_compare.specs.Answers.{IsCoveringOf, IsFoundBy, IsOverlapOf, IsSoughtOf, IsUntold, answer_of, is_custom_part};
+ghost use Rattle.urlpattern_meaning.specs.PartMeaning.{AreGenerated};
+ghost use Rattle.urlpattern_syntax.specs.{Options.options_view, Parts.parts_view};
 
 use crate::condition::Condition;
 use crate::parts_automaton::{PartsAutomaton, make};
@@ -37,9 +39,10 @@ pub enum Overlap {
 /// Why a comparison has no result.
 #[derive(Clone, Copy, Debug, PartialEq, Eq)]
 pub enum Reason {
-    /// A part is a custom regular expression.
+    /// A part is a custom regular expression, and case is kept.
     CustomExpression,
-    /// Case is ignored.
+    /// Case is ignored, and a part is a custom regular expression, or an engine matches the
+    /// component that does not honour the flag `i`, such as `regex::Regex`.
     IgnoredCase,
     /// The parts need more than [`MOST_STATES`](crate::MOST_STATES) states, or the search for a
     /// text that decides reaches more than [`MOST_SETS`](crate::MOST_SETS) sets of states. Of two
@@ -111,17 +114,11 @@ fn find_meant(
 ) -> Result<Answer, AllocError>
     ensures { IfOk result (IsSoughtOf options.now parts.now other_options.now others.now is_meant) }
 {
-    if options.ignore_case {
-        return Ok(Answer::Unknown(Reason::IgnoredCase));
+    if let Some(reason) = untold(options, parts) {
+        return Ok(Answer::Unknown(reason));
     }
-    if other_options.ignore_case {
-        return Ok(Answer::Unknown(Reason::IgnoredCase));
-    }
-    if has_custom(parts) {
-        return Ok(Answer::Unknown(Reason::CustomExpression));
-    }
-    if has_custom(others) {
-        return Ok(Answer::Unknown(Reason::CustomExpression));
+    if let Some(reason) = untold(other_options, others) {
+        return Ok(Answer::Unknown(reason));
     }
     let Some(one) = make(alloc, options, parts)? else {
         return Ok(Answer::Unknown(Reason::TooMany));
@@ -173,6 +170,22 @@ fn answer_of(found: Found) -> Answer
         Found::Text(text) => Answer::Text(text),
         Found::Nothing => Answer::Nothing,
         Found::TooMany => Answer::Unknown(Reason::TooMany),
+    }
+}
+
+/// Returns why `parts` do not tell which texts they match: a part is a custom regular expression.
+/// `None`: the parts tell.
+pub(crate) fn untold(options: &Options, parts: &[Part]) -> Option<Reason>
+    ensures told { IfNone result (AreGenerated (parts_view parts.now)) }
+    ensures reason { IfSome result (IsUntold (options_view options.now) (parts_view parts.now)) }
+{
+    if !has_custom(parts) {
+        return None;
+    }
+    if options.ignore_case {
+        Some(Reason::IgnoredCase)
+    } else {
+        Some(Reason::CustomExpression)
     }
 }
 

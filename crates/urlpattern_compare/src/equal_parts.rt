@@ -12,7 +12,7 @@ use urlpattern_syntax::parser::Part;
 
 impl PatternParts {
     /// Whether each component has equal options and equal parts in both patterns, names of groups
-    /// included.
+    /// included, and both honour the flag `i` there, or neither does.
     ///
     /// Patterns with different texts may be the same: `/a{b}` has the parts of `/ab`.
     pub fn is_same(&self, other: &Self) -> bool
@@ -27,12 +27,14 @@ impl PatternParts {
     }
 }
 
-/// Whether two components have equal options and equal parts, names of groups included.
+/// Whether two components have equal options and equal parts, names of groups included, and honour
+/// the flag `i` alike.
 fn is_equal(component: &ComponentParts, other: &ComponentParts) -> bool
     ensures { IsTrue result ↔ AreEqual component.now other.now }
 {
     are_same_options(&component.options, &other.options)
         && are_equal_parts(&component.parts, &other.parts)
+        && component.honours_case == other.honours_case
 }
 
 /// Whether two lists of parts are equal.

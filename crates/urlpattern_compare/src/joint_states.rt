@@ -5,6 +5,7 @@ ghost use Rattle.std.specs.List.{list_any};
 ghost use Rattle.urlpattern_compare.specs.Conditions.{are_met, are_open, is_as, joint_moved, joint_starts};
 
 use crate::condition::Condition;
+use crate::folding::folded_character;
 use crate::states::{is_in, moved, set_of};
 use std::alloc::{AllocError, Global};
 
@@ -41,7 +42,8 @@ pub(crate) fn joint_moved(
     let mut left = from;
     for condition in conditions {
         let (own, others) = split(left, condition.automaton.states);
-        let own_moved = moved(alloc, &condition.automaton.edges, own, c)?;
+        let folded = folded_character(condition.automaton.ignore_case, c);
+        let own_moved = moved(alloc, &condition.automaton.edges, own, folded)?;
         flags.extend_from_slice(&own_moved)?;
         left = others;
     }

@@ -27,6 +27,7 @@ mod coverage;
 mod equal_parts;
 mod first_cover;
 mod first_uncovered;
+mod folding;
 mod joint_states;
 mod lacks;
 mod order;

@@ -3,7 +3,7 @@
 ghost use Rattle.std.specs.Prelude.{◌≡◌, ◌≤◌, ◌<◌, ◌+◌, ◌++◌, [], IfNone, IfOk, OnOk, length};
 ghost use Rattle.urlpattern_compare.specs.{Answers.AcceptsMeaning, Answers.IfMade};
 ghost use Rattle.urlpattern_compare.specs.Automata.{IsWithin, named, passes};
-ghost use Rattle.urlpattern_compare.specs.Making.{HasManyStates, edges_to, made, made_view, may_miss, new_starts, repeats, with_cell, with_cells, with_copies, with_repeat_starts};
+ghost use Rattle.urlpattern_compare.specs.Making.{HasManyStates, IsMadeOf, edges_to, made_view, may_miss, new_starts, repeats, with_cell, with_cells, with_copies, with_repeat_starts};
 ghost use Rattle.urlpattern_meaning.specs.PartMeaning.{AreGenerated};
 ghost use Rattle.urlpattern_syntax.specs.{Options.options_view, Parts.parts_view};
 
@@ -59,6 +59,8 @@ pub struct Edge {
 }
 
 /// An automaton, which accepts a text if the text leads from a start state to state 0.
+///
+/// If it ignores case, its tests name characters in lower case, and texts are read in lower case.
 #[derive(Debug, Drop)]
 pub struct PartsAutomaton {
     /// The edges.
@@ -67,6 +69,8 @@ pub struct PartsAutomaton {
     pub starts: Vec<usize>,
     /// The number of states.
     pub states: usize,
+    /// Whether the case of ASCII letters is ignored.
+    pub ignore_case: bool,
 }
 
 impl PartsAutomaton {
@@ -190,8 +194,8 @@ pub(crate) fn make(
     options: &Options,
     parts: &[Part],
 ) -> Result<Option<PartsAutomaton>, AllocError>
-    ensures made { IfMade result (λ automaton.
-        made_view automaton ≡ made (options_view options.now) (parts_view parts.now)) }
+    ensures made { IfMade result
+        (IsMadeOf (options_view options.now) (parts_view parts.now)) }
     ensures many { IfOk result (λ found.
         IfNone found (HasManyStates (options_view options.now) (parts_view parts.now))) }
 {
@@ -199,6 +203,7 @@ pub(crate) fn make(
         edges: Vec::new(alloc),
         starts: vec![in alloc; 0]?,
         states: 1,
+        ignore_case: false,
     };
     let mut left = parts;
     while let Some((part, before)) = left.split_last() {
@@ -209,6 +214,7 @@ pub(crate) fn make(
         automaton.add_copies(alloc, part.modifier, &cells)?;
         left = before;
     }
+    automaton.ignore_case = options.ignore_case;
     Ok(Some(automaton))
 }
 

@@ -56,8 +56,8 @@ impl Drop for PatternParts {
 pub struct Parting {
     /// A component whose text, which is known, the pattern does not match.
     pub component: ComponentName,
-    /// The texts that the asked pattern matches. `None`: no text of this component is known, since
-    /// a part is custom, or case is ignored, or the work exceeds its bound.
+    /// The texts that the asked pattern matches. `None`: no text of this component is known, for a
+    /// [`Reason`].
     ///
     /// With any text that the asked pattern matches in the components without a known text, it
     /// matches all eight.
@@ -150,13 +150,15 @@ impl PatternParts {
     /// combination of eight texts, one for each component, that the parts of `asked` match. Texts
     /// with a line feed are left out.
     ///
-    /// Components are compared one by one. A component that matches each text, with case kept and
+    /// Components are compared one by one, with case ignored in some and kept in others; where it
+    /// is ignored, ASCII letters are compared in lower case. A component that matches each text,
     /// without custom regular expressions, covers any other. A component covers equal parts under
-    /// equal options, whatever the names, also with custom regular expressions or with case
-    /// ignored, but not with both. Nothing is known of other components with custom regular
-    /// expressions or with case ignored, nor where the work is too much (`Reason::TooMany`).
-    /// `Unknown` is returned only if no other component decides. Each text of `NotCovered` is one
-    /// of the shortest for its component, though no clause promises that.
+    /// equal options, whatever the names, also with custom regular expressions, unless case is
+    /// ignored too. Nothing is known of other components with custom regular expressions, nor of
+    /// those that ignore case and that an engine matches which does not honour the flag `i`
+    /// (`Reason::IgnoredCase`), nor where the work is too much (`Reason::TooMany`). `Unknown` is
+    /// returned only if no other component decides. Each text of `NotCovered` is one of the
+    /// shortest for its component, though no clause promises that.
     pub fn covers(&self, alloc: Global, asked: &Self) -> Result<PatternCovering, AllocError>
         ensures { IfOk result (IsPatternCovering self.now asked.now) }
     {
@@ -175,9 +177,8 @@ impl PatternParts {
     /// of this pattern and those of `other` match, and which.
     ///
     /// Of a component that is the same in both patterns, in the sense of `covers`, a text need not
-    /// be known. Nothing is known of other components with custom regular expressions or with case
-    /// ignored, nor where the work is too much (`Reason::TooMany`). `Unknown` is returned only if
-    /// no other component decides.
+    /// be known. `Unknown` is returned where `covers` knows nothing, and only if no other component
+    /// decides.
     pub fn overlaps(&self, alloc: Global, other: &Self) -> Result<PatternOverlap, AllocError>
         ensures { IfOk result (IsPatternOverlap self.now other.now) }
     {

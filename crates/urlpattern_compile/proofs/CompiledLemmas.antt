@@ -158,6 +158,7 @@ kept_weaker engine strong settings h text options (Ok made) e f compiled taken =
       (reads_weaker strong (canonical_encoding settings.canonical) h text options (kept_parts made.kept) compiled.reads));
   is_made = subst (λ o. IsComponentOf engine o (kept_parts made.kept) (component_view made.component)) f compiled.is_made;
   has_engine = taken;
+  case = compiled.case;
 }
 
 refused_weaker-view : {E : Type 0} (engine : Engine E)

@@ -1,7 +1,7 @@
 -- Patterns with their parts: each component with the parts of its pattern text, of which it is
 -- made.
 use Rattle.std.specs.Prelude.{◌≡◌, Bool, Ok}
-use Rattle.urlpattern_matcher.specs.Components.{IsComponentOf, component_view}
+use Rattle.urlpattern_matcher.specs.Components.{IsComponentOf, component_view, honours_case}
 use Rattle.urlpattern_matcher.specs.declared.component.ComponentWithParts.{ComponentWithParts}
 use Rattle.urlpattern_matcher.specs.declared.regexp.RegExp.{Ghosts as Engine}
 use Rattle.urlpattern_compile.specs.Compiled.{HasEngine, IsPathKind, ParseSettings, ReadsAs, settings_of, pattern_values}
@@ -13,8 +13,8 @@ use Rattle.urlpattern_inputs.specs.declared.options.UrlPatternOptions.{UrlPatter
 use Rattle.urlpattern_syntax.specs.ComponentParts.{kept_options, kept_parts}
 
 -- The engine compiles `made` as `settings` say: its parts are those that the text reads as, the
--- component is made of them, and the engine accepted the regular expressions that the component
--- needs.
+-- component is made of them, the engine accepted the regular expressions that the component needs,
+-- and `made` says whether its matcher honours case.
 pub record IsCompiledWithParts {E : Type 0} (engine : Engine E) (settings : ParseSettings)
     (made : ComponentWithParts E) : Type 0 where
   pub options_are : kept_options made.kept ≡ settings.options
@@ -22,6 +22,8 @@ pub record IsCompiledWithParts {E : Type 0} (engine : Engine E) (settings : Pars
   pub is_made : IsComponentOf engine settings.options (kept_parts made.kept)
       (component_view made.component)
   pub has_engine : HasEngine (component_view made.component)
+  pub case : made.kept.honours_case
+      ≡ honours_case engine (component_view made.component).matcher.inner
 
 -- Each of eight components is compiled, with its parts, as the settings for its name say.
 abbrev pub EachIsCompiledWithParts : {E : Type 0} → Engine E

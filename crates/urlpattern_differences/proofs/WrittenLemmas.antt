@@ -1,9 +1,10 @@
 -- What a pattern matches of which one component is written.
-use Rattle.std.proofs.Common.{◌≡◌, ◌≢◌, ◌∙◌, ◌++◌, ℕ, List, [], ◌∷◌, ap, append-nil, inl, inr, refl, subst, sym}
+use Rattle.std.proofs.Common.{◌≡◌, ◌≢◌, ◌∙◌, ◌++◌, ℕ, List, [], ◌∷◌, append-nil, inl, inr, refl, subst, sym}
 use Rattle.std.proofs.lemmas.List.Elements.{All-cons, All-nil}
 use Rattle.std.specs.Prelude.{IsTrue, Some}
 use Rattle.urlpattern_compare.proofs.CandidateLemmas.{name_cases}
-use Rattle.urlpattern_compare.proofs.ComponentLemmas.{wildcard_means}
+use Rattle.urlpattern_compare.proofs.ComponentLemmas.{none_missed, wildcard_means}
+use Rattle.urlpattern_compare.proofs.KeptCase.{kept_means}
 use Rattle.urlpattern_compare.specs.Comparing.{IsKnown, MeansIn}
 use Rattle.urlpattern_compare.specs.MeantTexts.{MeansText}
 use Rattle.urlpattern_components.specs.Eight.{at}
@@ -20,7 +21,8 @@ use Rattle.urlpattern_syntax.specs.declared.parts.ComponentParts.{ComponentParts
 
 pub segment_means : (text : List ℕ) → text ≢ [] → IsTrue (lacks line_feed text) → MeansText default_options (wildcard_part PartType.SegmentWildcard ∷ []) text
 segment_means text some line =
-    let whole : text ≡ text ++ [] = sym (append-nil text) in (
+    let whole : text ≡ text ++ [] = sym (append-nil text) in
+    (kept_means default_options (wildcard_part PartType.SegmentWildcard ∷ []) text refl).1 (
       Some text ∷ [],
       (
         text,
@@ -59,7 +61,7 @@ module _ (kind : PartType) (component : ComponentParts) (is : IsWildcard kind co
   pub known_wildcard : kind ≢ PartType.Regexp → IsKnown component
   known_wildcard generated = record {
     generated = subst AreGenerated (sym is.parts) (All-cons (λ (part : PartView). part.kind ≢ PartType.Regexp) (wildcard_part kind) [] generated (All-nil (λ (part : PartView). part.kind ≢ PartType.Regexp)));
-    case_kept = ap (λ (options : OptionsView). options.ignore_case) is.options;
+    case = none_missed component is.case;
   }
 
   pub means_in : (text : List ℕ) → MeansText default_options (wildcard_part kind ∷ []) text → MeansIn component text

@@ -1,5 +1,5 @@
 -- Rules that deny a user name and a password.
-use Rattle.std.specs.Prelude.{◌≡◌, ◌≢◌, ◌↔◌, [], ◌∷◌}
+use Rattle.std.specs.Prelude.{◌≡◌, ◌≢◌, ◌↔◌, true, [], ◌∷◌}
 use Rattle.urlpattern_compare.specs.Candidates.{AreLines, TextAt}
 use Rattle.urlpattern_compare.specs.CommonTexts.{AreAutomata, MeansByParts, MeansEach, PatternMeaning}
 use Rattle.urlpattern_compare.specs.declared.common_texts.PatternAutomata.{PatternAutomata}
@@ -27,10 +27,11 @@ wildcard_part kind = record {
 }
 
 -- The component is a wildcard of this kind alone, under the default options: those without a
--- delimiter.
+-- delimiter. No engine is needed.
 pub record IsWildcard (kind : PartType) (component : ComponentParts) : Type 0 where
   pub options : options_view component.options ≡ default_options
   pub parts : parts_view component.parts.items ≡ wildcard_part kind ∷ []
+  pub case : component.honours_case ≡ true
 
 -- The component `name` of a pattern of which the component `written` alone is not to be empty: a
 -- segment wildcard, which matches each text that is not empty, or a full wildcard.

@@ -87,5 +87,6 @@ fn wildcard(alloc: Global, kind: PartType) -> Result<ComponentParts, AllocError>
     Ok(ComponentParts {
         options: Options::default(alloc),
         parts,
+        honours_case: true,
     })
 }

@@ -1,5 +1,5 @@
 -- What an `EcmaRegexp` is made of, and what it returns.
-use Rattle.std.specs.Prelude.{◌≡◌, ℕ, List, Option, IfSome, IsTrue, is_some, option_and_then}
+use Rattle.std.specs.Prelude.{◌≡◌, ℕ, false, List, Option, IfSome, IsTrue, is_some, option_and_then}
 use Rattle.urlpattern_engine.specs.declared.ecma_regexp.EcmaRegexp.{EcmaRegexp}
 use Rattle.urlpattern_matcher.specs.declared.regexp.RegExp.{Ghosts as Engine}
 use Rattle.urlpattern_matcher.specs.Regexes.{IsRegexOf, regex_result}
@@ -31,6 +31,7 @@ ecma_engine = record {
   MayReject = λ regexp flags force_eval. IsTrue force_eval;
   answer = ecma_regexp_result;
   text_made_of = ecma_regexp_text;
+  case_honoured = false;
 }
 
 -- The value keeps a `Regex`, since `regex` accepted the text.

@@ -1,5 +1,5 @@
 -- What a value of the engine `PatternRegexp` is made of, and what it returns.
-use Rattle.std.specs.Prelude.{◌≡◌, ℕ, ◌^◌, ◌≤◌, Bool, List, length, Option, IsSome, string_bytes}
+use Rattle.std.specs.Prelude.{◌≡◌, ℕ, ◌^◌, ◌≤◌, Bool, true, List, length, Option, IsSome, string_bytes}
 use Rattle.regex_syntax.specs.Grammar.{read}
 use Rattle.urlpattern_matcher.specs.declared.regexp.RegExp.{Ghosts as Engine}
 use Rattle.urlpattern_matcher.specs.Components.{ignores_case}
@@ -81,4 +81,5 @@ pattern_engine = record {
       λ regexp flags force_eval. (¬ IsGenerated regexp) × HasFault (ignores_case flags) regexp;
   answer = pattern_result;
   text_made_of = pattern_regexp_text;
+  case_honoured = true;
 }

@@ -43,6 +43,8 @@ impl RegExp for EcmaRegexp {
 
     ghost text_made_of = { ecma_engine.text_made_of };
 
+    ghost case_honoured = { ecma_engine.case_honoured };
+
     fn syntax() -> RegexSyntax {
         RegexSyntax::EcmaScript
     }
@@ -77,5 +79,9 @@ impl RegExp for EcmaRegexp {
 
     fn pattern_string(&self) -> &str {
         self.0.as_str()
+    }
+
+    fn honours_case() -> bool {
+        false
     }
 }

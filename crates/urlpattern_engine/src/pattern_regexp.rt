@@ -68,6 +68,8 @@ impl RegExp for PatternRegexp {
 
     ghost text_made_of = { pattern_engine.text_made_of };
 
+    ghost case_honoured = { pattern_engine.case_honoured };
+
     fn syntax() -> RegexSyntax {
         RegexSyntax::Rust
     }
@@ -117,6 +119,10 @@ impl RegExp for PatternRegexp {
 
     fn pattern_string(&self) -> &str {
         self.strategy.pattern_string()
+    }
+
+    fn honours_case() -> bool {
+        true
     }
 
     fn agrees_with_parts() -> bool {

@@ -1,12 +1,13 @@
 -- Lemmas on spans.
-use Rattle.std.proofs.Common.{◌≡◌, ℕ, ◌+◌, ◌<◌, ◌≤◌, List, [], ◌∷◌, ◌++◌, Option, length, take, drop, get_or, ap, sym, subst, ◌∙◌, arith, add-zero, add-one, add_assoc, append_assoc, length-append}
+use Rattle.std.proofs.Common.{◌≡◌, ℕ, suc, ◌+◌, ◌<◌, ◌≤◌, ◌^◌, List, [], ◌∷◌, ◌++◌, Option, length, take, drop, get_or, ap, refl, sym, subst, inl, inr, ◌∙◌, arith, add-zero, add-one, add_assoc, append_assoc, length-append}
+use Rattle.std.proofs.Math.Seq.{drop-cons}
 use Rattle.std.proofs.lemmas.List.{append-nil, drop-drop, drop_at, take-append-drop, take_at, take_more, length-take-le, set_split}
 use Rattle.std.proofs.lemmas.List.Concat.{flat_map-append}
 use Rattle.std.specs.List.{flat_map}
 use Rattle.std.specs.Prelude.{set, slice_get, Some}
 use Rattle.urlpattern.specs.Patterns.{PatternView, pattern_view}
 use Rattle.urlpattern_components.specs.declared.eight.ComponentName.{ComponentName}
-use Rattle.urlpattern_ffi.specs.GroupSpans.{NumberedGroup, capture_bytes, numbered, numbered_groups, span_at, spans_from, texts_of_groups, AreCapturesReported, AreFirstCaptures, AreFirstGroupsOf, AreGroupsOf, AreWrittenAt, AreUrlCaptures, AreSpansWritten, IsWrittenAt}
+use Rattle.urlpattern_ffi.specs.GroupSpans.{NumberedGroup, capture_bytes, numbered, numbered_groups, span_at, spans_from, texts_of_groups, AreCapturesReported, AreFirstCaptures, AreFirstGroupsOf, AreGroupsOf, AreWrittenAt, AreUrlCaptures, AreSpansWritten, ExceedSizes, IsWrittenAt}
 use Rattle.urlpattern_ffi.specs.declared.spans.Sizes.{Sizes}
 use Rattle.urlpattern_ffi.specs.declared.spans.GroupSpan.{GroupSpan}
 use Rattle.urlpattern_ffi.specs.KeptPatterns.{PatternList}
@@ -75,6 +76,41 @@ groups_more xs ys a b c old mid new old_spans mid_spans new_spans same same_span
       texts_put = subst (λ added. IsWrittenAt a.bytes added old new) (sym texts) (put_more a.bytes b.bytes text (texts_of_groups ys) old mid new same first.bytes first.texts_put second.texts_put);
       spans_put = subst (λ added. IsWrittenAt a.spans added old_spans new_spans) (sym all) (put_more a.spans b.spans (spans_from a.bytes xs) (spans_from b.bytes ys) old_spans mid_spans new_spans same_spans first.spans first.spans_put second.spans_put);
     }
+
+-- ---- sizes that no size can say
+
+spans-length : (start : ℕ) (groups : List NumberedGroup) → length (spans_from start groups) ≡ length groups
+spans-length start [] = refl
+spans-length start (group ∷ groups) = ap suc (spans-length (start + length (capture_bytes group.2)) groups)
+
+pub bytes_exceed : (component : ComponentName) (group : ℕ) (capture : Option (List ℕ)) (from : Sizes) → 2 ^ 64 ≤ from.bytes + length (capture_bytes capture) → ExceedSizes from ((component, group, capture) ∷ [])
+bytes_exceed component group capture from many = inl (subst (λ text. 2 ^ 64 ≤ from.bytes + length text) (sym (append-nil (capture_bytes capture))) many)
+
+pub spans_exceed : (component : ComponentName) (group : ℕ) (capture : Option (List ℕ)) (from : Sizes) → 2 ^ 64 ≤ from.spans + 1 → ExceedSizes from ((component, group, capture) ∷ [])
+spans_exceed component group capture from many = inr many
+
+-- Groups that exceed sizes do so among others.
+pub groups_exceed : (xs ys zs : List NumberedGroup) (a b : Sizes) (old new : List ℕ) (old_spans new_spans : List GroupSpan) → AreWrittenAt xs a b old new old_spans new_spans → ExceedSizes b ys → ExceedSizes a (xs ++ (ys ++ zs))
+groups_exceed xs ys zs a b old new old_spans new_spans put exceed = elim exceed [
+  | inl many ↦
+      let text = λ (group : NumberedGroup). capture_bytes group.2 in
+      let all : length (texts_of_groups (xs ++ (ys ++ zs))) ≡ length (texts_of_groups xs) + (length (texts_of_groups ys) + length (texts_of_groups zs)) =
+      ap length (flat_map-append text xs (ys ++ zs)) ∙ length-append (texts_of_groups xs) (texts_of_groups (ys ++ zs))
+      ∙ ap (λ n. length (texts_of_groups xs) + n) (ap length (flat_map-append text ys zs) ∙ length-append (texts_of_groups ys) (texts_of_groups zs)) in
+      inl (omega (arith, many, put.bytes, all))
+  | inr many ↦
+      let all : length (xs ++ (ys ++ zs)) ≡ length xs + (length ys + length zs) = length-append xs (ys ++ zs) ∙ ap (λ n. length xs + n) (length-append ys zs) in
+      let before : b.spans ≡ a.spans + length xs = put.spans ∙ ap (λ n. a.spans + n) (spans-length a.bytes xs) in
+      inr (omega (arith, many, before, all))
+]
+
+-- The groups of the components are those of one, between those before it and those after it.
+pub component_among : (groups : ComponentName → List (List ℕ × Option (List ℕ))) (names : List ComponentName) (i : ℕ) (d : ComponentName) → i < length names
+    → numbered_groups groups names ≡ numbered_groups groups (take i names) ++ (numbered (get_or names i d) 0 (groups (get_or names i d)) ++ numbered_groups groups (drop (i + 1) names))
+component_among groups names i d within =
+    let one = λ (name : ComponentName). numbered name 0 (groups name) in
+    ap (flat_map one) (sym (take-append-drop i names)) ∙ flat_map-append one (take i names) (drop i names)
+    ∙ ap (λ more. numbered_groups groups (take i names) ++ flat_map one more) (drop-cons names i d within ∙ ap (λ n. get_or names i d ∷ drop n names) (sym (add-one i)))
 
 -- A component is appended.
 pub component_more : (groups : ComponentName → List (List ℕ × Option (List ℕ))) (names : List ComponentName) (i : ℕ) (d : ComponentName) → i < length names

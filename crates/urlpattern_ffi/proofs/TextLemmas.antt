@@ -43,7 +43,7 @@ eight_parts text parts texts a b c d e f g h names.Hash = (texts.hash.now, h, re
 pub text_captured : (pattern : PatternView PatternRegexp) (texts : Texts) (groups : List NumberedGroup) (old new : List ℕ) (old_spans new_spans : List GroupSpan) (needed : Sizes) (status : Status)
     → AreGroupsOfTexts pattern texts groups → AreSpansWritten groups old new old_spans new_spans needed status → AreTextCaptures pattern texts old new old_spans new_spans needed status
 text_captured pattern texts groups old new old_spans new_spans needed statuses.Done are written = (groups, are, written)
-text_captured pattern texts groups old new old_spans new_spans needed statuses.OutOfMemory are written = tt
+text_captured pattern texts groups old new old_spans new_spans needed statuses.OutOfMemory are written = inr (groups, are, written)
 text_captured pattern texts groups old new old_spans new_spans needed statuses.TooSmall are written = (groups, are, written)
 text_captured pattern texts groups old new old_spans new_spans needed status are written = absurd written
 
@@ -51,7 +51,7 @@ pub first_text_captured : (patterns : PatternList) (texts : Texts) (old_index in
     → AreFirstGroupsOfTexts patterns texts index groups → AreSpansWritten groups old new old_spans new_spans needed status
     → AreFirstTextCaptures patterns texts old_index index old new old_spans new_spans needed status
 first_text_captured patterns texts old_index index groups old new old_spans new_spans needed statuses.Done are written = (groups, are, written)
-first_text_captured patterns texts old_index index groups old new old_spans new_spans needed statuses.OutOfMemory are written = tt
+first_text_captured patterns texts old_index index groups old new old_spans new_spans needed statuses.OutOfMemory are written = inr (groups, are, written)
 first_text_captured patterns texts old_index index groups old new old_spans new_spans needed statuses.TooSmall are written = (groups, are, written)
 first_text_captured patterns texts old_index index groups old new old_spans new_spans needed status are written = absurd written
 

@@ -1,5 +1,5 @@
 -- The captures of a match as one text, with a span of it for each group. Texts are bytes.
-use Rattle.std.specs.Prelude.{◌≡◌, ◌⊎◌, ◌++◌, ◌+◌, ◌<◌, ◌≤◌, ℕ, List, [], ◌∷◌, length, drop, take, flat_map, slice_get, encode_utf8_all, unwrap_or, is_some, Option, None, Some, if◌then◌else◌}
+use Rattle.std.specs.Prelude.{◌≡◌, ◌⊎◌, ◌++◌, ◌+◌, ◌<◌, ◌≤◌, ◌^◌, ℕ, List, [], ◌∷◌, length, drop, take, flat_map, slice_get, encode_utf8_all, unwrap_or, is_some, Option, None, Some, if◌then◌else◌}
 use Rattle.std.specs.Global.{Global}
 use Rattle.std.specs.declared.boxed.Box.{Box}
 use Rattle.url.specs.Parts.{Parts}
@@ -126,9 +126,17 @@ abbrev pub BeginsWithElements : {A : Type 0} → (elements old new : List A) →
 BeginsWithElements elements old new =
     (length elements ≤ length old) × (new ≡ elements ++ drop (length elements) old)
 
+-- After `from.bytes` bytes and `from.spans` spans, the bytes or the spans of the groups are more
+-- than a size can say.
+abbrev pub ExceedSizes : (from : Sizes) → List NumberedGroup → Type 0
+ExceedSizes from groups =
+    (2 ^ 64 ≤ from.bytes + length (texts_of_groups groups))
+    ⊎ (2 ^ 64 ≤ from.spans + length groups)
+
 -- The outcome of writing the captures and the spans of the groups. `Done`: each buffer begins with
 -- them. `TooSmall`: a buffer has too little room. In both cases `needed` is the room that the
--- groups need. `OutOfMemory` says nothing of the buffers and of `needed`.
+-- groups need. `OutOfMemory`: they need more room than a size can say. Nothing is then said of the
+-- buffers and of `needed`.
 abbrev pub AreSpansWritten : List NumberedGroup
     → (old new : List ℕ) → (old_spans new_spans : List GroupSpan) → (needed : Sizes) → Status
     → Type 0
@@ -138,7 +146,8 @@ AreSpansWritten groups old new old_spans new_spans needed statuses.Done =
     × BeginsWithElements (spans_from 0 groups) old_spans new_spans
 AreSpansWritten groups old new old_spans new_spans needed statuses.TooSmall =
     (needed ≡ sizes_of groups) × ((length old < needed.bytes) ⊎ (length old_spans < needed.spans))
-AreSpansWritten groups old new old_spans new_spans needed statuses.OutOfMemory = Unit {0}
+AreSpansWritten groups old new old_spans new_spans needed statuses.OutOfMemory =
+    ExceedSizes no_sizes groups
 AreSpansWritten groups old new old_spans new_spans needed status = ⊥
 
 -- ---- matches

@@ -1,20 +1,20 @@
 -- The captures of eight texts, one for each component: those of a path by itself, or texts that are
 -- passed as parts of one text. Texts that are passed are bytes.
 use Rattle.std.specs.Prelude.{◌≡◌, ◌≢◌, ◌⊎◌, ℕ, List, [], slice_get, Option, None, Some}
-use Rattle.urlpattern.specs.FirstMatch.{IsFirstMatchOf, patterns_view}
+use Rattle.urlpattern.specs.FirstMatch.{CallsEngineBeforeMatch, IsFirstMatchOf, patterns_view}
 use Rattle.urlpattern.specs.Patterns.{PatternView, pattern_view}
 use Rattle.urlpattern_components.specs.Eight.{Texts, components}
 use Rattle.urlpattern_components.specs.declared.eight.ComponentName.{ComponentName}
 use Rattle.urlpattern_engine.specs.PatternRegexps.{pattern_result}
 use Rattle.urlpattern_engine.specs.declared.pattern_regexp.PatternRegexp.{PatternRegexp}
-use Rattle.urlpattern_ffi.specs.GroupSpans.{AreSpansWritten, NumberedGroup, numbered_groups}
+use Rattle.urlpattern_ffi.specs.GroupSpans.{AreSpansWritten, ExceedSizes, NumberedGroup, no_sizes, numbered_groups}
 use Rattle.urlpattern_ffi.specs.KeptPatterns.{PatternList}
 use Rattle.urlpattern_ffi.specs.declared.spans.GroupSpan.{GroupSpan}
 use Rattle.urlpattern_ffi.specs.declared.spans.Sizes.{Sizes}
 use Rattle.urlpattern_ffi.specs.declared.status.Status.{Status}
 use Rattle.urlpattern_ffi.specs.declared.status.Status.TheVariants as statuses
 use Rattle.urlpattern_matches.specs.ResultViews.{ResultView}
-use Rattle.urlpattern_pattern.specs.Match.{AreGroupsInOrder, DoesNotMatch}
+use Rattle.urlpattern_pattern.specs.Match.{AreGroupsInOrder, CallsAnEngine, DoesNotMatch}
 use Rattle.urlpattern_pattern.specs.UrlPatterns.{UrlPattern}
 
 -- ---- a pattern
@@ -28,7 +28,7 @@ pub record AreGroupsOfTexts (pattern : PatternView PatternRegexp) (texts : Texts
 
 -- The outcome of writing the groups of the pattern's match of the texts. `Done`, `TooSmall`: there
 -- is a match, as in `AreSpansWritten`. `NoMatch`: there is none, and the buffers are unchanged.
--- `OutOfMemory` says nothing.
+-- `OutOfMemory`: an engine is called, or the groups need more room than a size can say.
 abbrev pub AreTextCaptures : PatternView PatternRegexp → Texts → (old new : List ℕ)
     → (old_spans new_spans : List GroupSpan) → (needed : Sizes) → Status → Type 0
 AreTextCaptures pattern texts old new old_spans new_spans needed statuses.Done =
@@ -39,7 +39,10 @@ AreTextCaptures pattern texts old new old_spans new_spans needed statuses.TooSma
     × AreSpansWritten groups old new old_spans new_spans needed statuses.TooSmall
 AreTextCaptures pattern texts old new old_spans new_spans needed statuses.NoMatch =
     DoesNotMatch pattern_result pattern texts × (new ≡ old) × (new_spans ≡ old_spans)
-AreTextCaptures pattern texts old new old_spans new_spans needed statuses.OutOfMemory = Unit {0}
+AreTextCaptures pattern texts old new old_spans new_spans needed statuses.OutOfMemory =
+    CallsAnEngine pattern_result pattern texts
+    ⊎ ((groups : List NumberedGroup) × AreGroupsOfTexts pattern texts groups
+    × ExceedSizes no_sizes groups)
 AreTextCaptures pattern texts old new old_spans new_spans needed status = ⊥
 
 -- ---- a list
@@ -59,7 +62,8 @@ pub record AreFirstGroupsOfTexts (patterns : PatternList) (texts : Texts) (index
 
 -- The outcome of writing the index and the groups of the first match of the texts. `Done`,
 -- `TooSmall`: `new_index` is the index, and the groups are as in `AreSpansWritten`. `NoMatch`: no
--- pattern matches, and index and buffers are unchanged. `OutOfMemory` says nothing.
+-- pattern matches, and index and buffers are unchanged. `OutOfMemory`: an engine is called before
+-- any pattern matches, or the groups need more room than a size can say.
 abbrev pub AreFirstTextCaptures : PatternList → Texts → (old_index new_index : ℕ)
     → (old new : List ℕ) → (old_spans new_spans : List GroupSpan) → (needed : Sizes) → Status
     → Type 0
@@ -76,7 +80,10 @@ AreFirstTextCaptures patterns texts old_index new_index old new old_spans new_sp
     IsFirstMatchOf pattern_result (patterns_view patterns) texts None
     × (new_index ≡ old_index) × (new ≡ old) × (new_spans ≡ old_spans)
 AreFirstTextCaptures patterns texts old_index new_index old new old_spans new_spans needed
-    statuses.OutOfMemory = Unit {0}
+    statuses.OutOfMemory =
+    CallsEngineBeforeMatch pattern_result (patterns_view patterns) texts
+    ⊎ ((groups : List NumberedGroup) × AreFirstGroupsOfTexts patterns texts new_index groups
+    × ExceedSizes no_sizes groups)
 AreFirstTextCaptures patterns texts old_index new_index old new old_spans new_spans needed status =
     ⊥
 

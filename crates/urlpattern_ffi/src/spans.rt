@@ -1,7 +1,7 @@
 //! Writes the captures of a match and their spans to memory that C owns.
-ghost use Rattle.std.specs.Prelude.{◌≡◌, ◌+◌, [], ◌∷◌, length, encode_utf8_all, if◌then◌else◌, is_some, IfSome};
+ghost use Rattle.std.specs.Prelude.{◌≡◌, ◌+◌, ◌≤◌, ◌^◌, [], ◌∷◌, length, encode_utf8_all, if◌then◌else◌, is_some, IfNone, IfSome};
 ghost use Rattle.std.specs.Str.{chars};
-ghost use Rattle.urlpattern_ffi.specs.GroupSpans.{capture_bytes, found_groups, no_sizes, numbered, AreWrittenAt, AreSpansWritten, IsGroupWrittenAt, IsWrittenAt};
+ghost use Rattle.urlpattern_ffi.specs.GroupSpans.{capture_bytes, found_groups, no_sizes, numbered, AreWrittenAt, AreSpansWritten, ExceedSizes, IsGroupWrittenAt, IsWrittenAt};
 ghost use Rattle.urlpattern_matches.specs.BorrowedMatches.{groups_left};
 ghost use Rattle.urlpattern_syntax.specs.Text.{option_text};
 
@@ -68,9 +68,10 @@ fn put_all(
     buffer: &mut [u8],
     spans: &mut [GroupSpan],
 ) -> Option<Sizes>
-    ensures { IfSome result (λ to.
+    ensures written { IfSome result (λ to.
         AreWrittenAt (found_groups found.now) no_sizes to buffer.old buffer.new spans.old
         spans.new) }
+    ensures large { IfNone result (ExceedSizes no_sizes (found_groups found.now)) }
 {
     let mut sizes = Sizes { bytes: 0, spans: 0 };
     for name in ComponentName::all() {
@@ -90,9 +91,11 @@ fn put_groups(
     buffer: &mut [u8],
     spans: &mut [GroupSpan],
 ) -> Option<Sizes>
-    ensures { IfSome result (λ to.
+    ensures written { IfSome result (λ to.
         AreWrittenAt (numbered component 0 (groups_left groups.entry)) from to buffer.old buffer.new
         spans.old spans.new) }
+    ensures large { IfNone result
+        (ExceedSizes from (numbered component 0 (groups_left groups.entry))) }
 {
     let mut sizes = from;
     for (_, capture) in groups {
@@ -107,6 +110,7 @@ fn put_groups(
 /// sizes added.
 ///
 /// `None`: a size exceeds `usize`.
+#[tactic(auto, using(crate::proofs::SpanLemmas::bytes_exceed, crate::proofs::SpanLemmas::spans_exceed))]
 fn put_group(
     component: ComponentName,
     group: usize,
@@ -115,9 +119,11 @@ fn put_group(
     buffer: &mut [u8],
     spans: &mut [GroupSpan],
 ) -> Option<Sizes>
-    ensures { IfSome result (λ to.
+    ensures written { IfSome result (λ to.
         IsGroupWrittenAt component group (option_text capture.entry) from to buffer.old buffer.new
         spans.old spans.new) }
+    ensures large { IfNone result
+        (ExceedSizes from ((component, group, option_text capture.entry) ∷ [])) }
 {
     let text = capture_bytes(capture);
     let bytes = put_text(text, from.bytes, buffer)?;
@@ -137,6 +143,7 @@ fn put_group(
 fn put_text(text: &[u8], at: usize, buffer: &mut [u8]) -> Option<usize>
     ensures end { IfSome result (λ end. end ≡ at + length text.now) }
     ensures text { IfSome result (λ _. IsWrittenAt at text.now buffer.old buffer.new) }
+    ensures large { IfNone result (2 ^ 64 ≤ at + length text.now) }
 {
     let end = at.checked_add(text.len())?;
     if at == end {
@@ -153,6 +160,7 @@ fn put_text(text: &[u8], at: usize, buffer: &mut [u8]) -> Option<usize>
 fn put_span(span: GroupSpan, at: usize, spans: &mut [GroupSpan]) -> Option<usize>
     ensures end { IfSome result (λ end. end ≡ at + 1) }
     ensures span { IfSome result (λ _. IsWrittenAt at (span ∷ []) spans.old spans.new) }
+    ensures large { IfNone result (2 ^ 64 ≤ at + 1) }
 {
     let end = at.checked_add(1)?;
     if end <= spans.len() {

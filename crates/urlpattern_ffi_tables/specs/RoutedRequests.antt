@@ -11,7 +11,7 @@ use Rattle.urlpattern_components.specs.Eight.{Texts}
 use Rattle.urlpattern_engine.specs.PatternRegexps.{pattern_result}
 use Rattle.urlpattern_engine.specs.declared.pattern_regexp.PatternRegexp.{PatternRegexp}
 use Rattle.urlpattern_ffi.specs.Calls.{IsUrlUnderBase}
-use Rattle.urlpattern_ffi.specs.GroupSpans.{AreSpansWritten, NumberedGroup, found_groups}
+use Rattle.urlpattern_ffi.specs.GroupSpans.{AreSpansWritten, ExceedSizes, NumberedGroup, found_groups, no_sizes}
 use Rattle.urlpattern_ffi.specs.declared.spans.GroupSpan.{GroupSpan}
 use Rattle.urlpattern_ffi.specs.declared.spans.Sizes.{Sizes}
 use Rattle.urlpattern_ffi.specs.declared.status.Status.{Status}
@@ -42,7 +42,8 @@ abbrev pub MayRunOut : Router → (method : List ℕ) → Texts → Type 0
 MayRunOut router method texts =
     CallsEngineOfRequest pattern_result router method texts
     ⊎ ((index : ℕ) × (groups : List NumberedGroup)
-    × AreGroupsOfRoute router method texts index groups)
+    × AreGroupsOfRoute router method texts index groups
+    × ExceedSizes no_sizes groups)
 
 -- The outcome of writing the index and the groups of the route that serves a request with this
 -- method and these texts. `Done`, `TooSmall`: `new_index` is the index, and the groups are as in

@@ -1,8 +1,8 @@
 -- Values of groups that are percent-encoded, and those that are changed.
-use Rattle.std.proofs.Common.{◌≡◌, ◌<◌, ◌||◌, ℕ, zero, suc, Bool, true, false, List, [], ◌∷◌, String, ap, arith, bytes_eq, get_or, length, map, refl, sym}
+use Rattle.std.proofs.Common.{◌≡◌, ◌∙◌, ◌<◌, ◌+◌, ◌++◌, ℕ, Bool, true, false, List, [], ◌∷◌, String, add-one, ap, drop, get_or, length, map, refl, sym, take}
+use Rattle.std.proofs.Math.Seq.{drop-cons}
 use Rattle.std.proofs.lemmas.Bool.{false≢true}
-use Rattle.std.proofs.lemmas.Slice.Eq.{bytes_eq-Decides}
-use Rattle.std.specs.List.{list_any}
+use Rattle.std.proofs.lemmas.List.{map-append, take-append-drop}
 use Rattle.std.specs.Prelude.{MatchBool}
 use Rattle.std.specs.declared.alloc.Global.{Global}
 use Rattle.urlpattern_generate.proofs.GivenLemmas.{Group}
@@ -34,12 +34,13 @@ pub second_if : (is : Bool) (First Second : Type 0) → is ≡ false → MatchBo
 second_if true First Second e told = absurd (false≢true (sym e))
 second_if false First Second e told = told
 
-or_later : (own later : Bool) → later ≡ true → (own || later) ≡ true
-or_later true later e = refl
-or_later false later e = e
+-- The texts of names, cut at one of them.
+abbrev pub texts_of : List (String Global) → List (List ℕ)
+texts_of names = map (λ own. text_of own) names
 
--- A name is among the names.
-pub is_among_names : (name : List ℕ) (names : List (String Global)) (i : ℕ) (other : String Global) → i < length names → name ≡ text_of (get_or names i other) → list_any (bytes_eq name) (map (λ own. text_of own) names) ≡ true
-is_among_names name [] i other within same = absurd (omega arith)
-is_among_names name (own ∷ names) zero other within same = ap (λ is. is || list_any (bytes_eq name) (map (λ of. text_of of) names)) ((bytes_eq-Decides name (text_of own)).1 same)
-is_among_names name (own ∷ names) (suc i) other within same = or_later (bytes_eq name (text_of own)) _ (is_among_names name names i other (omega arith) same)
+pub names_cut : (name : List ℕ) (names : List (String Global)) (i : ℕ) (other : String Global) → i < length names → name ≡ text_of (get_or names i other) →
+    texts_of names ≡ texts_of (take i names) ++ name ∷ texts_of (drop (i + 1) names)
+names_cut name names i other within same =
+    ap texts_of (sym (take-append-drop i names)) ∙ map-append (λ own. text_of own) (take i names) (drop i names)
+    ∙ ap (λ rest. texts_of (take i names) ++ texts_of rest) (drop-cons names i other within ∙ ap (λ n. get_or names i other ∷ drop n names) (sym (add-one i)))
+    ∙ ap (λ own. texts_of (take i names) ++ own ∷ texts_of (drop (i + 1) names)) (sym same)

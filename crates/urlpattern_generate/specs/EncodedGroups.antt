@@ -1,7 +1,7 @@
 -- Values of groups that are percent-encoded before a text is written with them, and whether what
 -- is written still decodes to them.
-use Rattle.std.specs.Prelude.{◌≡◌, ◌≢◌, All, ℕ, IsTrue, List, None, Option, Some, bytes_eq, map, Ok}
-use Rattle.std.specs.{Borrow.Bor, List.list_any, Str.chars}
+use Rattle.std.specs.Prelude.{◌≡◌, ◌≢◌, ◌++◌, ◌∷◌, All, ℕ, List, None, Option, Some, map, Ok}
+use Rattle.std.specs.{Borrow.Bor, Str.chars}
 use Rattle.std.specs.declared.alloc.Global.{Global}
 use Rattle.std.specs.declared.borrow.CowStr.{CowStr}
 use Rattle.urlpattern_components.specs.declared.eight.ComponentName.{ComponentName}
@@ -60,9 +60,11 @@ abbrev pub ChangesValue : WriteSettings → (name : List ℕ) → Type 0
 ChangesValue settings name =
     (text : List ℕ) × (settings.given name ≡ Some text) × ChangesText settings text
 
--- The name is one of `names`, and the group of this name has a value that is changed. None: no
--- value of the groups `names` is changed.
+-- The name is the first of `names` whose group has a value that is changed. None: no value of the
+-- groups `names` is changed.
 abbrev pub IsChanged : WriteSettings → (names : List (List ℕ)) → Option (List ℕ) → Type 0
 IsChanged settings names None = All (KeepsValue settings) names
 IsChanged settings names (Some name) =
-    IsTrue (list_any (bytes_eq name) names) × ChangesValue settings name
+    (before after : List (List ℕ)) × (names ≡ before ++ name ∷ after)
+    × All (KeepsValue settings) before
+    × ChangesValue settings name

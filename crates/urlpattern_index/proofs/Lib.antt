@@ -2,3 +2,4 @@ pub mod IndexGroupLemmas
 pub mod KnownLemmas
 pub mod NumberLemmas
 pub mod PathSegmentLemmas
+pub mod PlainLemmas

@@ -3,4 +3,5 @@ pub mod Keys
 pub mod Known
 pub mod Listed
 pub mod Paths
+pub mod PlainPaths
 pub mod Segments

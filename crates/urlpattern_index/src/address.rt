@@ -1,7 +1,8 @@
 //! The hashes of an address.
-ghost use Rattle.std.specs.Prelude.{◌≡◌, [], chars, take};
+ghost use Rattle.std.specs.Prelude.{◌≡◌, ◌≢◌, [], IsTrue, chars, take};
 ghost use Rattle.urlpattern_index.specs.FixedTexts.{address_texts};
 ghost use Rattle.urlpattern_index.specs.Keys.{hashes_of, hashes_view, segment_hashes};
+ghost use Rattle.urlpattern_index.specs.PlainPaths.{IsPlain, is_plain, path_alone};
 
 use crate::fixed::Address;
 use crate::hashes::{mixed, text_hash};
@@ -40,6 +41,71 @@ impl AddressHashes {
         self.segments.clear();
         push_segments(&mut self.segments, address.pathname);
     }
+
+    /// Replaces the hashes by those of a path alone, if true: each character of the path is then
+    /// ASCII, and none of `?`, `#` and line feed. False for any other path, and for one that has
+    /// more segments than are hashed. Does not allocate.
+    #[inline(always)]
+    pub fn fill_path(&mut self, path: &str) -> bool
+        ensures plain { IsTrue result → IsPlain (chars path.now) }
+        ensures hashes { IsTrue result
+            → hashes_view self.new ≡ hashes_of (path_alone (chars path.now)) }
+    {
+        self.protocol = text_hash("");
+        self.hostname = text_hash("");
+        self.segments.clear();
+        push_plain_segments(&mut self.segments, path.as_bytes())
+    }
+}
+
+/// Appends the hashes of the segments of a path to an empty list, if true: each byte of the path is
+/// then ASCII, and none of `?`, `#` and line feed.
+fn push_plain_segments(hashes: &mut ArrayVec<u64, SEGMENTS>, path: &[u8]) -> bool
+    requires { hashes.old.items ≡ [] }
+    ensures plain { IsTrue result → IsPlain path.now }
+    ensures hashes { IsTrue result → hashes.new.items ≡ take 13 (segment_hashes 0 path.now) }
+{
+    let mut hash = 0;
+    for byte in path {
+        if is_above_marks(*byte) {
+            hash = mixed(hash, u64::from(*byte));
+            continue;
+        }
+        if !is_plain(*byte) {
+            return false;
+        }
+        if *byte != b'/' {
+            hash = mixed(hash, u64::from(*byte));
+            continue;
+        }
+        hashes.push(hash);
+        hash = 0;
+        if hashes.is_full() {
+            return false;
+        }
+    }
+    hashes.push(hash);
+    true
+}
+
+/// Whether a byte is ASCII and above `?`, as letters are.
+#[inline(always)]
+fn is_above_marks(byte: u8) -> bool
+    ensures plain { IsTrue result → IsTrue (is_plain byte) }
+    ensures no_slash { IsTrue result → byte ≢ 47 }
+{
+    byte > b'?' && byte < 128
+}
+
+/// Whether a byte is ASCII, and none of `?`, `#` and line feed.
+#[inline(always)]
+fn is_plain(byte: u8) -> bool
+    ensures { result ≡ is_plain byte }
+{
+    if byte > b'?' {
+        return byte < 128;
+    }
+    byte != b'\n' && byte != b'?' && byte != b'#'
 }
 
 /// Appends the hashes of the first 13 segments of a path, or of all if there are fewer, to an empty

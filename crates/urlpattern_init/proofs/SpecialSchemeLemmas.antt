@@ -159,6 +159,7 @@ known_from engine strong h options e known is =
       options_are = at_default.options_are;
       reads = reads_weaker strong protocol_encoding h (chars known.0.now) default_options (kept_parts known.1.kept) at_default.reads;
       is_made = at_default.is_made;
+      case = at_default.case;
     }
 
 pub known_special : {E : Type 0} (engine : Engine E) (known : Bor (List ℕ) × ComponentWithParts E) (special : Bool) → IsKnownProtocol engine known

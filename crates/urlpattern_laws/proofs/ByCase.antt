@@ -60,7 +60,7 @@ module _ {E : Type 0} (engine : Engine E) (by_flags : ValuesReturnByFlags engine
       ∙ ap (λ (b : Bool). first_way_by b tree t) (flags_agree options)
       ∙ sym (first_of_tree options.ignore_case options made.middle tree t plain (is_tree_of options made.middle plain))
 
-  generated_first : AcceptedText (λ value. ⊤) matcher.inner → IsFirst
+  pub generated_first : AcceptedText (λ value. ⊤) matcher.inner → IsFirst
   generated_first took = by matcher.inner refl took
     where
       without : IsFast matcher.inner → IsFirst

@@ -1,28 +1,35 @@
 -- Patterns over engines that return first ways match by their texts, and what their parts mean.
-use Rattle.std.specs.Prelude.{false}
+use Rattle.std.proofs.Common.{◌≡◌, Bool, true, false, refl}
 use Rattle.urlpattern_matcher.proofs.FirstMatchers.{flags_agree}
 use Rattle.urlpattern_matcher.specs.Regexes.{regex_engine}
 use Rattle.urlpattern_matcher.specs.declared.regexp.RegExp.{Ghosts as Engine}
 use Rattle.urlpattern_engine.proofs.EngineLaws as own
 use Rattle.urlpattern_engine.specs.PatternRegexps.{pattern_engine}
 use Rattle.urlpattern_pattern.specs.ByText.{AcceptedAlone, MakesFirstWays}
-use Rattle.urlpattern_laws.proofs.MatchingLemmas.{own_parts_mean}
+use Rattle.urlpattern_laws.proofs.MatchingLemmas.{all_parts_mean, keeping_parts_mean, own_parts_mean}
 use Rattle.urlpattern_compile.specs.Compiled.{settings_of}
 use Rattle.urlpattern_matcher.specs.Components.{IsEngineOf, engine_flags}
 use Rattle.urlpattern_pattern.proofs.ByTextLemmas.{component_by, pattern_by}
 use Rattle.urlpattern_pattern.specs.ByTextLaws.{PatternsReturnByText}
 use Rattle.urlpattern_laws.proofs.SimpleMatchers.{generated_first, matcher_of_middle}
-use Rattle.urlpattern_laws.specs.PartReadings.{OwnPartsMean}
+use Rattle.urlpattern_laws.specs.PartReadings.{DoesHonourCase, OwnPartsMean, OwnPartsMeanWithCase}
 use Rattle.urlpattern_engine.proofs.RegexMatchers as regex
 
-pub parts_mean_by_first_ways : {E : Type 0} (engine : Engine E) → MakesFirstWays engine → OwnPartsMean engine
+pub parts_mean_by_first_ways : {E : Type 0} (engine : Engine E) → MakesFirstWays engine → OwnPartsMeanWithCase engine
 parts_mean_by_first_ways engine firsts = own_parts_mean engine AcceptedAlone (generated_first engine firsts) (λ options inner took. (flags_agree options, took))
 
+pub parts_mean_by_flags : {E : Type 0} (engine : Engine E) → MakesFirstWays engine → DoesHonourCase engine → OwnPartsMean engine
+parts_mean_by_flags engine firsts honours = by engine.case_honoured refl
+  where
+    by : (honoured : Bool) → engine.case_honoured ≡ honoured → OwnPartsMean engine
+    by true e = all_parts_mean engine AcceptedAlone (generated_first engine firsts) (honours e) (λ options inner took. (flags_agree options, took))
+    by false e = keeping_parts_mean engine AcceptedAlone (generated_first engine firsts) e (λ options inner took. (flags_agree options, took))
+
 pub pattern_parts_mean : OwnPartsMean pattern_engine
-pattern_parts_mean = own_parts_mean pattern_engine _ own.taken_first (λ options inner took. flags_agree options)
+pattern_parts_mean = all_parts_mean pattern_engine _ own.taken_first own.values_by_flags (λ options inner took. flags_agree options)
 
 pub regex_parts_mean : OwnPartsMean regex_engine
-regex_parts_mean = own_parts_mean regex_engine _ regex.taken_first (λ options inner took. took)
+regex_parts_mean = keeping_parts_mean regex_engine _ regex.taken_first refl (λ options inner took. took)
 
 -- The values of the engine that are called return first ways.
 pub pattern_by_engines : {E : Type 0} (engine : Engine E) → PatternsReturnByText engine

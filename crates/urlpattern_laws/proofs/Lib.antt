@@ -6,6 +6,7 @@ pub mod CanonicalAgain
 pub mod InputTexts
 pub mod CustomByCase
 pub mod ByCase
+pub mod FoldedMeaning
 pub mod EcmaMatchers
 pub mod RegexGroups
 pub mod RequestedCaptures

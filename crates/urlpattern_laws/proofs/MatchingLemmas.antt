@@ -1,21 +1,25 @@
 -- The texts that patterns match, by their parts.
-use Rattle.std.proofs.Common.{◌≡◌, ◌⊎◌, ℕ, List, inl, inr, sym, subst}
+use Rattle.std.proofs.Common.{◌≡◌, ◌∙◌, ◌↔◌, ◌⊎◌, ℕ, Bool, true, false, List, inl, inr, refl, sym, subst}
+use Rattle.std.proofs.lemmas.Bool.{false≢true}
 use Rattle.std.proofs.lemmas.Str.{scalars-chars, IsUtf8-string_bytes}
-use Rattle.std.specs.Prelude.{⊤, IsSomeAnd, MatchOption, Option, Some, None, String, string_bytes}
+use Rattle.std.specs.Prelude.{⊤, ◌&&◌, not, IsSomeAnd, MatchOption, Option, Some, None, String, string_bytes}
 use Rattle.std.specs.declared.alloc.Global.{Global}
 use Rattle.urlpattern_compare.specs.MeantTexts.{MeansText}
-use Rattle.urlpattern_matcher.specs.Components.{engine_flags}
-use Rattle.urlpattern_matcher.specs.FirstWays.{EachReturnsFirst, Acceptance}
+use Rattle.urlpattern_matcher.specs.Components.{IsEngineOf, engine_flags, honours_case}
+use Rattle.urlpattern_matcher.specs.FirstWays.{Acceptance, EachReturnsFirst, IsAcceptedBy, ValuesReturnByFlags}
 use Rattle.urlpattern_matcher.specs.declared.regexp.RegExp.{Ghosts as Engine}
 use Rattle.urlpattern_init.specs.UrlTexts.{EachIsLine, IsLine}
 use Rattle.urlpattern_meaning.specs.FirstResults.{AcceptedText}
-use Rattle.urlpattern_meaning.specs.Matching.{Agrees, Returns, InnerView, IsMatched, MatcherView}
-use Rattle.urlpattern_meaning.specs.PartMeaning.{Captures}
+use Rattle.urlpattern_meaning.specs.Matching.{Agrees, InnerView, IsMadeOf, IsMatched, Literal, MatcherView, RegExp, Returns, SingleCapture}
+use Rattle.urlpattern_meaning.specs.PartMeaning.{AreGenerated, Captures, PartsMean}
 use Rattle.urlpattern_pattern.proofs.MatchersDecide.{answered}
 use Rattle.urlpattern_pattern.specs.{Match.AreMatched, Patterns.PatternView, UrlPatterns.AreMadeOfParts}
-use Rattle.urlpattern_laws.specs.PartReadings.{ApartMatchNothing, AreItsParts, CommonAreMatched, CoveredAreMatched, CoveredByEngineAreMatched, CoveredByMeaningAreMatched, IsCoveredByMeaning, KnownAreCoveredByMeaning, OwnPartsMean, PartingsAreMatched, SameAreMatched}
+use Rattle.urlpattern_laws.specs.PartReadings.{ApartMatchNothing, AreItsParts, CommonAreMatched, CoveredAreMatched, CoveredByEngineAreMatched, CoveredByMeaningAreMatched, IsCoveredByMeaning, KnownAreCoveredByMeaning, OwnPartsMean, OwnPartsMeanWithCase, PartingsAreMatched, SameAreMatched}
+use Rattle.urlpattern_compare.proofs.KeptCase.{kept_means}
+use Rattle.urlpattern_laws.proofs.FoldedMeaning.{fast_matches, ignored_matches, made_case}
+use Rattle.urlpattern_meaning.proofs.MatchingLaws.{IsFast}
 use Rattle.urlpattern_compare.proofs.SameParts.{known_or_not, same_flips, same_within}
-use Rattle.urlpattern_compare.specs.Comparing.{AreSame, IsCommonText, IsComponentCovered, IsExampleText, IsKnown, IsMeantBy, IsOnlyIn, MatchesNoLine}
+use Rattle.urlpattern_compare.specs.Comparing.{AreSame, IsCommonText, IsComponentCovered, IsExampleText, IsKnown, IsMeantBy, IsOnlyIn, MatchesNoLine, MeansIn}
 use Rattle.urlpattern_syntax.specs.declared.parts.ComponentParts.{ComponentParts}
 use Rattle.urlpattern_compare.specs.declared.pattern_parts.PatternParts.{PatternParts}
 use Rattle.urlpattern_components.specs.declared.eight.ComponentName.{ComponentName}
@@ -28,33 +32,91 @@ use Rattle.urlpattern_syntax.specs.Text.{text_of}
 
 -- A result that agrees with the parts says whether they mean the text.
 pub by_answer : {E : Type 0} (answer : E → List ℕ → Option Captures) (matcher : MatcherView E) (options : OptionsView) (parts : List PartView) (text : List ℕ) (found : Option Captures) →
-    Returns answer matcher text found → Agrees options parts text found → MeansText options parts text → IsMatched answer matcher text
+    Returns answer matcher text found → Agrees options parts text found → ((captures : Captures) × PartsMean options parts text captures) → IsMatched answer matcher text
 by_answer answer matcher options parts text (Some captures) answers agrees means = (captures, answers)
 by_answer answer matcher options parts text None answers agrees means = absurd (agrees means.0 means.1)
 
 -- ---- a whole pattern
 
--- A pattern made of its parts matches what they mean, if the engine returns first ways.
+-- Where case is kept, a matcher of parts matches what they mean, if the engine returns first ways.
+pub kept_matches : {E : Type 0} (engine : Engine E) (Accepted : Acceptance E) → EachReturnsFirst engine Accepted → (options : OptionsView) (parts : List PartView) (matcher : MatcherView E) →
+    IsAcceptedBy engine Accepted options (engine_flags options) parts matcher → (text : List ℕ) → IsLine text → IsMatched engine.answer matcher text ↔ MeansText options parts text
+kept_matches engine Accepted firsts options parts matcher accepted text line =
+    let answers = firsts options (engine_flags options) parts matcher accepted in
+    let agrees : (found : Option Captures) → Returns engine.answer matcher text found → Agrees options parts text found =
+    λ found is_answer. (answers text found line.no_line_feed line.characters is_answer).1 in
+    let whole = answered engine.answer matcher text in
+    let kept = kept_means options parts text accepted.case_kept in (
+      λ matched. kept.1 (matched.0, agrees (Some matched.0) matched.1),
+      λ means. by_answer engine.answer matcher options parts text whole.0 whole.1 (agrees whole.0 whole.1) (kept.0 means),
+    )
+
+-- A pattern made of parts that keep case matches what they mean, if the engine returns first ways.
 pub own_parts_mean : {E : Type 0} (engine : Engine E) (Accepted : Acceptance E) → EachReturnsFirst engine Accepted →
-    ((options : OptionsView) (inner : InnerView E) → AcceptedText (λ value. ⊤) inner → Accepted options (engine_flags options) inner) → OwnPartsMean engine
-own_parts_mean engine Accepted firsts taken pattern parts made name known text line =
+    ((options : OptionsView) (inner : InnerView E) → AcceptedText (λ value. ⊤) inner → Accepted options (engine_flags options) inner) → OwnPartsMeanWithCase engine
+own_parts_mean engine Accepted firsts taken pattern parts made keep name known text line =
     let kept = at parts.components name in
     let options = options_view kept.options in
-    let own = parts_view kept.parts.items in
     let matcher = (pattern name).matcher in
     let is = made name in
-    let answers = firsts options (engine_flags options) own matcher (record {
+    kept_matches engine Accepted firsts options (parts_view kept.parts.items) matcher (record {
       is_made = is.is_component.has_matcher;
       generated = known.generated;
-      case_kept = known.case_kept;
+      case_kept = sym (made_case (IsEngineOf engine false (engine_flags options)) options (parts_view kept.parts.items) matcher is.is_component.has_matcher) ∙ keep name;
       took = taken options matcher.inner is.has_engine.of_matcher;
-    }) in
-    let agrees : (found : Option Captures) → Returns engine.answer matcher text found → Agrees options own text found =
-    λ found is_answer. (answers text found line.no_line_feed line.characters is_answer).1 in
-    let whole = answered engine.answer matcher text in (
-      λ matched. (matched.0, agrees (Some matched.0) matched.1),
-      λ means. by_answer engine.answer matcher options own text whole.0 whole.1 (agrees whole.0 whole.1) means,
-    )
+    }) text line
+
+-- Where case is ignored, the matchers that honour case match what their parts mean.
+abbrev IgnoredMatch : {E : Type 0} → Engine E → Type 0
+IgnoredMatch {E} engine =
+    (options : OptionsView) (parts : List PartView) (matcher : MatcherView E) → IsMadeOf (IsEngineOf engine false (engine_flags options)) options parts matcher →
+    AcceptedText (λ value. ⊤) matcher.inner → honours_case engine matcher.inner ≡ true → AreGenerated parts → options.ignore_case ≡ true →
+    (text : List ℕ) → IsLine text → IsMatched engine.answer matcher text ↔ MeansText options parts text
+
+-- What does not miss case honours it, where case is ignored.
+honoured_if : (ignored honours : Bool) → ignored ≡ true → (ignored && not honours) ≡ false → honours ≡ true
+honoured_if true true e f = refl
+honoured_if true false e f = sym f
+honoured_if false honours e f = absurd (false≢true e)
+
+-- A pattern made of parts matches what they mean, if the engine returns first ways where case is
+-- kept.
+any_parts_mean : {E : Type 0} (engine : Engine E) (Accepted : Acceptance E) → EachReturnsFirst engine Accepted → IgnoredMatch engine →
+    ((options : OptionsView) (inner : InnerView E) → AcceptedText (λ value. ⊤) inner → Accepted options (engine_flags options) inner) → OwnPartsMean engine
+any_parts_mean engine Accepted firsts match_ignored taken pattern parts made name known text line = by (at parts.components name).options.ignore_case refl
+  where
+    by : (ignores : Bool) → (at parts.components name).options.ignore_case ≡ ignores → IsMatched engine.answer (pattern name).matcher text ↔ MeansIn (at parts.components name) text
+    by false kept =
+        let component = at parts.components name in
+        kept_matches engine Accepted firsts (options_view component.options) (parts_view component.parts.items) (pattern name).matcher (record {
+          is_made = (made name).is_component.has_matcher;
+          generated = known.generated;
+          case_kept = kept;
+          took = taken (options_view component.options) (pattern name).matcher.inner (made name).has_engine.of_matcher;
+        }) text line
+    by true ignored =
+        let component = at parts.components name in
+        match_ignored (options_view component.options) (parts_view component.parts.items) (pattern name).matcher (made name).is_component.has_matcher
+        (made name).has_engine.of_matcher (sym (made name).case ∙ honoured_if component.options.ignore_case component.honours_case ignored known.case) known.generated ignored text line
+
+-- A pattern over an engine that honours the flag `i` matches what its parts mean.
+pub all_parts_mean : {E : Type 0} (engine : Engine E) (Accepted : Acceptance E) → EachReturnsFirst engine Accepted → ValuesReturnByFlags engine →
+    ((options : OptionsView) (inner : InnerView E) → AcceptedText (λ value. ⊤) inner → Accepted options (engine_flags options) inner) → OwnPartsMean engine
+all_parts_mean engine Accepted firsts by_flags taken =
+    any_parts_mean engine Accepted firsts (λ options parts matcher made took honours. ignored_matches engine by_flags options parts matcher made took) taken
+
+-- A matcher that honours case over an engine that does not needs no engine.
+fast_if : {E : Type 0} (engine : Engine E) (inner : InnerView E) → engine.case_honoured ≡ false → honours_case engine inner ≡ true → IsFast inner
+fast_if engine (Literal literal) keeps honours = tt
+fast_if engine (SingleCapture filter allow_empty) keeps honours = tt
+fast_if engine (RegExp regexp) keeps honours = absurd (false≢true (sym keeps ∙ honours))
+
+-- A pattern over an engine that does not honour the flag `i` matches what its parts mean, as far as
+-- they tell.
+pub keeping_parts_mean : {E : Type 0} (engine : Engine E) (Accepted : Acceptance E) → EachReturnsFirst engine Accepted → engine.case_honoured ≡ false →
+    ((options : OptionsView) (inner : InnerView E) → AcceptedText (λ value. ⊤) inner → Accepted options (engine_flags options) inner) → OwnPartsMean engine
+keeping_parts_mean engine Accepted firsts keeps taken =
+    any_parts_mean engine Accepted firsts (λ options parts matcher made took honours. fast_matches engine options parts matcher made (fast_if engine matcher.inner keeps honours)) taken
 
 -- ---- laws
 

@@ -1,6 +1,6 @@
 -- Statements of the laws of links of a match: the groups of the match, and the texts of the link.
 -- `answer` is what a value of an engine returns for a text.
-use Rattle.std.specs.Prelude.{◌≡◌, ◌≢◌, ℕ, AllPairs, List, Option, Some, map}
+use Rattle.std.specs.Prelude.{◌≡◌, ◌≢◌, ℕ, false, AllPairs, List, Option, Some, map}
 use Rattle.std.specs.{Borrow.Bor, Map.keys_of}
 use Rattle.url.specs.{Parser.Parsed, Parts.Parts}
 use Rattle.urlpattern_matcher.specs.Components.{ComponentView}
@@ -28,7 +28,7 @@ use Rattle.urlpattern_pattern.specs.Patterns.{PatternView, pattern_view}
 use Rattle.urlpattern_pattern.specs.UrlPatterns.{UrlPattern}
 use Rattle.urlpattern_components.specs.declared.eight.ComponentName.{ComponentName}
 use Rattle.urlpattern_components.specs.Eight.{Texts, Values, at, components}
-use Rattle.urlpattern_syntax.specs.{ComponentParts.kept_parts, Parts.PartView, RegexpText.group_names}
+use Rattle.urlpattern_syntax.specs.{ComponentParts.kept_options, ComponentParts.kept_parts, Parts.PartView, RegexpText.group_names}
 use Rattle.urlpattern_syntax.specs.declared.parts.ComponentParts.{ComponentParts}
 
 -- ---- the groups of a match
@@ -121,12 +121,13 @@ LinksOfMatchesAreTheTexts {E} answer =
 
 -- ---- links of compiled patterns
 
--- The premises for a component of a compiled pattern: the meaning of its parts is known, no fixed
--- text of them has a modifier, the text is a line, and each captured text is its own canonical
--- form.
+-- The premises for a component of a compiled pattern: the meaning of its parts is known, case is
+-- kept, no fixed text of them has a modifier, the text is a line, and each captured text is its own
+-- canonical form.
 pub record IsWritableFromParts (component : ComponentParts)
     (canonical : List ℕ → Parsed (List ℕ)) (text : List ℕ) (captures : Captures) : Type 0 where
   pub known : IsKnown component
+  pub case_kept : (kept_options component).ignore_case ≡ false
   pub plain : HavePlainTexts (kept_parts component)
   pub line : IsLine text
   pub are_canonical : AreCanonical canonical captures

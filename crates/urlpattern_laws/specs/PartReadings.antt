@@ -1,7 +1,8 @@
 -- The parts of a pattern, and what the pattern matches. `answer` is what a value of an engine
 -- returns for a text; a line is a text without line feeds.
-use Rattle.std.specs.Prelude.{◌≡◌, ◌↔◌, ◌⊎◌, ℕ, List, MatchOption, Option, String}
+use Rattle.std.specs.Prelude.{◌≡◌, ◌↔◌, ◌⊎◌, ℕ, true, false, List, MatchOption, Option, String}
 use Rattle.std.specs.declared.alloc.Global.{Global}
+use Rattle.urlpattern_matcher.specs.FirstWays.{ValuesReturnByFlags}
 use Rattle.urlpattern_matcher.specs.declared.regexp.RegExp.{Ghosts as Engine}
 use Rattle.urlpattern_init.specs.UrlTexts.{EachIsLine, IsLine}
 use Rattle.urlpattern_init.specs.declared.init.UrlPatternInit.{UrlPatternInit}
@@ -119,20 +120,38 @@ EqualAreMatched {E} engine =
     → IsMatchOf engine.answer other texts result
     → IsMatchOf engine.answer pattern texts result
 
+-- The pattern keeps case in each component.
+abbrev pub KeepsCase : {E : Type 0} → PatternView E → Type 0
+KeepsCase pattern = (name : ComponentName) → (pattern name).matcher.ignore_case ≡ false
+
 -- The parts that the engine made a pattern of say what the pattern matches, as `AreItsParts` says.
 abbrev pub OwnPartsMean : {E : Type 0} → Engine E → Type 0
 OwnPartsMean {E} engine =
     (pattern : PatternView E) (parts : PatternParts) → AreMadeOfParts engine parts pattern
     → AreItsParts engine.answer pattern parts
 
+-- The parts that the engine made a pattern of say what the pattern matches, as `AreItsParts` says,
+-- if it keeps case.
+abbrev pub OwnPartsMeanWithCase : {E : Type 0} → Engine E → Type 0
+OwnPartsMeanWithCase {E} engine =
+    (pattern : PatternView E) (parts : PatternParts) → AreMadeOfParts engine parts pattern
+    → KeepsCase pattern
+    → AreItsParts engine.answer pattern parts
+
+-- If the engine says that it honours the flag `i`, it does: the values that it makes of parts
+-- without custom ones return first ways by their flags.
+abbrev pub DoesHonourCase : {E : Type 0} → Engine E → Type 0
+DoesHonourCase engine = engine.case_honoured ≡ true → ValuesReturnByFlags engine
+
 -- The parts that a compiled pattern keeps say what the pattern matches, as `AreItsParts` says, if
--- it matches by its pattern texts.
+-- it matches by its pattern texts, and keeps case.
 abbrev pub KeptPartsMean : {E : Type 0} → Engine E → Type 0
 KeptPartsMean {E} engine =
     (init : UrlPatternInit) (asked : UrlPatternOptions) (pattern : UrlPattern E)
     → ReturnsByItsText engine.answer init asked (pattern_view pattern)
     →
     (kept : KeepsPartsOf engine init asked pattern)
+    → KeepsCase (pattern_view pattern)
     → AreItsParts engine.answer (pattern_view pattern) kept.parts
 
 -- If the engine made two patterns of parts, with or without custom regular expressions, and

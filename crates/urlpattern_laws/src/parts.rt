@@ -1,20 +1,21 @@
 //! Laws of patterns and their parts.
 //!
-//! Parts *mean* a text if they match it by the definition `PartsMean`, without an engine. Their
-//! meaning is *known* if no part is custom and case is kept.
+//! Parts *mean* a text if they match it by the definition `PartsMean`, without an engine; where
+//! case is ignored, ASCII letters of both are compared in lower case. Their meaning is *known* if
+//! no part is custom, and case is kept, or no engine is needed that does not honour the flag `i`,
+//! such as `regex::Regex`.
 //!
 //! Each function has an empty body; its contract is a theorem.
 
 ghost use Rattle.urlpattern_matcher.specs.Regexes.{regex_engine};
 ghost use Rattle.urlpattern_engine.specs.{GrammarReadings.ExpressionsReturnAlike, PatternRegexps.pattern_engine};
 ghost use Rattle.urlpattern_pattern.specs.ByText.{MakesFirstWays};
-ghost use Rattle.urlpattern_laws.specs.PartReadings.{ApartMatchNothing, CommonAreMatched, CoveredAreMatched, CoveredByEngineAreMatched, CoveredByMeaningAreMatched, EqualAreMatched, KeptPartsMean, KnownAreCoveredByMeaning, MadeAreMatched, OwnPartsMean, PartingsAreMatched};
+ghost use Rattle.urlpattern_laws.specs.PartReadings.{ApartMatchNothing, CommonAreMatched, CoveredAreMatched, CoveredByEngineAreMatched, CoveredByMeaningAreMatched, DoesHonourCase, EqualAreMatched, KeptPartsMean, KnownAreCoveredByMeaning, MadeAreMatched, OwnPartsMean, OwnPartsMeanWithCase, PartingsAreMatched};
 
 use urlpattern_matcher::regexp::RegExp;
 
 /// A pattern that `PatternRegexp` or `regex::Regex` made of parts matches a text without line feeds
-/// in a component exactly if the component's parts mean the text, if their meaning is known: no
-/// part is custom, and case is kept.
+/// in a component exactly if the component's parts mean the text, if their meaning is known.
 pub fn patterns_match_what_their_parts_mean()
     ensures pattern_regexp { OwnPartsMean pattern_engine }
     ensures regex { OwnPartsMean regex_engine }
@@ -22,10 +23,12 @@ pub fn patterns_match_what_their_parts_mean()
 
 /// A pattern that was made of parts, over any engine whose matchers return first ways, such as
 /// `PatternRegexp`, matches a text without line feeds in a component exactly if the component's
-/// parts mean the text, if their meaning is known. A compiled pattern that matches by its pattern
-/// texts does too, whatever its engine, with the parts that it keeps.
+/// parts mean the text, if their meaning is known, and the pattern keeps case, or the engine
+/// honours the flag `i` if it says so. A compiled pattern that matches by its pattern texts and
+/// keeps case does too, whatever its engine, with the parts that it keeps.
 pub fn patterns_match_what_their_parts_mean_by_first_ways<R: RegExp>()
-    ensures first_ways { MakesFirstWays R.RegExp → OwnPartsMean R.RegExp }
+    ensures first_ways { MakesFirstWays R.RegExp → OwnPartsMeanWithCase R.RegExp }
+    ensures by_flags { MakesFirstWays R.RegExp → DoesHonourCase R.RegExp → OwnPartsMean R.RegExp }
     ensures by_text { KeptPartsMean R.RegExp }
 {}
 
@@ -50,7 +53,7 @@ pub fn covered_patterns_match<R: RegExp>()
 /// matches what its parts mean, where their meaning is known.
 ///
 /// A pattern that covers another covers it by meaning, if the meaning of any two components with
-/// equal parts is known: if no part is custom, and case is kept.
+/// equal parts is known: if no part is custom.
 pub fn patterns_covered_by_meaning_match<R: RegExp>()
     ensures covered { CoveredByMeaningAreMatched R.answer }
     ensures known { KnownAreCoveredByMeaning }

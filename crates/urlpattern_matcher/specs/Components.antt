@@ -4,7 +4,7 @@ use Rattle.std.specs.{Borrow.Bor, List.list_any}
 use Rattle.urlpattern_matcher.specs.declared.component.{Component.Component, ComponentWithParts.ComponentWithParts}
 use Rattle.urlpattern_matcher.specs.declared.regexp.RegExp.{Ghosts as Engine}
 use Rattle.urlpattern_matcher.specs.Matchers.{engine_view, matcher_view}
-use Rattle.urlpattern_meaning.specs.Matching.{ReturnsByMeaning, IsMadeOf, MatcherView}
+use Rattle.urlpattern_meaning.specs.Matching.{ReturnsByMeaning, InnerView, IsMadeOf, MatcherView, RegExp}
 use Rattle.urlpattern_meaning.specs.Printing.{printed}
 use Rattle.urlpattern_syntax.specs.declared.error.Error.{Error}
 use Rattle.urlpattern_syntax.specs.Errors.{ErrorView, MemoryOr}
@@ -93,6 +93,12 @@ pub record IsComponentOf {E : Type 0} (engine : Engine E) (options : OptionsView
       component.matcher
   pub regexp_flag : component.has_regexp_group ≡ has_regexp parts
 
+-- Whether a matcher with this between its prefix and suffix ignores case where it is to: it needs
+-- no engine, or the engine honours the flag `i`.
+abbrev pub honours_case : {E : Type 0} → Engine E → InnerView E → Bool
+honours_case engine (RegExp regexp) = engine.case_honoured
+honours_case engine inner = true
+
 -- `component` is compiled from `text`: its fields are made of parts that `text` is parsed to.
 abbrev pub IsCompiledFrom : {E : Type 0} → Engine E → (text : List ℕ) → OptionsView → Encoding
     → ComponentView E → Type 0
@@ -100,13 +106,15 @@ IsCompiledFrom engine text options encoding component =
     (parts : List PartView) × Reads text options encoding parts
     × IsComponentOf engine options parts component
 
--- `made` is compiled from `text`: it keeps `options` and the parts that `text` is parsed to, and
--- the five fields of its component are made of these.
+-- `made` is compiled from `text`: it keeps `options` and the parts that `text` is parsed to, the
+-- five fields of its component are made of these, and it says whether its matcher honours case.
 pub record IsCompiledKeeping {E : Type 0} (engine : Engine E) (text : List ℕ)
     (options : OptionsView) (encoding : Encoding) (made : ComponentWithParts E) : Type 0 where
   pub options_are : kept_options made.kept ≡ options
   pub reads : Reads text options encoding (kept_parts made.kept)
   pub is_made : IsComponentOf engine options (kept_parts made.kept) (component_view made.component)
+  pub case : made.kept.honours_case
+      ≡ honours_case engine (component_view made.component).matcher.inner
 
 -- `error` is one with which `text` is rejected, or says that memory ran out.
 abbrev pub FailsToRead : (text : List ℕ) → OptionsView → Encoding → Error → Type 0

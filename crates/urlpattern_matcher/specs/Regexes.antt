@@ -1,5 +1,5 @@
 -- What a value of the crate `regex` is made of, and what it returns.
-use Rattle.std.specs.Prelude.{◌≡◌, ⊤, ℕ, ◌-◌, ◌^◌, ◌<◌, IsTrue, List, map, length, Option, option_map, encode_utf8_all, slice_range}
+use Rattle.std.specs.Prelude.{◌≡◌, ⊤, ℕ, ◌-◌, ◌^◌, ◌<◌, false, IsTrue, List, map, length, Option, option_map, encode_utf8_all, slice_range}
 use Rattle.std.specs.List.{range_with_len}
 use Rattle.std.specs.Str.{all_scalars, chars}
 use Rattle.regex.specs.Patterns.{default_config, find_str}
@@ -78,4 +78,5 @@ regex_engine = record {
   MayReject = λ regexp flags force_eval. ⊤;
   answer = regex_result;
   text_made_of = regex_text;
+  case_honoured = false;
 }

@@ -4,15 +4,15 @@
 
 ghost use Rattle.std.specs.Prelude.{◌≡◌, true, false, string_bytes, IfErr, IfOk, Some};
 ghost use Rattle.std.specs.Str.{chars};
-ghost use Rattle.urlpattern_matcher.specs.Components.{ReturnsByItsParts, FailsToRead, IsCompiledFrom, IsCompiledKeeping, IsComponentOf, IsEngineOf, IsWholeEngineOf, component_view, engine_flags, has_regexp, pattern_text};
-ghost use Rattle.urlpattern_matcher.specs.Matchers.{engine_view};
+ghost use Rattle.urlpattern_matcher.specs.Components.{ReturnsByItsParts, FailsToRead, IsCompiledFrom, IsCompiledKeeping, IsComponentOf, IsEngineOf, IsWholeEngineOf, component_view, engine_flags, has_regexp, honours_case, pattern_text};
+ghost use Rattle.urlpattern_matcher.specs.Matchers.{engine_view, matcher_view};
 ghost use Rattle.urlpattern_meaning.specs.GeneratedTexts.{IsGenerated};
 ghost use Rattle.urlpattern_syntax.specs.{Errors.OnlyOutOfMemory, Options.options_view, Parts.parts_view, Reading.encoding_by, Text.text_of};
 
 mod matchers;
 mod normal;
 
-use crate::matcher::Matcher;
+use crate::matcher::{InnerMatcher, Matcher};
 use crate::regexp::RegExp;
 use matchers::generate_matcher_with_regexp;
 pub use matchers::{generate_matcher, is_plain};
@@ -112,7 +112,12 @@ impl<R: RegExp> Component<R> {
         let pattern = pattern.unwrap_or("*");
         let parts = parse_pattern_string(alloc, pattern, &options, encoding_callback)?;
         let component = Self::from_parts(alloc, &parts, &options)?;
-        let kept = ComponentParts { options, parts };
+        let honours = honours_case(&component.matcher);
+        let kept = ComponentParts {
+            options,
+            parts,
+            honours_case: honours,
+        };
         Ok(ComponentWithParts { component, kept })
     }
 
@@ -221,6 +226,16 @@ impl<R: Drop> Drop for Component<R> {
             matcher: _matcher,
             has_regexp_group: _,
         } = self;
+    }
+}
+
+/// Whether the matcher needs no engine, or one that honours the flag `i`.
+fn honours_case<R: RegExp>(matcher: &Matcher<R>) -> bool
+    ensures { result ≡ honours_case R.RegExp (matcher_view matcher.now).inner }
+{
+    match &matcher.inner {
+        InnerMatcher::RegExp { .. } => R::honours_case(),
+        _ => true,
     }
 }
 

@@ -21,8 +21,8 @@ use urlpattern_syntax::error::{OutOfMemory, RegExpError};
 ///
 /// The ghost members describe the engine: `syntax_of` is the syntax that it accepts, `IsMade` says
 /// which values it may make of an expression and flags, `MayReject` which expressions it may reject
-/// with which flags and `force_eval`, `answer` what a value returns for a text, and `text_made_of`
-/// which expression a value was made of.
+/// with which flags and `force_eval`, `answer` what a value returns for a text, `text_made_of` of
+/// which expression a value was made, and `case_honoured` whether the flag `i` is honoured.
 pub trait RegExp: Sized + Drop {
     ghost syntax_of: { RegexSyntax };
 
@@ -33,6 +33,8 @@ pub trait RegExp: Sized + Drop {
     ghost answer: { Self → List ℕ → Option Captures };
 
     ghost text_made_of: { Self → List ℕ };
+
+    ghost case_honoured: { Bool };
 
     /// Returns the syntax that the engine accepts. The syntax of generated expressions is that of
     /// the options, whatever this returns. An engine of ECMAScript's syntax that accepts the
@@ -87,6 +89,11 @@ pub trait RegExp: Sized + Drop {
     fn pattern_string(&self) -> &str
         ensures { chars result.now ≡ text_made_of self.now };
 
+    /// Whether the engine honours the flag `i`, so that its values ignore case. Comparisons know
+    /// nothing of a component that ignores case, and that an engine matches which does not.
+    fn honours_case() -> bool
+        ensures { result ≡ case_honoured };
+
     /// Whether each value that was made of the regular expression of parts, none of them custom,
     /// with the flag `u` alone, is known to return what the parts mean: captures with which the
     /// parts can match the text, one after the other, or `None` if they cannot. An engine for which
@@ -113,6 +120,8 @@ impl RegExp for Regex {
     ghost answer = { regex_engine.answer };
 
     ghost text_made_of = { regex_engine.text_made_of };
+
+    ghost case_honoured = { regex_engine.case_honoured };
 
     fn syntax() -> RegexSyntax {
         RegexSyntax::Rust
@@ -145,5 +154,9 @@ impl RegExp for Regex {
 
     fn pattern_string(&self) -> &str {
         self.as_str()
+    }
+
+    fn honours_case() -> bool {
+        false
     }
 }

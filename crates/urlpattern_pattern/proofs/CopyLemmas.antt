@@ -1,5 +1,5 @@
 -- Copies of parts, and of the components that are made of them.
-use Rattle.std.proofs.Common.{◌≡◌, subst, sym}
+use Rattle.std.proofs.Common.{◌≡◌, ◌∙◌, subst, sym}
 use Rattle.urlpattern_compare.specs.EqualParts.{AreEqualParts}
 use Rattle.urlpattern_compare.specs.declared.pattern_parts.PatternParts.{PatternParts}
 use Rattle.urlpattern_components.specs.declared.eight.ComponentName.{ComponentName}
@@ -20,4 +20,5 @@ copy_made engine parts others view copied equal same made name =
       is_component = subst (λ options. IsComponentOf engine options (kept_parts other) (view name)) (equal name).options
           (subst (λ them. IsComponentOf engine (kept_options own) them (view name)) (equal name).parts (made name).is_component);
       has_engine = (made name).has_engine;
+      case = sym (equal name).case ∙ (made name).case;
     })

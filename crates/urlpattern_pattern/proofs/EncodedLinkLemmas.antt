@@ -1,6 +1,8 @@
 -- The link of a pattern for values that are percent-encoded.
-use Rattle.std.proofs.Common.{◌≡◌, ◌∙◌, ℕ, ◌||◌, All, Bool, true, false, Ok, List, [], ◌∷◌, Option, Some, None, ap, bytes_eq, inr, map, option_map, refl, subst, sym}
+use Rattle.std.proofs.Common.{◌≡◌, ◌∙◌, ℕ, ◌+◌, ◌<◌, ◌||◌, ◌++◌, All, Bool, true, false, Ok, List, [], ◌∷◌, Option, Some, None, add-one, ap, bytes_eq, drop, get_or, inr, length, map, option_map, refl, subst, sym, take}
+use Rattle.std.proofs.Math.Seq.{drop-cons}
 use Rattle.std.proofs.lemmas.Bool.{false≢true}
+use Rattle.std.proofs.lemmas.List.{take-append-drop}
 use Rattle.std.proofs.lemmas.List.Elements.{All-head, All-tail}
 use Rattle.std.proofs.lemmas.Slice.Eq.{bytes_eq-Decides}
 use Rattle.std.specs.List.{list_any}
@@ -13,6 +15,7 @@ use Rattle.urlpattern_compile.specs.PatternViews.{PatternView, eight_view}
 use Rattle.urlpattern_components.proofs.EightLemmas.{of_each}
 use Rattle.urlpattern_components.specs.Eight.{at, components}
 use Rattle.urlpattern_components.specs.declared.eight.ComponentName.{ComponentName}
+use Rattle.urlpattern_components.specs.declared.eight.ComponentName.TheVariants.{Protocol}
 use Rattle.urlpattern_generate.specs.EncodedGroups.{IsChanged, IsDecodedBack, KeepsValue, encoded_groups}
 use Rattle.urlpattern_generate.specs.WriteSettings.{GivenView, is_given_for, settings_for, text_given}
 use Rattle.urlpattern_generate.specs.declared.generate_error.GenerateError.TheVariants as generating
@@ -107,19 +110,31 @@ changed_at pattern parts groups component kept own names result is_kept is_own i
 pub none_changed : {E : Type 0} (pattern : PatternView E) (parts : PatternParts) (groups : List GivenView) → All (λ component. IsChangedIn pattern parts groups component None) components → IsFirstChanged pattern parts groups None
 none_changed pattern parts groups all component = of_each (λ component. IsChangedIn pattern parts groups component None) all component
 
+-- The component at an index has the first value that is changed.
+pub first_changed : {E : Type 0} (pattern : PatternView E) (parts : PatternParts) (groups : List GivenView) (names : List ComponentName) → names ≡ components → (i : ℕ) → i < length names →
+    All (λ component. IsChangedIn pattern parts groups component None) (take i names) → (name : List ℕ) → IsChangedIn pattern parts groups (get_or names i Protocol) (Some name) →
+    IsFirstChanged pattern parts groups (Some (get_or names i Protocol, name))
+first_changed pattern parts groups names are i within kept name changed = (
+  take i names,
+  drop (i + 1) names,
+  sym are ∙ sym (take-append-drop i names) ∙ ap (λ rest. take i names ++ rest) (drop-cons names i Protocol within ∙ ap (λ n. get_or names i Protocol ∷ drop n names) (sym (add-one i))),
+  kept,
+  changed,
+)
+
 -- ---- errors
 
 module _ {E : Type 0} (answer : E → List ℕ → Option Captures) (pattern : UrlPattern E) (groups : List GivenView) where
   -- A link whose value is changed is rejected.
   pub changed_refused : (url : Parts) (component : ComponentName) (name : List ℕ) (text : String Global) → text_of text ≡ name → IsLink answer pattern groups url →
-      IfSome pattern.parts (λ parts. IsChangedIn (eight_view pattern.components) parts groups component (Some name)) → RejectsEncoded answer pattern groups (links.Component (generating.NotCaptured component text))
+      IfSome pattern.parts (λ parts. IsFirstChanged (eight_view pattern.components) parts groups (Some (component, name))) → RejectsEncoded answer pattern groups (links.Component (generating.NotCaptured component text))
   changed_refused url component name text same link changed = inr (by pattern.parts link changed)
     where
       by : (parts : Option PatternParts) → MatchOption parts ⊥ (λ own. IsLinkOf answer (eight_view pattern.components) own groups url) →
-          IfSome parts (λ own. IsChangedIn (eight_view pattern.components) own groups component (Some name)) →
-          MatchOption parts ⊥ (λ own. IsChangedIn (eight_view pattern.components) own groups component (Some (text_of text)))
+          IfSome parts (λ own. IsFirstChanged (eight_view pattern.components) own groups (Some (component, name))) →
+          MatchOption parts ⊥ (λ own. IsFirstChanged (eight_view pattern.components) own groups (Some (component, text_of text)))
       by None has found = absurd has
-      by (Some own) has found = subst (λ of. IsChangedIn (eight_view pattern.components) own groups component (Some of)) (sym same) found
+      by (Some own) has found = subst (λ of. IsFirstChanged (eight_view pattern.components) own groups (Some (component, of))) (sym same) found
 
   pub memory_refused : (error : NoLink) → error ≡ links.OutOfMemory → RejectsEncoded answer pattern groups error
   memory_refused error is = subst (RejectsEncoded answer pattern groups) (sym is) (inr tt)

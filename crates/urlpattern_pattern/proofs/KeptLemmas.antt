@@ -1,6 +1,6 @@
 -- Patterns that keep their parts.
-use Rattle.std.proofs.Common.{◌≡◌, Some, subst, sym}
-use Rattle.urlpattern_matcher.specs.Components.{IsComponentOf, component_view}
+use Rattle.std.proofs.Common.{◌≡◌, ◌∙◌, Some, ap, subst, sym}
+use Rattle.urlpattern_matcher.specs.Components.{IsComponentOf, component_view, honours_case}
 use Rattle.urlpattern_matcher.specs.declared.component.{Component.Component, ComponentWithParts.ComponentWithParts}
 use Rattle.urlpattern_matcher.specs.declared.regexp.RegExp.{Ghosts as Engine}
 use Rattle.urlpattern_compile.proofs.CompiledLemmas.{kept_compiled}
@@ -30,6 +30,8 @@ module _ {E : Type 0} (engine : Engine E) (made : Eight (ComponentWithParts E)) 
             (subst (λ (k : ComponentParts). IsComponentOf engine (kept_options k) (kept_parts k) (component_view component)) (sym (separate_parts.parts_are name))
             (subst (λ o. IsComponentOf engine o (kept_parts own) (component_view component)) (sym is.options_are) is.is_made));
         has_engine = subst (λ (c : Component E). HasEngine (component_view c)) (sym (separate_parts.components_are name)) is.has_engine;
+        case = subst (λ (c : Component E). (at parts.components name).honours_case ≡ honours_case engine (component_view c).matcher.inner) (sym (separate_parts.components_are name))
+            (ap (λ (k : ComponentParts). k.honours_case) (separate_parts.parts_are name) ∙ is.case);
       }
 
   -- The values are compiled to these components.

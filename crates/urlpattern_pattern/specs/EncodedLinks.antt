@@ -1,10 +1,11 @@
 -- The link of a pattern for values that are percent-encoded first, and the reasons why there is
 -- none.
-use Rattle.std.specs.Prelude.{◌≡◌, ◌⊎◌, ℕ, IsTrue, List, None, Option, Some, bytes_eq}
+use Rattle.std.specs.Prelude.{◌≡◌, ◌⊎◌, ◌++◌, ◌∷◌, ℕ, All, IsTrue, List, None, Option, Some, bytes_eq}
 use Rattle.std.specs.{Borrow.Bor, List.list_any, Str.chars}
 use Rattle.url.specs.Parts.{Parts}
 use Rattle.urlpattern_compare.specs.declared.pattern_parts.PatternParts.{PatternParts}
 use Rattle.urlpattern_compile.specs.PatternViews.{PatternView, eight_view}
+use Rattle.urlpattern_components.specs.Eight.{components}
 use Rattle.urlpattern_components.specs.declared.eight.ComponentName.{ComponentName}
 use Rattle.urlpattern_generate.specs.EncodedGroups.{IsChanged}
 use Rattle.urlpattern_generate.specs.WriteSettings.{GivenView, text_given}
@@ -43,21 +44,23 @@ IsChangedIn pattern parts groups component found =
 abbrev pub group_named : ComponentName × Bor (List ℕ) → ComponentName × List ℕ
 group_named group = (group.0, chars group.1.now)
 
--- The component and the name are those of a group of the pattern whose value in `groups` is
+-- The component and the name are those of the first group of the pattern whose value in `groups` is
 -- changed. None: no value is.
 abbrev pub IsFirstChanged : {E : Type 0} → PatternView E → PatternParts → List GivenView
     → Option (ComponentName × List ℕ) → Type 0
 IsFirstChanged pattern parts groups None =
     (component : ComponentName) → IsChangedIn pattern parts groups component None
 IsFirstChanged pattern parts groups (Some group) =
-    IsChangedIn pattern parts groups group.0 (Some group.1)
+    (before after : List ComponentName) × (components ≡ before ++ group.0 ∷ after)
+    × All (λ earlier. IsChangedIn pattern parts groups earlier None) before
+    × IsChangedIn pattern parts groups group.0 (Some group.1)
 
--- The error names a group of the pattern whose value in `groups` is changed: the canonical form of
--- the value decodes otherwise. Or memory ran out.
+-- The error names the first group of the pattern whose value in `groups` is changed: the canonical
+-- form of the value decodes otherwise. Or memory ran out.
 abbrev pub ChangesGroup : {E : Type 0} → UrlPattern E → List GivenView → NoLink → Type 0
 ChangesGroup pattern groups (Component (NotCaptured component name)) =
     HasParts pattern (λ parts.
-    IsChangedIn (eight_view pattern.components) parts groups component (Some (text_of name)))
+    IsFirstChanged (eight_view pattern.components) parts groups (Some (component, text_of name)))
 ChangesGroup pattern groups OutOfMemory = Unit {0}
 ChangesGroup pattern groups error = ⊥
 

@@ -1,6 +1,6 @@
 -- The view of a `UrlPattern`: its components, and the parts that they were made of.
-use Rattle.std.specs.Prelude.{IfSome, Option}
-use Rattle.urlpattern_matcher.specs.Components.{ComponentView, IsComponentOf}
+use Rattle.std.specs.Prelude.{◌≡◌, IfSome, Option}
+use Rattle.urlpattern_matcher.specs.Components.{ComponentView, IsComponentOf, honours_case}
 use Rattle.urlpattern_matcher.specs.declared.component.Component.{Component}
 use Rattle.urlpattern_matcher.specs.declared.regexp.RegExp.{Ghosts as Engine}
 use Rattle.urlpattern_compile.specs.{Compiled.HasEngine, PatternViews.PatternView, PatternViews.eight_view}
@@ -16,12 +16,14 @@ pub record UrlPattern (E : Type 0) : Type 0 where
   pub components : Eight (Component E)
   pub parts : Option PatternParts
 
--- All five fields of `component` are made by `engine` of the options and parts of `kept`, and the
--- engine accepted each regular expression that the component needs.
+-- All five fields of `component` are made by `engine` of the options and parts of `kept`, the
+-- engine accepted each regular expression that the component needs, and `kept` says whether the
+-- matcher honours case.
 pub record IsMadeOfParts {E : Type 0} (engine : Engine E) (kept : ComponentParts)
     (component : ComponentView E) : Type 0 where
   pub is_component : IsComponentOf engine (kept_options kept) (kept_parts kept) component
   pub has_engine : HasEngine component
+  pub case : kept.honours_case ≡ honours_case engine component.matcher.inner
 
 -- Each component of `pattern` is made of its parts of `parts`.
 abbrev pub AreMadeOfParts : {E : Type 0} → Engine E → PatternParts → PatternView E → Type 0

@@ -45,6 +45,7 @@ copy_made engine parts others view equal made name =
       is_component = subst (λ options. IsComponentOf engine options (kept_parts other) (view name)) (equal name).options
           (subst (λ them. IsComponentOf engine (kept_options own) them (view name)) (equal name).parts (made name).is_component);
       has_engine = (made name).has_engine;
+      case = sym (equal name).case ∙ (made name).case;
     }
 
 pub has_automata : {E : Type 0} (engine : Engine E) (pattern : UrlPattern E) (parts : PatternParts) (one : PatternAutomata) → pattern.parts ≡ Some parts → HasOwnParts engine pattern → AreAutomata one → AreEqualParts parts one.parts → HasAutomata engine pattern one

@@ -31,6 +31,7 @@ use Rattle.urlpattern_policy.specs.declared.decision.DenyReason.TheVariants as r
 use Rattle.urlpattern_policy.specs.declared.policy.PolicyOptions.{PolicyOptions}
 use Rattle.urlpattern_policy.specs.declared.policy.UrlPolicy.{UrlPolicy}
 use Rattle.urlpattern_syntax.specs.RegexpText.{is_empty}
+use Rattle.urlpattern_syntax.specs.Options.{default_options}
 
 empty_is : (text : List ℕ) → is_empty text ≡ true → text ≡ []
 empty_is [] is = refl
@@ -67,7 +68,7 @@ module _ (written : ComponentName) (parts : PatternParts) (is : IsWritten writte
       → (IsTrue (means_by written name case text) → MeansIn (at parts.components name) text) × (MeansIn (at parts.components name) text → IsTrue (means_by written name case text))
   means_at name (inl same) text line = (λ some. segment_in name same text line (is_empty text) refl some, λ means. segment_out name same text means (is_empty text) refl)
   means_at name (inr other) text line =
-      (λ on_both. means_in _ (at parts.components name) ((is name).others other) text (wildcard_means _ text line.plain), λ means. refl)
+      (λ on_both. means_in _ (at parts.components name) ((is name).others other) text (wildcard_means default_options text line.plain), λ means. refl)
 
   pub written_told : IsTold written_meaning
   written_told = record {

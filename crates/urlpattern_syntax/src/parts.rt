@@ -11,6 +11,9 @@ pub struct ComponentParts {
     pub options: Options,
     /// The parts, in order.
     pub parts: Vec<Part>,
+    /// Whether a match ignores case where the options do. `false`: an engine matches the component
+    /// that does not honour the flag `i`.
+    pub honours_case: bool,
 }
 
 impl Drop for ComponentParts {
@@ -20,6 +23,7 @@ impl Drop for ComponentParts {
         let Self {
             options: _options,
             parts: _parts,
+            honours_case: _,
         } = self;
     }
 }

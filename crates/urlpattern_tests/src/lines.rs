@@ -3,7 +3,7 @@ ghost use Rattle.std.specs.Prelude.{⊤};
 
 use std::alloc::AllocError;
 use std::test::Fail;
-use urlpat_matching::{Rule, Verdict, answer_lines};
+use urlpat_matching::{LineStyle, Rule, Verdict, answer_lines};
 
 /// A rule that selects the lines of fewer than four characters, and writes them as they are.
 #[derive(Drop)]
@@ -34,10 +34,16 @@ fn a_line_that_is_too_long_is_rejected(rt: HostRuntime) -> Result<(), Fail> {
     let mut input = text.as_slice();
     let mut out = Vec::new(alloc);
     let mut err = Vec::new(alloc);
-    match answer_lines(alloc, &Short, &mut input, &mut out, &mut err) {
+    let style = LineStyle {
+        file: None,
+        named: false,
+        numbered: true,
+        flushed: false,
+    };
+    match answer_lines(alloc, &Short, style, &mut input, &mut out, &mut err) {
         Ok(tally) => {
             assert!(rt; tally.selected == 1 && tally.rejected == 1);
-            assert!(rt; out.as_slice() == b"b\n".as_slice());
+            assert!(rt; out.as_slice() == b"2:b\n".as_slice());
         }
         Err(_) => return Err(Fail::from(AllocError)),
     }

@@ -28,7 +28,7 @@ pub type Refusing = Stubborn<false, true>;
 pub type Starved = Stubborn<false, false>;
 
 impl<const TAKES_TEXTS: bool, const HAS_MEMORY: bool> RegExp for Stubborn<TAKES_TEXTS, HAS_MEMORY> {
-    ghost use Rattle.std.specs.Prelude.{◌≡◌, ⊤, map, option_map};
+    ghost use Rattle.std.specs.Prelude.{◌≡◌, ⊤, false, map, option_map};
     ghost use Rattle.urlpattern.specs.Text.{option_text};
     ghost use Rattle.urlpattern.specs.RegexSyntax.TheVariants.{Rust};
     ghost use Rattle.urlpattern.specs.Text.{text_of};
@@ -42,6 +42,8 @@ impl<const TAKES_TEXTS: bool, const HAS_MEMORY: bool> RegExp for Stubborn<TAKES_
     ghost answer = { λ engine text. option_map (λ captures. map option_text captures.now) engine.captures };
 
     ghost text_made_of = { λ engine. text_of engine.text };
+
+    ghost case_honoured = { false };
 
     fn syntax() -> RegexSyntax {
         RegexSyntax::Rust
@@ -76,5 +78,9 @@ impl<const TAKES_TEXTS: bool, const HAS_MEMORY: bool> RegExp for Stubborn<TAKES_
 
     fn pattern_string(&self) -> &str {
         self.text.as_str()
+    }
+
+    fn honours_case() -> bool {
+        false
     }
 }

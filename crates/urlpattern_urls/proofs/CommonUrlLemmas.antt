@@ -11,6 +11,7 @@ use Rattle.std.specs.declared.alloc.Global.{Global}
 use Rattle.url.specs.Parts.{IsValid, Parts}
 use Rattle.urlpattern_compare.proofs.CandidateLemmas.{all_back, all_front, name_cases}
 use Rattle.urlpattern_compare.proofs.BoundLemmas.{small_automata}
+use Rattle.urlpattern_compare.proofs.ComponentLemmas.{anything_generated, none_missed}
 use Rattle.urlpattern_compare.proofs.SameParts.{same_flips, same_within}
 use Rattle.urlpattern_compare.specs.Candidates.{TextAt}
 use Rattle.urlpattern_compare.specs.CommonTexts.{AreAutomata, AreCommon, AreMeanings, IsAutomatonOrLacks, IsDoubt, IsLack, LacksBy, MeanAlike, MeansByParts, MeansEach, PatternMeaning, parts_of, string_at}
@@ -56,9 +57,6 @@ record AreFew (parts : List PartView) : Type 0 where
 abbrev Generated : PartView → Type 0
 Generated part = part.kind ≢ PartType.Regexp
 
-anything_generated : AreGenerated (anything_part ∷ [])
-anything_generated = All-cons Generated anything_part [] (λ e. absurd (cc e)) (All-nil Generated)
-
 abbrev fixed_s : PartView
 fixed_s = part_of PartType.FixedText (codes "s") PartModifier.Optional
 
@@ -93,10 +91,7 @@ has_few way name component is = elim (name_cases name (own_component way)) [
 ]
 
 few_known : (component : ComponentParts) → HasFew component → IsKnown component
-few_known component (parts, few, is) = record {
-  generated = subst AreGenerated (sym is.are) few.generated;
-  case_kept = ap (λ (options : OptionsView). options.ignore_case) is.options;
-}
+few_known component (parts, few, is) = record { generated = subst AreGenerated (sym is.are) few.generated; case = none_missed component is.case }
 
 -- A pattern of the four, with its automata.
 pub record IsOne (it : PatternAutomata) : Type 0 where
@@ -137,8 +132,8 @@ few_states it name (parts, few, is) none many =
     small_automata (it ∷ []) lack (All-cons Small it [] small (All-nil Small)) (it, refl, (none, many)) refl
 
 some_own : (component : ComponentParts) (found : Option PartsAutomaton) → IsAutomatonOrLacks component found → IsKnown component → ((¬ IsSome found) → ¬ LacksBy component reasons.TooMany) → IsSome found
-some_own component None (reasons.CustomExpression, lacks) known few = absurd (lacks known.generated)
-some_own component None (reasons.IgnoredCase, lacks) known few = absurd (false≢true (sym known.case_kept ∙ lacks))
+some_own component None (reasons.CustomExpression, lacks) known few = absurd (lacks.0 known)
+some_own component None (reasons.IgnoredCase, lacks) known few = absurd (lacks.0 known)
 some_own component None (reasons.TooMany, lacks) known few = absurd (few (λ some. false≢true some) lacks)
 some_own component (Some automaton) made known few = refl
 

@@ -16,6 +16,7 @@ use Rattle.url.specs.declared.error.ParseError.TheVariants.{EmptyHost}
 use Rattle.url.specs.declared.host.Host.{Host}
 use Rattle.url.specs.declared.host.Host.TheVariants.{Domain}
 use Rattle.url.specs.declared.scheme.SchemeType.TheVariants.{SpecialNotFile}
+use Rattle.urlpattern_compare.proofs.KeptCase.{kept_means}
 use Rattle.urlpattern_compare.specs.Comparing.{MeansIn}
 use Rattle.urlpattern_compare.specs.MeantTexts.{MeansText}
 use Rattle.urlpattern_compare.specs.declared.pattern_parts.PatternParts.{PatternParts}
@@ -24,7 +25,7 @@ use Rattle.urlpattern_components.specs.declared.eight.ComponentName.{ComponentNa
 use Rattle.urlpattern_components.specs.declared.eight.ComponentName.TheVariants.{Hostname, Pathname, Protocol}
 use Rattle.urlpattern_init.proofs.UrlTexts.{chars-path, chars-scheme}
 use Rattle.urlpattern_init.specs.Inheritance.{url_text}
-use Rattle.urlpattern_meaning.specs.PartMeaning.{AreCopies}
+use Rattle.urlpattern_meaning.specs.PartMeaning.{AreCopies, Captures, PartsMean}
 use Rattle.urlpattern_syntax.specs.Options.{OptionsView, standard_options}
 use Rattle.urlpattern_syntax.specs.Parts.{PartView, parts_view}
 use Rattle.urlpattern_syntax.specs.Text.{lacks}
@@ -37,6 +38,10 @@ use Rattle.urlpattern_urls.specs.declared.unlike.Unlike.TheVariants.{NoHostname,
 
 abbrev options : OptionsView
 options = standard_options (Some slash) []
+
+-- The parts mean the text, as it is.
+abbrev Means : List PartView → (text : List ℕ) → Type 0
+Means parts text = (captures : Captures) × PartsMean options parts text captures
 
 abbrev segment : PartView
 segment = part_of PartType.SegmentWildcard [] PartModifier.None
@@ -54,7 +59,7 @@ segment_copy text rest more (first, last, cut, (piece, is, (some, plain)), end) 
     let whole : text ≡ piece = cut ∙ ap (λ (l : List ℕ). first ++ l) end ∙ append-nil first ∙ is ∙ append-nil piece in
     no_slash_first piece rest more some plain (sym (ap (λ (l : List ℕ). l ++ rest) whole) ∙ e)
 
-no_slash_means : (text more : List ℕ) → MeansText options (own_parts NoSlash) text → text ≡ slash ∷ more → ⊥
+no_slash_means : (text more : List ℕ) → Means (own_parts NoSlash) text → text ≡ slash ∷ more → ⊥
 no_slash_means text more (captures, (first, rest, own, others, cut, joined, means, end)) e =
     segment_copy first rest more (subst (λ (n : ℕ). AreCopies options segment n first) means.allowed means.are_copies) (sym cut ∙ e)
 
@@ -70,7 +75,7 @@ optional_copies value zero text most copies = inl copies
 optional_copies value (suc zero) text most copies = inr (one_copy value PartModifier.Optional text copies)
 optional_copies value (suc (suc n)) text most copies = absurd (omega (arith, most))
 
-web_means : (text : List ℕ) → MeansText options web_parts text → IsWeb text
+web_means : (text : List ℕ) → Means web_parts text → IsWeb text
 web_means text (captures, (first, rest, own, others, cut, joined, means, (second, end, second_own, second_others, second_cut, second_joined, second_means, last))) =
     let http = one_copy (codes "http") PartModifier.None first (subst (λ (n : ℕ). AreCopies options (part_of PartType.FixedText (codes "http") PartModifier.None) n first) means.allowed means.are_copies) in
     let whole : text ≡ codes "http" ++ second =
@@ -83,12 +88,13 @@ web_means text (captures, (first, rest, own, others, cut, joined, means, (second
 -- ---- a component
 
 module _ (parts : List PartView) (component : ComponentParts) (is : IsMadeOf parts component) where
-  means_of : (text : List ℕ) → MeansIn component text → MeansText options parts text
+  means_of : (text : List ℕ) → MeansIn component text → Means parts text
   means_of text means =
-      subst (λ (own : List PartView). MeansText options own text) is.are
-      (subst (λ (own : OptionsView). MeansText own (parts_view component.parts.items) text) is.options means)
+      (kept_means options parts text refl).0
+      (subst (λ (own : List PartView). MeansText options own text) is.are
+      (subst (λ (own : OptionsView). MeansText own (parts_view component.parts.items) text) is.options means))
 
-nothing_means : (text : List ℕ) → MeansText options [] text → text ≡ []
+nothing_means : (text : List ℕ) → Means [] text → text ≡ []
 nothing_means text (captures, means) = means.0
 
 -- ---- the texts of a URL
@@ -147,7 +153,7 @@ some_scheme url valid e =
 -- ---- the law
 
 module _ (pattern : PatternParts) (url : Parts) (valid : IsValid url) (each : (name : ComponentName) → MeansIn (at pattern.components name) (url_text name url)) where
-  text_means : (name : ComponentName) (parts : List PartView) → IsMadeOf parts (at pattern.components name) → MeansText options parts (url_text name url)
+  text_means : (name : ComponentName) (parts : List PartView) → IsMadeOf parts (at pattern.components name) → Means parts (url_text name url)
   text_means name parts is = means_of parts (at pattern.components name) is (url_text name url) (each name)
 
   web_url : IsMadeOf web_parts (at pattern.components Protocol) → kind_of url ≡ SpecialNotFile

@@ -1,5 +1,5 @@
 -- How eight texts may be unlike those of any URL, and the patterns that match such texts.
-use Rattle.std.specs.Prelude.{◌≡◌, ◌≢◌, ℕ, All, List, [], ◌∷◌, Some, codes}
+use Rattle.std.specs.Prelude.{◌≡◌, ◌≢◌, ℕ, true, All, List, [], ◌∷◌, Some, codes}
 use Rattle.url.specs.Ascii.{slash}
 use Rattle.url.specs.Parts.{IsValid, Parts}
 use Rattle.urlpattern_compare.specs.CommonTexts.{AreAutomata}
@@ -49,10 +49,11 @@ abbrev pub own_parts : Unlike → List PartView
 own_parts NoSlash = part_of PartType.SegmentWildcard [] PartModifier.None ∷ anything_part ∷ []
 own_parts way = []
 
--- The component has these parts, and its delimiter is a slash.
+-- The component has these parts, its delimiter is a slash, and no engine keeps case.
 pub record IsMadeOf (parts : List PartView) (component : ComponentParts) : Type 0 where
   pub options : options_view component.options ≡ standard_options (Some slash) []
   pub are : parts_view component.parts.items ≡ parts
+  pub case : component.honours_case ≡ true
 
 -- The component `name` of the pattern: `http{s}?` for the protocol and anything for others, but for
 -- the component in which the texts are unlike those of a URL.

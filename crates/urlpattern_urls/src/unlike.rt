@@ -206,5 +206,9 @@ fn made_of(alloc: Global, parts: Vec<Part>) -> ComponentParts
         delimiter_code_point: Some('/'),
         ..Options::default(alloc)
     };
-    ComponentParts { options, parts }
+    ComponentParts {
+        options,
+        parts,
+        honours_case: true,
+    }
 }

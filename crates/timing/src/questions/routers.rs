@@ -6,8 +6,8 @@ use regex::Regex;
 use std::alloc::Global;
 use urlpattern::regexp::{PatternRegexp, RegExp};
 use urlpattern::{
-    Error, PathError, Routed, UrlPattern, UrlPatternInit, UrlPatternOptions, UrlPatternRouter,
-    pathname_texts,
+    Error, PathError, Routed, UrlPattern, UrlPatternCaptures, UrlPatternInit, UrlPatternOptions,
+    UrlPatternRouter, pathname_texts,
 };
 
 /// The methods of routes. The empty one stands for all methods.
@@ -22,7 +22,7 @@ const PIECES: [&str; 12] = [
 ];
 
 /// The pieces of the paths of requests.
-const STEPS: [&str; 9] = ["/a", "/b", "/c", "/1", "/2", "/users", "-b", "/x", "/"];
+const STEPS: [&str; 10] = ["/a", "/b", "/c", "/1", "/2", "/users", "-b", "/x", "/", "/\u{e9}"];
 
 /// The maximum number of routes in most routers.
 const FEW: usize = 10;
@@ -36,8 +36,8 @@ const REQUESTS: usize = 20;
 /// What a router returns, by the indices of routes.
 #[derive(Drop, PartialEq)]
 enum Found {
-    /// The index of the route that serves the request.
-    Route(usize),
+    /// The index of the route that serves the request, and what its groups capture.
+    Route(usize, String),
     /// The methods of the routes that match, joined by commas.
     Methods(String),
     /// No route matches.
@@ -144,8 +144,9 @@ fn by_router<E: RegExp>(
 ) -> Result<Found, Error> {
     match router.at(alloc, method, path) {
         Ok(Routed::Found(index, _, captures)) => {
+            let groups = groups_text(alloc, &captures);
             drop(captures);
-            Ok(Found::Route(index))
+            Ok(Found::Route(index, groups?))
         }
         Ok(Routed::MethodNotAllowed(methods)) => {
             let mut text = String::new(alloc);
@@ -169,13 +170,13 @@ fn by_loop<E: RegExp>(
 ) -> Result<Found, Error> {
     let is_head = router.head_as_get && method == "HEAD";
     if is_head {
-        if let Some((index, true)) = first_for(alloc, router, method, path)? {
-            return Ok(Found::Route(index));
+        if let Some((index, groups, true)) = first_for(alloc, router, method, path)? {
+            return Ok(Found::Route(index, groups));
         }
     }
     let method = if is_head { "GET" } else { method };
-    if let Some((index, _)) = first_for(alloc, router, method, path)? {
-        return Ok(Found::Route(index));
+    if let Some((index, groups, _)) = first_for(alloc, router, method, path)? {
+        return Ok(Found::Route(index, groups));
     }
     let mut is_matched = false;
     let mut text = String::new(alloc);
@@ -199,17 +200,38 @@ fn by_loop<E: RegExp>(
 }
 
 /// The index of the first route that takes a method and whose pattern matches a path, by a loop;
-/// and whether the route has a method.
+/// what its groups capture; and whether the route has a method.
 fn first_for<E: RegExp>(
     alloc: Global,
     router: &UrlPatternRouter<usize, E>,
     method: &str,
     path: &str,
-) -> Result<Option<(usize, bool)>, Error> {
+) -> Result<Option<(usize, String, bool)>, Error> {
     for (index, (pattern, route)) in router.iter().enumerate() {
-        if route.takes(method) && pattern.test_texts(alloc, &pathname_texts(path))? {
-            return Ok(Some((index, route.method.is_some())));
+        if !route.takes(method) {
+            continue;
+        }
+        if let Some(captures) = pattern.captures_of_texts(alloc, &pathname_texts(path))? {
+            let groups = groups_text(alloc, &captures);
+            drop(captures);
+            return Ok(Some((index, groups?, route.method.is_some())));
         }
     }
     Ok(None)
+}
+
+/// The name of each group of a match that took part, and its capture.
+fn groups_text(alloc: Global, captures: &UrlPatternCaptures<'_, '_>) -> Result<String, Error> {
+    let mut text = String::new(alloc);
+    for (component, name, capture) in captures.iter() {
+        if let Some(capture) = capture {
+            text.push_str(component.as_str())?;
+            text.push(' ')?;
+            text.push_str(name)?;
+            text.push('=')?;
+            text.push_str(capture)?;
+            text.push('\n')?;
+        }
+    }
+    Ok(text)
 }

@@ -11,8 +11,8 @@ use std::io::Write;
 use std::time::Clock;
 use urlpattern::regexp::PatternRegexp;
 use urlpattern::{
-    Error, PathError, Routed, UrlPattern, UrlPatternInit, UrlPatternList, UrlPatternOptions,
-    UrlPatternRouter, pathname_texts,
+    ComponentName, Error, PathError, Routed, UrlPattern, UrlPatternInit, UrlPatternList,
+    UrlPatternOptions, UrlPatternRouter, pathname_texts,
 };
 
 /// A list of routes.
@@ -47,6 +47,10 @@ enum Lookup {
     Alone,
     /// The `matchit::Router`.
     Matchit,
+    /// The first route for `GET` of the router, and the length of each capture.
+    AtRead,
+    /// The `matchit::Router`, and the length of each parameter.
+    MatchitRead,
 }
 
 /// Lookups of some paths of a table.
@@ -55,6 +59,22 @@ struct Lookups<'t> {
     table: &'t Table,
     paths: &'t [String],
     lookup: Lookup,
+}
+
+impl Lookup {
+    /// The call with a name.
+    fn named(name: &str) -> Option<Lookup> {
+        match name {
+            "at" => Some(Lookup::At),
+            "two" => Some(Lookup::AtOfTwo),
+            "first" => Some(Lookup::First),
+            "alone" => Some(Lookup::Alone),
+            "matchit" => Some(Lookup::Matchit),
+            "at-read" => Some(Lookup::AtRead),
+            "matchit-read" => Some(Lookup::MatchitRead),
+            _ => None,
+        }
+    }
 }
 
 impl<'t> Timed for Lookups<'t> {
@@ -86,6 +106,17 @@ impl<'t> Lookups<'t> {
                 None => Ok(false),
             },
             Lookup::Matchit => Ok(self.table.paths.at(path).is_ok()),
+            Lookup::AtRead => is_read(alloc, &self.table.router, path),
+            Lookup::MatchitRead => match self.table.paths.at(path) {
+                Ok(found) => {
+                    let mut length = 1;
+                    for (_, text) in found.params.iter() {
+                        length += text.len();
+                    }
+                    Ok(length > 0)
+                }
+                Err(_) => Ok(false),
+            },
         }
     }
 }
@@ -100,6 +131,25 @@ fn is_served(alloc: Global, router: &Routes, path: &str) -> Result<bool, Error> 
     let is_served = matches!(routed, Routed::Found(..));
     drop(routed);
     Ok(is_served)
+}
+
+/// Whether a route of a router serves the method `GET` and matches a path; reads each capture of
+/// the path.
+fn is_read(alloc: Global, router: &Routes, path: &str) -> Result<bool, Error> {
+    let routed = match router.at(alloc, "GET", path) {
+        Ok(routed) => routed,
+        Err(PathError::NotAPath) => return Ok(false),
+        Err(PathError::OutOfMemory) => return Err(Error::OutOfMemory),
+    };
+    let mut length = 0;
+    if let Routed::Found(_, _, captures) = &routed {
+        length = 1;
+        for (_, text) in captures.groups(ComponentName::Pathname) {
+            length += text.map_or(0, |text| text.len());
+        }
+    }
+    drop(routed);
+    Ok(length > 0)
 }
 
 /// A pattern of a path alone.
@@ -201,10 +251,12 @@ fn time_table<R: AllocGlobal + Clock, O: Write>(
             write!(out, "{name}\t{}", table.list.len())?;
             for lookup in [
                 Lookup::At,
+                Lookup::AtRead,
                 Lookup::AtOfTwo,
                 Lookup::First,
                 Lookup::Alone,
                 Lookup::Matchit,
+                Lookup::MatchitRead,
             ] {
                 write!(out, "\t{}", mean(rt, &table, &table.hits, lookup)?)?;
             }
@@ -227,11 +279,42 @@ fn time_table<R: AllocGlobal + Clock, O: Write>(
 pub fn run<R: AllocGlobal + Clock, O: Write>(rt: &R, text: &str, out: &mut O) -> io::Result<()> {
     writeln!(
         out,
-        "paths\troutes\tat\tat of two methods\tfirst_captures_of_path\tcaptures_of_texts alone\tmatchit\tnone: at\tat of two methods\tfirst_captures_of_path\tmatchit"
+        "paths\troutes\tat\tcaptures read\tat of two methods\tfirst_captures_of_path\tcaptures_of_texts alone\tmatchit\tcaptures read\tnone: at\tat of two methods\tfirst_captures_of_path\tmatchit"
     )?;
     time_table(rt, "given", lines_of(rt.alloc(), text), out)?;
     for size in SIZES {
         time_table(rt, "made", made_routes(rt.alloc(), size), out)?;
     }
     Ok(())
+}
+
+/// Repeats the lookup with a name, for a tool that counts instructions: of a path for each route of
+/// a text, or of as many made routes as its line says, or of paths that no route matches if
+/// `is_missing`. Returns whether there is such a lookup.
+pub fn repeat(
+    alloc: Global,
+    text: &str,
+    lookup: &str,
+    is_missing: bool,
+    count: u64,
+) -> Result<bool, Error> {
+    let Some(lookup) = Lookup::named(lookup) else {
+        return Ok(false);
+    };
+    let routes = match text.trim().parse::<usize>() {
+        Ok(size) => made_routes(alloc, size)?,
+        Err(_) => lines_of(alloc, text)?,
+    };
+    let table = table_of(alloc, &routes)?;
+    let paths = if is_missing { &table.misses } else { &table.hits };
+    let lookups = Lookups {
+        table: &table,
+        paths,
+        lookup,
+    };
+    for _ in 0..count {
+        lookups.call(alloc)?;
+    }
+    drop(table);
+    Ok(true)
 }

@@ -65,8 +65,4 @@ impl<'m, 'u, T, R: RegExp> Iterator for UrlPatternMapMatches<'m, 'u, T, R> {
             }
         }
     }
-
-    fn size_hint(&self) -> (usize, Option<usize>) {
-        (0, None)
-    }
 }

@@ -82,7 +82,7 @@ impl<T, R: RegExp> UrlPatternRouter<T, R> {
     }
 
     /// Whether the method is `HEAD`, and is served by routes for `GET`.
-    fn is_head(&self, method: &str) -> bool
+    pub(super) fn is_head(&self, method: &str) -> bool
         ensures { IsTrue result ↔ IsHead self.now (chars method.now) }
     {
         if !self.head_as_get {

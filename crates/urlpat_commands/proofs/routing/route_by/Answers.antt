@@ -10,9 +10,9 @@ use Rattle.urlpat_commands.proofs.routing.route_by.Goals as goal
 pub returns-clause-answers : goal.returns-clause-answers
 returns-clause-answers g c = λ answered. (
   c.in-Some-routes_of.routes,
-  subst (λ (entries : List EntryView). AreRoutesOf c.args.flags.ignore_case (option_copied c.args.base) entries c.in-Some-routes_of.routes)
+  subst (λ (entries : List EntryView). AreRoutesOf c.args.flags.ignore_case (option_copied c.args.asked.base) entries c.in-Some-routes_of.routes)
       (ap entries_view c.deref.ensures.value ∙ c.in-Some.ensures.entries) c.in-Some-routes_of.ensures,
-  subst (λ (base : BaseView). Filters (IsLineAnswered c.args.flags.json c.in-Some-routes_of.routes base) Line c.write_answers-status.result
+  subst (λ (base : BaseView). Filters (IsLineAnswered c.args.flags.json c.in-Some-routes_of.routes base) c.args.asked.style Line c.write_answers-status.result
       (g.In.Read.remaining c.args.input.now) (g.Out.Write.contents c.args.out.now) (g.Out.Write.contents c.write_answers-status.new.out))
       c.in-Ok.ensures.read (c.write_answers-status.ensures.written answered),
 )

@@ -1,7 +1,7 @@
 use Rattle.std.proofs.Common.{◌≡◌, subst}
 use Rattle.std.specs.Prelude.{IfNone, IfOk, IfSome}
 use Rattle.urlpattern_compare.proofs.CommonLemmas.{automaton_found, lacks_by}
-use Rattle.urlpattern_compare.specs.Making.{HasManyStates, made, made_view}
+use Rattle.urlpattern_compare.specs.Making.{HasManyStates, IsMadeOf}
 use Rattle.urlpattern_syntax.specs.Options.{options_view}
 use Rattle.urlpattern_syntax.specs.Parts.{parts_view}
 use Rattle.urlpattern_compare.proofs.common_texts.automaton_of.Goals as goal
@@ -11,7 +11,7 @@ returns-in-None c =
     let component = c.args.component.now in
     let options = options_view component.options in
     automaton_found component c.make.result c.in-None.ensures.known
-    (subst (λ l. IfOk c.make.result (λ found. IfSome found (λ automaton. made_view automaton ≡ made options (parts_view l)))) c.deref.ensures.value c.make.ensures.made)
+    (subst (λ l. IfOk c.make.result (λ found. IfSome found (IsMadeOf options (parts_view l)))) c.deref.ensures.value c.make.ensures.made)
     (subst (λ l. IfOk c.make.result (λ found. IfNone found (HasManyStates options (parts_view l)))) c.deref.ensures.value c.make.ensures.many)
 
 pub returns-in-Some : goal.returns-in-Some

@@ -1,15 +1,21 @@
-use Rattle.std.proofs.Common.{◌≡◌, ◌∙◌, false, true, sym, subst}
-use Rattle.std.specs.List.{list_any}
-use Rattle.urlpattern_compare.specs.Answers.{is_custom_part}
-use Rattle.urlpattern_compare.proofs.AnswerLemmas.{custom, generated}
+use Rattle.std.proofs.Common.{◌∙◌, sym, subst}
+use Rattle.urlpattern_compare.proofs.ComponentLemmas.{missed_unknown, untold_unknown}
+use Rattle.urlpattern_compare.specs.Answers.{IsUntold}
+use Rattle.urlpattern_meaning.specs.PartMeaning.{AreGenerated}
+use Rattle.urlpattern_syntax.specs.Options.{options_view}
+use Rattle.urlpattern_syntax.specs.Parts.{parts_view}
 use Rattle.urlpattern_compare.proofs.component_coverage.unknown.Goals as goal
 
-pub returns-then-has_custom-clause-reason : goal.returns-then-has_custom-clause-reason
-returns-then-has_custom-clause-reason c =
-    custom c.args.component.now.parts.items (subst (λ l. list_any is_custom_part l ≡ true) c.deref.ensures.value (sym c.has_custom.ensures ∙ c.if-has_custom.true))
+pub returns-then-misses_case-clause-reason : goal.returns-then-misses_case-clause-reason
+returns-then-misses_case-clause-reason c = missed_unknown c.args.component.now (sym c.misses_case.ensures ∙ c.if-misses_case.true)
 
-pub returns-clause-known : goal.returns-clause-known
-returns-clause-known c = record {
-  generated = generated c.args.component.now.parts.items (subst (λ l. list_any is_custom_part l ≡ false) c.deref.ensures.value (sym c.has_custom.ensures ∙ c.if-has_custom.false));
-  case_kept = c.if-component.false;
+pub returns-in-Some-clause-reason : goal.returns-in-Some-clause-reason
+returns-in-Some-clause-reason c =
+    untold_unknown c.args.component.now c.in-Some.reason
+    (subst (λ parts. IsUntold (options_view c.args.component.now.options) (parts_view parts) c.in-Some.reason) c.deref.ensures.value c.in-Some.ensures.reason)
+
+pub returns-in-None-clause-known : goal.returns-in-None-clause-known
+returns-in-None-clause-known c = record {
+  generated = subst (λ parts. AreGenerated (parts_view parts)) c.deref.ensures.value c.in-None.ensures.told;
+  case = sym c.misses_case.ensures ∙ c.if-misses_case.false;
 }

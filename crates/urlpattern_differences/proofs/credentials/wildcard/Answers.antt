@@ -1,4 +1,4 @@
-use Rattle.std.proofs.Common.{List, ◌∙◌, ◌++◌, ◌∷◌, [], ap}
+use Rattle.std.proofs.Common.{List, ◌∙◌, ◌++◌, ◌∷◌, [], ap, refl}
 use Rattle.urlpattern_syntax.proofs.StringTexts.{text-nil}
 use Rattle.urlpattern_syntax.specs.Parts.{parts_view}
 use Rattle.urlpattern_syntax.specs.declared.parser.Part.{Part}
@@ -23,4 +23,5 @@ returns c =
       options = c.default.ensures;
       parts = ap parts_view (c.in_ok-push.ensures.items ∙ ap (λ (list : List Part). list ++ part ∷ []) c.new-parts.ensures.items)
           ∙ (λ i. record { kind = c.args.kind; value = value i; modifier = PartModifier.None; name = name i; prefix = prefix i; suffix = suffix i } ∷ []);
+      case = refl;
     }

@@ -19,4 +19,5 @@ returns-clause-compiled g c =
       options_are = refl;
       reads = rw (← text) c.in_ok-parts.ensures.reads;
       is_made = subst (λ parts. IsComponentOf g.R.RegExp (options_view c.args.options) (map part_view parts) (component_view c.in_ok-component.component)) c.deref.ensures.value c.in_ok-component.ensures.made;
+      case = c.honours_case-honours.ensures;
     }

@@ -4,7 +4,7 @@ use Rattle.std.specs.Prelude.{IfSome}
 use Rattle.std.specs.Str.{chars}
 use Rattle.urlpattern_components.specs.declared.eight.ComponentName.TheVariants.{Protocol}
 use Rattle.urlpattern_generate.specs.WriteSettings.{given_groups}
-use Rattle.urlpattern_pattern.proofs.EncodedLinkLemmas.{none_changed}
+use Rattle.urlpattern_pattern.proofs.EncodedLinkLemmas.{first_changed, none_changed}
 use Rattle.urlpattern_pattern.specs.EncodedLinks.{IsChangedIn, IsFirstChanged}
 use Rattle.urlpattern_pattern.specs.Patterns.{pattern_view}
 use Rattle.urlpattern_syntax.specs.Text.{option_text}
@@ -14,9 +14,16 @@ pub returns-in-Some-2 : goal.returns-in-Some-2
 returns-in-Some-2 g c =
     let pattern = pattern_view c.args.self.now in
     let groups = given_groups c.args.groups.now in
-    let component = get_or c.all-component-items.result c.loop-component.component-index Protocol in
-    subst (λ of. IfSome of (λ own. IsChangedIn pattern own groups component (Some (chars c.in-Some-2.name.now)))) c.in-Some.ensures.parts
-    (subst (λ found. IsChangedIn pattern c.in-Some.parts.now groups component (option_text found)) c.in-Some-2.is c.in_ok-name.ensures)
+    let parts = c.in-Some.parts.now in
+    let names = c.all-component-items.result in
+    let i = c.loop-component.component-index in
+    let component = get_or names i Protocol in
+    let name = chars c.in-Some-2.name.now in
+    let eight : length names ≡ 8 = ap length c.all-component-items.ensures in
+    let within : i < length names = omega arith in
+    subst (λ of. IfSome of (λ own. IsFirstChanged pattern own groups (Some (component, name)))) c.in-Some.ensures.parts
+    (first_changed pattern parts groups names c.all-component-items.ensures i within c.loop-component.invariant name
+    (subst (λ found. IsChangedIn pattern parts groups component (option_text found)) c.in-Some-2.is c.in_ok-name.ensures))
 
 pub loop-component-preserved : goal.loop-component-preserved
 loop-component-preserved g c =

@@ -1,0 +1,4 @@
+pub mod PathAloneLemmas
+pub mod PathExamples
+pub mod PathLaws
+pub mod PathMatchers

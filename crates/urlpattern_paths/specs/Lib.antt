@@ -1,0 +1,2 @@
+pub mod PathCaptures
+pub mod PathsAlone
