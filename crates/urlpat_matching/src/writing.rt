@@ -36,8 +36,8 @@ pub fn write_answers<In: BufRead, Out: Write, Err: Write, R: Rule>(
 }
 
 /// Writes the count, if lines are counted, and reports how many lines were not URLs or were
-/// rejected. Returns the exit status: `NO_MATCH` if no line is selected, and `FAILED` if memory ran
-/// out, which is reported, or the output failed.
+/// rejected. Returns the exit status: `NO_MATCH` if no line is selected, and `FAILED` if the output
+/// failed.
 fn finish<Out: Write, Err: Write>(
     alloc: Global,
     style: LineStyle<'_>,
@@ -56,15 +56,7 @@ fn finish<Out: Write, Err: Write>(
             report_tally(tally, style, err);
             status_of(tally.selected > 0)
         }
-        Err(error) => report_fault(&fault_of(error), style, err),
-    }
-}
-
-/// Why the count is not written: memory ran out, or the output failed.
-fn fault_of(error: io::Error) -> LinesError {
-    match error.kind() {
-        io::ErrorKind::OutOfMemory => LinesError::OutOfMemory,
-        _ => LinesError::Write,
+        Err(_) => FAILED,
     }
 }
 

@@ -35,7 +35,9 @@ use std::alloc::Global;
 use std::marker::Model;
 use std::slice;
 pub use unreached::unreachable_patterns_are_never_first;
-pub(crate) use unreached::{push_automata, reach_of_all};
+pub(crate) use unreached::{
+    automata_of_each, error_without_memory, push_automata, reach_of_all, references,
+};
 use url::{Url, quirks};
 use urlpattern_index::{Address, AddressHashes, Index};
 use urlpattern_init::UrlPatternMatchInput;
@@ -176,6 +178,13 @@ impl<R: RegExp> UrlPatternList<R> {
         ensures { option_copied result ≡ slice_get self.now index }
     {
         self.patterns.get(index)
+    }
+
+    /// The patterns, in order.
+    pub(crate) fn as_slice(&self) -> &[UrlPattern<R>]
+        ensures { result.now ≡ self.now }
+    {
+        self.patterns.as_slice()
     }
 
     /// Iterates over the patterns, in order.
