@@ -46,8 +46,8 @@
  * the buffer is as it was; `needed` is how many bytes the text has. For TOO_SMALL `needed` is
  * that too, and the buffer is as it was. For each other status the buffer is as it was, and
  * `needed` is unspecified. So it is of each call but those that write captures: for TOO_SMALL
- * their buffer and array are unspecified, for OUT_OF_MEMORY `needed` and `index` too, but nothing
- * is written past the sizes.
+ * their buffer and array are unspecified, but nothing is written past the sizes. (That holds for
+ * OUT_OF_MEMORY too, if the captures have 2^64 bytes or more, and `index` is then the match's.)
  */
 #ifndef URLPATTERN_H
 #define URLPATTERN_H
@@ -193,9 +193,8 @@ typedef struct urlpattern_sizes {
  * order of their numbers. The rest of both is as it was.
  * DONE, NO_MATCH, NO_URL, TOO_LONG, NOT_UTF8, OUT_OF_MEMORY, NO_PATTERN, or TOO_SMALL (the buffer
  * or the array is). For DONE and TOO_SMALL `needed` is how many bytes and spans there are; for
- * the others it is unspecified. For TOO_SMALL and OUT_OF_MEMORY anything may be in the buffer and
- * in the array, though nothing is written past their sizes; for the others they are as they were.
- * */
+ * the others it is unspecified. For TOO_SMALL anything may be in the buffer and in the array,
+ * though nothing is written past their sizes; for the others they are as they were. */
 urlpattern_status urlpattern_captures(urlpattern_list *patterns, size_t index, const char *url,
                                       size_t length, const char *base, size_t base_length,
                                       char *buffer, size_t room, urlpattern_span *spans,
@@ -204,8 +203,7 @@ urlpattern_status urlpattern_captures(urlpattern_list *patterns, size_t index, c
 /* Finds the first pattern that matches a URL, and writes its index, and its groups as
  * `urlpattern_captures` does.
  * DONE, NO_MATCH, NO_URL, TOO_LONG, NOT_UTF8, OUT_OF_MEMORY, NO_PATTERN (none is there), or
- * TOO_SMALL. For DONE and TOO_SMALL `index` is written; for OUT_OF_MEMORY it may be, to whichever
- * number; for the others it is as it was.
+ * TOO_SMALL. For DONE and TOO_SMALL `index` is written; for the others it is as it was.
  * The buffer, the array and `needed` are as `urlpattern_captures` leaves them. */
 urlpattern_status urlpattern_first_captures(urlpattern_list *patterns, const char *url,
                                             size_t length, const char *base, size_t base_length,

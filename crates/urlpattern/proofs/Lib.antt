@@ -16,4 +16,7 @@ pub mod RouteExamples
 pub mod RouteReachLemmas
 pub mod ListedParts
 pub mod ReachedLaws
+pub mod ConflictLemmas
 pub mod ContentionLemmas
+pub mod UnreachedRoutes
+pub mod ConflictExamples

@@ -1,8 +1,10 @@
 -- Lemmas on routes whose pattern is one of a path alone.
-use Rattle.std.proofs.Common.{Bool, true, false, ◌≡◌, ℕ, List, inl, inr, length, subst, sym, ◌∙◌}
-use Rattle.std.proofs.lemmas.Option.{same_Some, slice_get_within}
+use Rattle.std.proofs.Common.{Bool, true, false, ◌≡◌, ℕ, List, ap, inl, inr, length, subst, sym, ◌∙◌}
+use Rattle.std.proofs.lemmas.Option.{same_Some, slice_get-map, slice_get_within}
 use Rattle.std.specs.Borrow.{Bor}
-use Rattle.std.specs.Prelude.{Option, Some, slice_get, ◌&&◌}
+use Rattle.std.specs.Map.{keys_of}
+use Rattle.std.specs.Prelude.{Option, Some, option_map, slice_get, ◌&&◌}
+use Rattle.urlpattern.specs.PatternKeys.{IsReadByPartsAt}
 use Rattle.urlpattern.specs.QuickRoutes.{Any, IsPassed, IsQuick, IsQuickAt, quick_end}
 use Rattle.urlpattern.specs.Routes.{IsHead, IsRouted, NoneMatches, NoneServesAt, NoneServesBefore, Routes, Takes}
 use Rattle.urlpattern.specs.declared.router.UrlPatternRouter.{UrlPatternRouter}
@@ -16,6 +18,7 @@ use Rattle.urlpattern_matches.specs.MatchInput.{pathname_alone}
 use Rattle.urlpattern_matches.specs.declared.captures.GroupCaptures.{GroupCaptures}
 use Rattle.urlpattern_matches.specs.declared.captures.UrlPatternCaptures.{UrlPatternCaptures}
 use Rattle.urlpattern_meaning.specs.PartMeaning.{Captures}
+use Rattle.urlpattern_paths.specs.PathsAlone.{IsReadByParts}
 use Rattle.urlpattern_pattern.specs.Match.{AreGroupsInOrder, IsMatchOf}
 use Rattle.urlpattern_pattern.specs.Patterns.{pattern_view}
 use Rattle.urlpattern_pattern.specs.UrlPatterns.{UrlPattern}
@@ -27,6 +30,11 @@ module _ {E T : Type 0} (answer : E → List ℕ → Option Captures) where
   next-passed routes Is texts index true true passed none is = (none is, passed.1 is)
   next-passed routes Is texts index true false passed none is = absurd cc
   next-passed routes Is texts index false unmatched passed none is = absurd cc
+
+  -- The pattern of a route is read by its parts, where that of its index is.
+  pub read-at : (routes : Routes E T) (index : ℕ) (pattern : UrlPattern E) (route : Route T) → IsReadByPartsAt answer (keys_of routes) index → Some (pattern, route) ≡ slice_get routes index
+      → IsReadByParts answer pattern
+  read-at routes index pattern route read is = read pattern (slice_get-map (λ (one : UrlPattern E × Route T). one.0) routes index ∙ ap (option_map (λ (one : UrlPattern E × Route T). one.0)) (sym is))
 
   -- A route for which `Is` does not hold.
   pub refused-at : (routes : Routes E T) (Is : Route T → Type 0) (texts : Texts) (pattern : UrlPattern E) (route : Route T) (index : ℕ) → Some (pattern, route) ≡ slice_get routes index → ¬ Is route

@@ -60,7 +60,7 @@ module _ {E : Type 0} (engine : Engine E) where
   IsMeaningOf Holds it = (view : PatternView E) × AreMadeOfParts engine it.parts view × ((name : ComponentName) (text : List ℕ) → it.means name text ≡ matches view name text) × Holds view
 
   -- A pattern for which `Holds` is was made of the parts.
-  abbrev HasView : (Holds : PatternView E → Type 0) → PatternAutomata → Type 0
+  abbrev pub HasView : (Holds : PatternView E → Type 0) → PatternAutomata → Type 0
   HasView Holds it = (view : PatternView E) × AreMadeOfParts engine it.parts view × Holds view
 
   by_result : (matcher : MatcherView E) (text : List ℕ) (found : Option Captures) → Returns engine.answer matcher text found → IsTrue (is_some found) ↔ IsMatched engine.answer matcher text
@@ -146,7 +146,7 @@ module _ {E : Type 0} (engine : Engine E) where
         (λ it is each. is.3 (λ name. (matches_are is.0 name (texts name)).0 (sym (is.2 name (texts name)) ∙ each name))) none are
 
     -- Of patterns that cover another one, not all fail to match what it matches.
-    some_match : (some : List PatternAutomata) (asked : PatternAutomata) (texts : TextAt) → AreCovering some asked → AreLines texts → HasView (Matches texts) asked
+    pub some_match : (some : List PatternAutomata) (asked : PatternAutomata) (texts : TextAt) → AreCovering some asked → AreLines texts → HasView (Matches texts) asked
         → ¬ All (HasView (λ view. ¬ Matches texts view)) some
     some_match some asked texts cover lines has fail =
         let Own : PatternView E → Type 0 = Matches texts in

@@ -18,7 +18,7 @@ use Rattle.urlpattern_compare.specs.declared.pattern_parts.PatternParts.{Pattern
 use Rattle.urlpattern_matcher.specs.declared.regexp.RegExp.{Ghosts as Engine}
 use Rattle.urlpattern_pattern.specs.UrlPatterns.{UrlPattern}
 
-ascending-last : (indices : List ℕ) (last : ℕ) → AreAscending indices → All (λ index. index < last) indices → AreAscending (indices ++ last ∷ [])
+pub ascending-last : (indices : List ℕ) (last : ℕ) → AreAscending indices → All (λ index. index < last) indices → AreAscending (indices ++ last ∷ [])
 ascending-last [] last are below = (All-nil (λ other. last < other), tt)
 ascending-last (index ∷ others) last (less, are) below = (
   All-append (λ other. index < other) others (last ∷ []) less

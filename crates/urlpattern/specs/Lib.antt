@@ -105,6 +105,7 @@ pub use Rattle.urlpattern_syntax.specs.declared.error.ParserError
 pub use Rattle.urlpattern_syntax.specs.declared.parser.Options as ParserOptions
 pub use Rattle.urlpattern_syntax.specs.declared.parser.Part
 pub use Rattle.urlpattern_syntax.specs.declared.parser.RegexSyntax
+pub mod Conflicts
 pub mod Contending
 pub mod Copies
 pub mod FirstMatch

@@ -23,7 +23,8 @@ pub use map::{UrlPatternMap, UrlPatternMapIter, UrlPatternMapMatches};
 pub use path::is_path;
 pub use path_error::PathError;
 pub use router::{
-    AllowedMethods, Route, RouteContentions, RouteError, RouteReaches, Routed, UrlPatternRouter,
+    AllowedMethods, Route, RouteConflicts, RouteContentions, RouteError, RouteReaches, Routed,
+    Unreached, UnreachedRoute, UrlPatternRouter,
 };
 pub use urlpattern_canonical::canonicalize_and_process;
 pub use urlpattern_components::{ComponentName, Eight};

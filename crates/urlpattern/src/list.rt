@@ -6,12 +6,12 @@
 //! patterns that do not match.
 ghost use Rattle.std.specs.Iterator.Adapters.{IterYieldsInOrder};
 ghost use Rattle.std.specs.List.{remove};
-ghost use Rattle.std.specs.Prelude.{◌≡◌, ◌==◌, ◌++◌, ◌<◌, [], ◌∷◌, length, option_copied, slice_get, IfErr, IfOk, OnErr, OnOk};
+ghost use Rattle.std.specs.Prelude.{◌≡◌, ◌==◌, ◌++◌, ◌<◌, [], ◌∷◌, length, option_copied, slice_get, IfErr, IfOk, IsTrue, OnErr, OnOk};
 ghost use Rattle.std.specs.Slice.Iter.{iter_rest};
 ghost use Rattle.urlpattern_init.specs.Inheritance.{texts_of_url};
 ghost use Rattle.urlpattern_init.specs.declared.init.UrlPatternMatchInput.TheVariants as inputs;
 ghost use Rattle.urlpattern.specs.FirstMatch.{first_captures_view, first_view, patterns_view, CopiesFirstMatch, HasGroupsInOrder, IsFirstMatch, CallsEngineBeforeMatch};
-ghost use Rattle.urlpattern.specs.PatternKeys.{address_of};
+ghost use Rattle.urlpattern.specs.PatternKeys.{address_of, IsReadByPartsAt};
 ghost use Rattle.urlpattern_index.specs.FixedTexts.{address_texts};
 ghost use Rattle.urlpattern_index.specs.Keys.{hashes_of, hashes_view};
 ghost use Rattle.urlpattern.specs.NextMatch.{matches_left, CallsEngineBeforeMatchFrom, IsFirstCapturedFrom};
@@ -35,7 +35,9 @@ use std::alloc::Global;
 use std::marker::Model;
 use std::slice;
 pub use unreached::unreachable_patterns_are_never_first;
-pub(crate) use unreached::{push_automata, reach_of_all};
+pub(crate) use unreached::{
+    automata_of_each, error_without_memory, push_automata, reach_of_all, references,
+};
 use url::{Url, quirks};
 use urlpattern_index::{Address, AddressHashes, Index};
 use urlpattern_init::UrlPatternMatchInput;
@@ -43,6 +45,7 @@ use urlpattern_matcher::regexp::RegExp;
 use urlpattern_matches::{
     UrlPatternCaptures, UrlPatternResult, input_texts, parse_match_input, url_texts,
 };
+use urlpattern_paths::is_read_by_parts;
 use urlpattern_pattern::UrlPattern;
 use urlpattern_syntax::Error;
 
@@ -60,6 +63,8 @@ pub struct UrlPatternList<R: RegExp = regex::Regex> {
     patterns: Vec<UrlPattern<R>>,
     /// Finds the patterns that can match a URL, by its protocol, hostname and path.
     index: Index,
+    /// For each pattern, whether it is known to be read by its parts.
+    are_read_by_parts: Vec<bool>,
 }
 
 impl<R: RegExp> Drop for UrlPatternList<R> {
@@ -69,20 +74,22 @@ impl<R: RegExp> Drop for UrlPatternList<R> {
         let Self {
             patterns: _patterns,
             index: _index,
+            are_read_by_parts: _are_read_by_parts,
         } = self;
     }
 }
 
 impl<R: RegExp> Model for UrlPatternList<R> {
     ghost use Rattle.std.specs.Prelude.{List};
-    ghost use Rattle.urlpattern.specs.PatternKeys.{AreIndexed};
+    ghost use Rattle.urlpattern.specs.PatternKeys.{AreIndexed, AreMarked};
     ghost use Rattle.urlpattern_pattern.specs.UrlPatterns.{UrlPattern};
 
     ghost Value = { List (UrlPattern R) };
 
     ghost view = { λ list. list.patterns.items };
 
-    ghost invariant = { λ list. AreIndexed R.answer list.patterns.items list.index };
+    ghost invariant = { λ list. AreIndexed R.answer list.patterns.items list.index
+        × AreMarked R.answer list.patterns.items list.are_read_by_parts.items };
 }
 
 impl<R: RegExp> UrlPatternList<R> {
@@ -93,6 +100,7 @@ impl<R: RegExp> UrlPatternList<R> {
         Self {
             patterns: Vec::new(alloc),
             index: Index::new(alloc),
+            are_read_by_parts: Vec::new(alloc),
         }
     }
 
@@ -105,6 +113,7 @@ impl<R: RegExp> UrlPatternList<R> {
         Ok(Self {
             patterns: Vec::with_capacity(alloc, capacity)?,
             index: Index::new(alloc),
+            are_read_by_parts: Vec::new(alloc),
         })
     }
 
@@ -119,9 +128,17 @@ impl<R: RegExp> UrlPatternList<R> {
         let Ok(()) = self.patterns.reserve(1) else {
             return Err(pattern);
         };
+        let Ok(()) = self.are_read_by_parts.reserve(1) else {
+            return Err(pattern);
+        };
+        let is_read = is_read_by_parts(&pattern);
         let Ok(()) = self.index.push(fixed_of(&pattern)) else {
             return Err(pattern);
         };
+        match self.are_read_by_parts.push(is_read) {
+            Ok(()) => {}
+            Err(_) => unreachable!(),
+        }
         match self.patterns.push(pattern) {
             Ok(()) => Ok(()),
             Err(_) => unreachable!(),
@@ -154,6 +171,7 @@ impl<R: RegExp> UrlPatternList<R> {
             return None;
         }
         self.index.remove(index);
+        self.are_read_by_parts.remove(index);
         Some(self.patterns.remove(index))
     }
 
@@ -176,6 +194,24 @@ impl<R: RegExp> UrlPatternList<R> {
         ensures { option_copied result ≡ slice_get self.now index }
     {
         self.patterns.get(index)
+    }
+
+    /// The patterns, in order.
+    pub(crate) fn as_slice(&self) -> &[UrlPattern<R>]
+        ensures { result.now ≡ self.now }
+    {
+        self.patterns.as_slice()
+    }
+
+    /// Whether the pattern at an index is known to be read by its parts, without a look at it.
+    #[inline(always)]
+    pub(crate) fn is_read_by_parts(&self, index: usize) -> bool
+        ensures { IsTrue result → IsReadByPartsAt R.answer self.now index }
+    {
+        if index >= self.are_read_by_parts.len() {
+            return false;
+        }
+        self.are_read_by_parts[index]
     }
 
     /// Iterates over the patterns, in order.

@@ -150,6 +150,13 @@ impl<T, R: RegExp> UrlPatternMap<T, R> {
         }
     }
 
+    /// The patterns, in order.
+    pub(crate) fn patterns(&self) -> &[UrlPattern<R>]
+        ensures { result.now ≡ keys_of self.now }
+    {
+        self.patterns.as_slice()
+    }
+
     /// Iterates over the patterns, in order, each with its value.
     pub fn iter(&self) -> UrlPatternMapIter<'_, T, R>
         ensures rest { result ≡ self.now }

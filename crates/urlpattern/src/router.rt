@@ -13,12 +13,14 @@ ghost use Rattle.urlpattern_syntax.specs.Errors.{OnlyOutOfMemory};
 ghost use Rattle.urlpattern_syntax.specs.Text.{option_text};
 
 mod allowed_methods;
+mod check;
 mod contending;
 mod copy;
 mod named;
 mod quick;
 mod reach;
 mod route;
+mod route_conflicts;
 mod route_contentions;
 mod route_error;
 mod route_reaches;
@@ -29,9 +31,11 @@ use crate::map::UrlPatternMap;
 use crate::path::{is_path, is_plain_path};
 use crate::path_error::PathError;
 pub use allowed_methods::AllowedMethods;
+pub use check::unreached_routes_serve_nothing;
 use http_header::is_token;
 pub use reach::covered_routes_serve_nothing;
 pub use route::Route;
+pub use route_conflicts::{RouteConflicts, Unreached, UnreachedRoute};
 pub use route_contentions::RouteContentions;
 pub use route_error::RouteError;
 pub use route_reaches::RouteReaches;
@@ -96,8 +100,9 @@ impl<T, R: RegExp> UrlPatternRouter<T, R> {
     }
 
     /// Returns what the router has for a request with this method and a text that may be a path, as
-    /// `at` does.
-    #[inline(never)]
+    /// `at` does. The variables that it needs are initialized only for such a text, since it is
+    /// inlined.
+    #[inline(always)]
     fn at_any_path<'m, 'u>(
         &'m self,
         alloc: Global,

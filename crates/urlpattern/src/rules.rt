@@ -7,7 +7,7 @@
 
 pub use crate::contention::{Contended, Contention, ContentionDoubt, contending};
 pub use crate::list::{contending_patterns_match, unreachable_patterns_are_never_first};
-pub use crate::router::covered_routes_serve_nothing;
+pub use crate::router::{covered_routes_serve_nothing, unreached_routes_serve_nothing};
 pub use urlpattern_compare::common_laws::{meanings_exist, small_questions_have_results};
 pub use urlpattern_compare::comparing_laws::{
     decided_comparisons_are_known, small_components_are_compared,

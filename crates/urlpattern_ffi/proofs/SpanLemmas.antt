@@ -125,7 +125,7 @@ component_more groups names i d within =
 pub url_captured : (pattern : PatternView PatternRegexp) (url base : List ℕ) (groups : List NumberedGroup) (old new : List ℕ) (old_spans new_spans : List GroupSpan) (needed : Sizes) (status : Status)
     → AreGroupsOf pattern url base groups → AreSpansWritten groups old new old_spans new_spans needed status → AreUrlCaptures pattern url base old new old_spans new_spans needed status
 url_captured pattern url base groups old new old_spans new_spans needed statuses.Done are written = (groups, are, written)
-url_captured pattern url base groups old new old_spans new_spans needed statuses.OutOfMemory are written = tt
+url_captured pattern url base groups old new old_spans new_spans needed statuses.OutOfMemory are written = inr (groups, are, written)
 url_captured pattern url base groups old new old_spans new_spans needed statuses.TooSmall are written = (groups, are, written)
 url_captured pattern url base groups old new old_spans new_spans needed status are written = absurd written
 
@@ -139,6 +139,6 @@ pub first_captured : (patterns : PatternList) (url base : List ℕ) (old_index i
     → AreFirstGroupsOf patterns url base index groups → AreSpansWritten groups old new old_spans new_spans needed status
     → AreFirstCaptures patterns url base old_index index old new old_spans new_spans needed status
 first_captured patterns url base old_index index groups old new old_spans new_spans needed statuses.Done are written = (groups, are, written)
-first_captured patterns url base old_index index groups old new old_spans new_spans needed statuses.OutOfMemory are written = tt
+first_captured patterns url base old_index index groups old new old_spans new_spans needed statuses.OutOfMemory are written = inr (groups, are, written)
 first_captured patterns url base old_index index groups old new old_spans new_spans needed statuses.TooSmall are written = (groups, are, written)
 first_captured patterns url base old_index index groups old new old_spans new_spans needed status are written = absurd written

@@ -153,9 +153,9 @@ AreSpansWritten groups old new old_spans new_spans needed status = ⊥
 -- ---- matches
 
 -- The outcome of writing the groups of the pattern's match of the URL `url` with the base URL
--- `base`. `Done`, `TooSmall`: there is a match, as in `AreSpansWritten`. `OutOfMemory` says
--- nothing. Any other status says why there is no match (`IsUrlTested`), and the buffers are
--- unchanged.
+-- `base`. `Done`, `TooSmall`: there is a match, as in `AreSpansWritten`. Any other status says why
+-- there is no match (`IsUrlTested`), and the buffers are unchanged; or it is `OutOfMemory`, and the
+-- groups need more room than a size can say.
 abbrev pub AreUrlCaptures : PatternView PatternRegexp → (url base : List ℕ) → (old new : List ℕ)
     → (old_spans new_spans : List GroupSpan) → (needed : Sizes)
     → Status → Type 0
@@ -165,7 +165,10 @@ AreUrlCaptures pattern url base old new old_spans new_spans needed statuses.Done
 AreUrlCaptures pattern url base old new old_spans new_spans needed statuses.TooSmall =
     (groups : List NumberedGroup) × AreGroupsOf pattern url base groups
     × AreSpansWritten groups old new old_spans new_spans needed statuses.TooSmall
-AreUrlCaptures pattern url base old new old_spans new_spans needed statuses.OutOfMemory = Unit {0}
+AreUrlCaptures pattern url base old new old_spans new_spans needed statuses.OutOfMemory =
+    ((new ≡ old) × (new_spans ≡ old_spans))
+    ⊎ ((groups : List NumberedGroup) × AreGroupsOf pattern url base groups
+    × ExceedSizes no_sizes groups)
 AreUrlCaptures pattern url base old new old_spans new_spans needed status =
     IsUrlTested pattern url base status × (new ≡ old) × (new_spans ≡ old_spans)
 
@@ -199,8 +202,9 @@ pub record AreFirstGroupsOf (patterns : PatternList) (url base : List ℕ) (inde
 
 -- The outcome of writing the index and the groups of the first match of the URL `url` with the base
 -- URL `base`. `Done`, `TooSmall`: `new_index` is the index, and the groups are as in
--- `AreSpansWritten`. `OutOfMemory` says nothing. Any other status says why there is no match
--- (`IsFirstReported`), and index and buffers are unchanged.
+-- `AreSpansWritten`. Any other status says why there is no match (`IsFirstReported`), and index and
+-- buffers are unchanged; or it is `OutOfMemory`, and the groups of the match by the pattern at
+-- `new_index` need more room than a size can say.
 abbrev pub AreFirstCaptures : PatternList → (url base : List ℕ) → (old_index new_index : ℕ)
     → (old new : List ℕ) → (old_spans new_spans : List GroupSpan)
     → (needed : Sizes) → Status → Type 0
@@ -213,7 +217,10 @@ AreFirstCaptures patterns url base old_index new_index old new old_spans new_spa
     (groups : List NumberedGroup) × AreFirstGroupsOf patterns url base new_index groups
     × AreSpansWritten groups old new old_spans new_spans needed statuses.TooSmall
 AreFirstCaptures patterns url base old_index new_index old new old_spans new_spans needed
-    statuses.OutOfMemory = Unit {0}
+    statuses.OutOfMemory =
+    ((new_index ≡ old_index) × (new ≡ old) × (new_spans ≡ old_spans))
+    ⊎ ((groups : List NumberedGroup) × AreFirstGroupsOf patterns url base new_index groups
+    × ExceedSizes no_sizes groups)
 AreFirstCaptures patterns url base old_index new_index old new old_spans new_spans needed status =
     IsFirstReported patterns url base old_index new_index status
     × (new ≡ old)

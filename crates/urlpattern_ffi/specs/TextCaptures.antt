@@ -28,7 +28,8 @@ pub record AreGroupsOfTexts (pattern : PatternView PatternRegexp) (texts : Texts
 
 -- The outcome of writing the groups of the pattern's match of the texts. `Done`, `TooSmall`: there
 -- is a match, as in `AreSpansWritten`. `NoMatch`: there is none, and the buffers are unchanged.
--- `OutOfMemory`: an engine is called, or the groups need more room than a size can say.
+-- `OutOfMemory`: an engine is called, and the buffers are unchanged; or the groups need more room
+-- than a size can say.
 abbrev pub AreTextCaptures : PatternView PatternRegexp → Texts → (old new : List ℕ)
     → (old_spans new_spans : List GroupSpan) → (needed : Sizes) → Status → Type 0
 AreTextCaptures pattern texts old new old_spans new_spans needed statuses.Done =
@@ -40,7 +41,7 @@ AreTextCaptures pattern texts old new old_spans new_spans needed statuses.TooSma
 AreTextCaptures pattern texts old new old_spans new_spans needed statuses.NoMatch =
     DoesNotMatch pattern_result pattern texts × (new ≡ old) × (new_spans ≡ old_spans)
 AreTextCaptures pattern texts old new old_spans new_spans needed statuses.OutOfMemory =
-    CallsAnEngine pattern_result pattern texts
+    (CallsAnEngine pattern_result pattern texts × (new ≡ old) × (new_spans ≡ old_spans))
     ⊎ ((groups : List NumberedGroup) × AreGroupsOfTexts pattern texts groups
     × ExceedSizes no_sizes groups)
 AreTextCaptures pattern texts old new old_spans new_spans needed status = ⊥
@@ -63,7 +64,8 @@ pub record AreFirstGroupsOfTexts (patterns : PatternList) (texts : Texts) (index
 -- The outcome of writing the index and the groups of the first match of the texts. `Done`,
 -- `TooSmall`: `new_index` is the index, and the groups are as in `AreSpansWritten`. `NoMatch`: no
 -- pattern matches, and index and buffers are unchanged. `OutOfMemory`: an engine is called before
--- any pattern matches, or the groups need more room than a size can say.
+-- any pattern matches, and index and buffers are unchanged; or the groups need more room than a
+-- size can say.
 abbrev pub AreFirstTextCaptures : PatternList → Texts → (old_index new_index : ℕ)
     → (old new : List ℕ) → (old_spans new_spans : List GroupSpan) → (needed : Sizes) → Status
     → Type 0
@@ -81,7 +83,8 @@ AreFirstTextCaptures patterns texts old_index new_index old new old_spans new_sp
     × (new_index ≡ old_index) × (new ≡ old) × (new_spans ≡ old_spans)
 AreFirstTextCaptures patterns texts old_index new_index old new old_spans new_spans needed
     statuses.OutOfMemory =
-    CallsEngineBeforeMatch pattern_result (patterns_view patterns) texts
+    (CallsEngineBeforeMatch pattern_result (patterns_view patterns) texts
+    × (new_index ≡ old_index) × (new ≡ old) × (new_spans ≡ old_spans))
     ⊎ ((groups : List NumberedGroup) × AreFirstGroupsOfTexts patterns texts new_index groups
     × ExceedSizes no_sizes groups)
 AreFirstTextCaptures patterns texts old_index new_index old new old_spans new_spans needed status =

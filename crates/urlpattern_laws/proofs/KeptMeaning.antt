@@ -60,7 +60,7 @@ same_truth P false true h k = h.1 (k.0 refl)
 same_truth P false false h k = refl
 
 pub kept_parts_mean : {E : Type 0} (engine : Engine E) → KeptPartsMean engine
-kept_parts_mean engine init asked pattern by kept keep name known text line =
+kept_parts_mean engine init asked pattern by kept name keeps known text line =
     let component = at kept.parts.components name in
     let one : kept.values ≡ by.values = cc (sym kept.are_values ∙ by.are_values) in
     let path : kept.hierarchical ≡ by.hierarchical =
@@ -71,7 +71,7 @@ kept_parts_mean engine init asked pattern by kept keep name known text line =
     (subst (λ (v : Values). AreReadBySettings (settings_of asked v kept.hierarchical name) component) one (kept.are_read name)) in
     let made = (kept.are_made name).is_component.has_matcher in
     let case = sym (ap (λ (o : OptionsView). o.ignore_case) are.options_are)
-    ∙ sym (made_case (IsEngineOf engine false (engine_flags (kept_options component))) (kept_options component) (kept_parts component) (pattern_view pattern name).matcher made) ∙ keep name in
+    ∙ sym (made_case (IsEngineOf engine false (engine_flags (kept_options component))) (kept_options component) (kept_parts component) (pattern_view pattern name).matcher made) ∙ keeps in
     subst (λ (o : OptionsView). IsMatched engine.answer (pattern_view pattern name).matcher text ↔ MeansText o (kept_parts component) text) (sym are.options_are)
     (matched_means engine.answer settings (pattern_view pattern name) (kept_parts component) text known.generated (by.answers name (has_meaning settings component are known case)) are.reads line case)
 

@@ -51,10 +51,10 @@ kept_matches engine Accepted firsts options parts matcher accepted text line =
       λ means. by_answer engine.answer matcher options parts text whole.0 whole.1 (agrees whole.0 whole.1) (kept.0 means),
     )
 
--- A pattern made of parts that keep case matches what they mean, if the engine returns first ways.
+-- A component that keeps case matches what its parts mean, if the engine returns first ways.
 pub own_parts_mean : {E : Type 0} (engine : Engine E) (Accepted : Acceptance E) → EachReturnsFirst engine Accepted →
     ((options : OptionsView) (inner : InnerView E) → AcceptedText (λ value. ⊤) inner → Accepted options (engine_flags options) inner) → OwnPartsMeanWithCase engine
-own_parts_mean engine Accepted firsts taken pattern parts made keep name known text line =
+own_parts_mean engine Accepted firsts taken pattern parts made name keeps known text line =
     let kept = at parts.components name in
     let options = options_view kept.options in
     let matcher = (pattern name).matcher in
@@ -62,7 +62,7 @@ own_parts_mean engine Accepted firsts taken pattern parts made keep name known t
     kept_matches engine Accepted firsts options (parts_view kept.parts.items) matcher (record {
       is_made = is.is_component.has_matcher;
       generated = known.generated;
-      case_kept = sym (made_case (IsEngineOf engine false (engine_flags options)) options (parts_view kept.parts.items) matcher is.is_component.has_matcher) ∙ keep name;
+      case_kept = sym (made_case (IsEngineOf engine false (engine_flags options)) options (parts_view kept.parts.items) matcher is.is_component.has_matcher) ∙ keeps;
       took = taken options matcher.inner is.has_engine.of_matcher;
     }) text line
 

@@ -120,9 +120,14 @@ EqualAreMatched {E} engine =
     → IsMatchOf engine.answer other texts result
     → IsMatchOf engine.answer pattern texts result
 
--- The pattern keeps case in each component.
-abbrev pub KeepsCase : {E : Type 0} → PatternView E → Type 0
-KeepsCase pattern = (name : ComponentName) → (pattern name).matcher.ignore_case ≡ false
+-- `parts` say what the components that keep case match: if the meaning of such a component's parts
+-- is known, its matcher matches a line exactly if the parts mean the line.
+abbrev pub AreItsPartsWithCase : {E : Type 0} → (answer : E → List ℕ → Option Captures)
+    → PatternView E → PatternParts → Type 0
+AreItsPartsWithCase answer pattern parts =
+    (name : ComponentName) → (pattern name).matcher.ignore_case ≡ false
+    → IsKnown (at parts.components name) → (text : List ℕ) → IsLine text →
+    IsMatched answer (pattern name).matcher text ↔ MeansIn (at parts.components name) text
 
 -- The parts that the engine made a pattern of say what the pattern matches, as `AreItsParts` says.
 abbrev pub OwnPartsMean : {E : Type 0} → Engine E → Type 0
@@ -130,29 +135,27 @@ OwnPartsMean {E} engine =
     (pattern : PatternView E) (parts : PatternParts) → AreMadeOfParts engine parts pattern
     → AreItsParts engine.answer pattern parts
 
--- The parts that the engine made a pattern of say what the pattern matches, as `AreItsParts` says,
--- if it keeps case.
+-- The parts that the engine made a pattern of say what its components that keep case match, as
+-- `AreItsPartsWithCase` says.
 abbrev pub OwnPartsMeanWithCase : {E : Type 0} → Engine E → Type 0
 OwnPartsMeanWithCase {E} engine =
     (pattern : PatternView E) (parts : PatternParts) → AreMadeOfParts engine parts pattern
-    → KeepsCase pattern
-    → AreItsParts engine.answer pattern parts
+    → AreItsPartsWithCase engine.answer pattern parts
 
 -- If the engine says that it honours the flag `i`, it does: the values that it makes of parts
 -- without custom ones return first ways by their flags.
 abbrev pub DoesHonourCase : {E : Type 0} → Engine E → Type 0
 DoesHonourCase engine = engine.case_honoured ≡ true → ValuesReturnByFlags engine
 
--- The parts that a compiled pattern keeps say what the pattern matches, as `AreItsParts` says, if
--- it matches by its pattern texts, and keeps case.
+-- The parts that a compiled pattern keeps say what its components that keep case match, as
+-- `AreItsPartsWithCase` says, if the pattern matches by its pattern texts.
 abbrev pub KeptPartsMean : {E : Type 0} → Engine E → Type 0
 KeptPartsMean {E} engine =
     (init : UrlPatternInit) (asked : UrlPatternOptions) (pattern : UrlPattern E)
     → ReturnsByItsText engine.answer init asked (pattern_view pattern)
     →
     (kept : KeepsPartsOf engine init asked pattern)
-    → KeepsCase (pattern_view pattern)
-    → AreItsParts engine.answer (pattern_view pattern) kept.parts
+    → AreItsPartsWithCase engine.answer (pattern_view pattern) kept.parts
 
 -- If the engine made two patterns of parts, with or without custom regular expressions, and
 -- `pattern` covers `asked` by these parts, `pattern` matches any eight lines that `asked` matches.

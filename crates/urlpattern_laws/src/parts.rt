@@ -23,9 +23,9 @@ pub fn patterns_match_what_their_parts_mean()
 
 /// A pattern that was made of parts, over any engine whose matchers return first ways, such as
 /// `PatternRegexp`, matches a text without line feeds in a component exactly if the component's
-/// parts mean the text, if their meaning is known, and the pattern keeps case, or the engine
-/// honours the flag `i` if it says so. A compiled pattern that matches by its pattern texts and
-/// keeps case does too, whatever its engine, with the parts that it keeps.
+/// parts mean the text, if their meaning is known, and the component keeps case, or the engine
+/// honours the flag `i` if it says so. A component that keeps case, of a compiled pattern that
+/// matches by its pattern texts, does too, whatever the engine, with the parts that it keeps.
 pub fn patterns_match_what_their_parts_mean_by_first_ways<R: RegExp>()
     ensures first_ways { MakesFirstWays R.RegExp → OwnPartsMeanWithCase R.RegExp }
     ensures by_flags { MakesFirstWays R.RegExp → DoesHonourCase R.RegExp → OwnPartsMean R.RegExp }

@@ -26,7 +26,7 @@ use Rattle.urlpattern_meaning.specs.Matching.{Accepts, HoldsEngine, InnerView, L
 use Rattle.urlpattern_meaning.specs.PartMeaning.{Captures}
 use Rattle.urlpattern_paths.proofs.PathMatchers.{returned-is}
 use Rattle.urlpattern_paths.specs.PathCaptures.{are_read_once, captured}
-use Rattle.urlpattern_paths.specs.PathsAlone.{CapturesAll, IsMadeOfKept, IsPathAlone, IsRead, OthersCaptureAll, ReturnsCaptured, captures_with_path}
+use Rattle.urlpattern_paths.specs.PathsAlone.{CapturesAll, IsMadeOfKept, IsPathAlone, IsRead, IsReadByParts, OthersCaptureAll, ReturnsCaptured, captures_with_path}
 use Rattle.urlpattern_pattern.proofs.MatchersDecide.{answered}
 use Rattle.urlpattern_pattern.specs.Match.{AreGroupsInOrder, AreResults, IsMatchOf}
 use Rattle.urlpattern_pattern.specs.Patterns.{PatternView, pattern_view}
@@ -74,6 +74,17 @@ pub kept-made : {E : Type 0} (engine : Engine E) (pattern : UrlPattern E) (parts
 kept-made engine pattern parts is made =
     let all = subst (λ (kept : Option PatternParts). IfSome kept (λ parts. AreMadeOfParts engine parts (pattern_view pattern))) (sym is) made in
     record { is_made = (all Pathname).is_component.has_matcher; has_engine = (all Pathname).has_engine.of_matcher }
+
+-- A pattern with these parts is read by them if it is one of a path alone.
+pub by_parts-of : {E : Type 0} (answer : E → List ℕ → Option Captures) (pattern : UrlPattern E) (parts : PatternParts) → Some parts ≡ pattern.parts
+    → IsPathAlone answer (pattern_view pattern) (kept_parts parts.components.pathname) → IsReadByParts answer pattern
+by_parts-of answer pattern parts is alone =
+    subst (λ (kept : Option PatternParts). IfSome kept (λ parts. IsPathAlone answer (pattern_view pattern) (kept_parts parts.components.pathname))) is alone
+
+pub alone-of : {E : Type 0} (answer : E → List ℕ → Option Captures) (pattern : UrlPattern E) (parts : PatternParts) → Some parts ≡ pattern.parts → IsReadByParts answer pattern
+    → IsPathAlone answer (pattern_view pattern) (kept_parts parts.components.pathname)
+alone-of answer pattern parts is read =
+    subst (λ (kept : Option PatternParts). IfSome kept (λ parts. IsPathAlone answer (pattern_view pattern) (kept_parts parts.components.pathname))) (sym is) read
 
 -- What the components of a pattern of a path alone return.
 pub results-with_path : {E : Type 0} (answer : E → List ℕ → Option Captures) (pattern : PatternView E) (texts : Texts) (groups : Captures) → OthersCaptureAll answer pattern

@@ -1,6 +1,6 @@
 -- Patterns of a path alone, which match every text in each other component. `answer` is what an
 -- engine returns for a text.
-use Rattle.std.specs.Prelude.{◌≢◌, ◌∷◌, [], ⊤, ℕ, IsTrue, List, None, Option, Some, false}
+use Rattle.std.specs.Prelude.{◌≢◌, ◌∷◌, [], ⊤, ℕ, IfSome, IsTrue, List, None, Option, Some, false}
 use Rattle.std.specs.Str.{all_scalars}
 use Rattle.urlpattern_components.specs.Eight.{Texts, at}
 use Rattle.urlpattern_components.specs.declared.eight.ComponentName.{ComponentName}
@@ -14,7 +14,8 @@ use Rattle.urlpattern_meaning.specs.PartMeaning.{Captures}
 use Rattle.urlpattern_paths.specs.PathCaptures.{captured}
 use Rattle.urlpattern_paths.specs.declared.by_parts.PathReading.{PathReading}
 use Rattle.urlpattern_paths.specs.declared.by_parts.PathReading.TheVariants as readings
-use Rattle.urlpattern_pattern.specs.Patterns.{PatternView}
+use Rattle.urlpattern_pattern.specs.Patterns.{PatternView, pattern_view}
+use Rattle.urlpattern_pattern.specs.UrlPatterns.{UrlPattern}
 use Rattle.urlpattern_syntax.specs.ComponentParts.{kept_options, kept_parts}
 use Rattle.urlpattern_syntax.specs.Parts.{PartView}
 use Rattle.urlpattern_syntax.specs.Text.{lacks, line_feed}
@@ -51,6 +52,12 @@ pub record IsPathAlone {E : Type 0} (answer : E → List ℕ → Option Captures
     (pattern : PatternView E) (parts : List PartView) : Type 0 where
   pub others : OthersCaptureAll answer pattern
   pub path : ReturnsCaptured answer parts (pattern Pathname).matcher
+
+-- The pattern is one of a path alone, by the parts of its path, if it has parts.
+abbrev pub IsReadByParts : {E : Type 0} → (answer : E → List ℕ → Option Captures) → UrlPattern E
+    → Type 0
+IsReadByParts answer pattern = IfSome pattern.parts (λ parts.
+    IsPathAlone answer (pattern_view pattern) (kept_parts parts.components.pathname))
 
 -- What the components capture: the path `groups`, and each other component all of its text.
 abbrev pub captures_with_path : Texts → (groups : Captures) → ComponentName → Captures

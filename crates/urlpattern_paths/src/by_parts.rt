@@ -1,16 +1,15 @@
 //! Paths read by the parts of a pattern that matches every text in each other component.
-ghost use Rattle.std.specs.Prelude.{◌≡◌, IfSome, IsTrue};
+ghost use Rattle.std.specs.Prelude.{◌≡◌, IsTrue};
 ghost use Rattle.std.specs.Str.{chars};
 ghost use Rattle.urlpattern_components.specs.Eight.{at};
 ghost use Rattle.urlpattern_init.specs.UrlTexts.{IsLine};
 ghost use Rattle.urlpattern_matcher.specs.Components.{component_view};
 ghost use Rattle.urlpattern_matches.specs.BorrowedMatches.{groups_view, pattern_captures_view};
 ghost use Rattle.urlpattern_matches.specs.GroupTexts.{borrowed_texts, captures_of};
-ghost use Rattle.urlpattern_paths.specs.PathsAlone.{CapturesAll, IsMadeOfKept, IsPathAlone, IsRead, IsReading, OthersCaptureAll, ReturnsCaptured};
+ghost use Rattle.urlpattern_paths.specs.PathsAlone.{CapturesAll, IsMadeOfKept, IsRead, IsReadByParts, IsReading, OthersCaptureAll, ReturnsCaptured};
 ghost use Rattle.urlpattern_pattern.specs.Match.{AreGroupsInOrder, IsMatchOf};
 ghost use Rattle.urlpattern_pattern.specs.Patterns.{components_of, pattern_view};
 ghost use Rattle.urlpattern_syntax.specs.ComponentParts.{kept_parts};
-ghost use Rattle.urlpattern_syntax.specs.Parts.{parts_view};
 
 use crate::path_captures::read_path;
 use crate::read_once::are_read_once;
@@ -22,7 +21,6 @@ use urlpattern_matcher::regexp::RegExp;
 use urlpattern_matches::{GroupCaptures, UrlPatternCaptures, assemble_match};
 use urlpattern_pattern::UrlPattern;
 use urlpattern_syntax::ComponentParts;
-use urlpattern_syntax::parser::Part;
 
 /// What is read of a path by the parts of a pattern.
 #[derive(Drop)]
@@ -35,8 +33,25 @@ pub enum PathReading<'u> {
     Unknown,
 }
 
-/// Reads a line as a path by the parts of a pattern, if they can be read in one way only and all
-/// other components match every text. `Unknown` otherwise, and if memory runs out.
+/// Whether a pattern can be read by the parts of its path: they can be read in one way only, and
+/// all other components match every text. A pattern without parts cannot.
+pub fn is_read_by_parts<R: RegExp>(pattern: &UrlPattern<R>) -> bool
+    ensures { IsTrue result → IsReadByParts R.answer pattern.now }
+{
+    let Some(kept) = pattern.parts() else {
+        return false;
+    };
+    if !capture_others(pattern) {
+        return false;
+    }
+    are_read(
+        &kept.components.pathname,
+        pattern.get(ComponentName::Pathname),
+    )
+}
+
+/// Reads a line as a path by the parts of a pattern that can be read so. `Unknown` if the pattern
+/// has no parts, or if memory runs out.
 ///
 /// Allocates for two captures or more.
 #[inline(always)]
@@ -45,13 +60,14 @@ pub fn read_by_parts<'u, R: RegExp>(
     pattern: &UrlPattern<R>,
     path: &'u str,
 ) -> PathReading<'u>
-    requires { IsLine (chars path.now) }
+    requires read { IsReadByParts R.answer pattern.now }
+    requires line { IsLine (chars path.now) }
     ensures { IsReading R.answer (pattern_view pattern.now) (chars path.now) result }
 {
-    let Some(parts) = path_parts(pattern) else {
+    let Some(kept) = pattern.parts() else {
         return PathReading::Unknown;
     };
-    match read_path(alloc, parts, path) {
+    match read_path(alloc, &kept.components.pathname.parts, path) {
         Ok(Some(groups)) => PathReading::Matched(groups),
         Ok(None) => PathReading::Unmatched,
         Err(_) => PathReading::Unknown,
@@ -87,25 +103,6 @@ pub fn match_with_path<'p, 'u, R: RegExp>(
         hash: GroupCaptures::One(Some(texts.hash)),
     };
     assemble_match(Eight::from_fn(names), with_fields!(Eight, texts), captures)
-}
-
-/// Returns the parts of the path of a pattern, if they can be read in one way only and all other
-/// components match every text.
-fn path_parts<R: RegExp>(pattern: &UrlPattern<R>) -> Option<&[Part]>
-    ensures { IfSome result (λ parts.
-        IsPathAlone R.answer (pattern_view pattern.now) (parts_view parts.now)) }
-{
-    let Some(kept) = pattern.parts() else {
-        return None;
-    };
-    if !capture_others(pattern) {
-        return None;
-    }
-    let kept = &kept.components.pathname;
-    if !are_read(kept, pattern.get(ComponentName::Pathname)) {
-        return None;
-    }
-    Some(&kept.parts)
 }
 
 /// Whether the matcher of a component is known to return what the parts in `kept` capture, of which

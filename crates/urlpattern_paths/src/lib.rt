@@ -6,4 +6,4 @@ mod by_parts;
 mod path_captures;
 mod read_once;
 
-pub use by_parts::{PathReading, match_with_path, read_by_parts};
+pub use by_parts::{PathReading, is_read_by_parts, match_with_path, read_by_parts};

@@ -14,7 +14,7 @@ use urlpattern::regexp::RegExp;
 use urlpattern::rules::USUAL_LIMITS;
 use urlpattern::{
     CompareError, ComponentName, Error, UrlPattern, UrlPatternComponentResult, UrlPatternList,
-    UrlPatternMap, UrlPatternResult,
+    UrlPatternMap, UrlPatternResult, UrlPatternRouter,
 };
 
 /// A URL with a path.
@@ -270,7 +270,7 @@ fn a_pattern_without_parts_is_not_compared(rt: HostRuntime) -> Result<(), Fail> 
     Ok(())
 }
 
-/// Compares a list and a map of two patterns, the second of which has no parts.
+/// Compares a list, a map and a router of two patterns, the second of which has no parts.
 fn expect_no_reach(rt: &impl Abort, alloc: Global) -> Result<(), Error> {
     let mut list = UrlPatternList::new(alloc);
     list.try_push(pattern_of(alloc, &[("pathname", "/*")])?)?;
@@ -280,6 +280,10 @@ fn expect_no_reach(rt: &impl Abort, alloc: Global) -> Result<(), Error> {
     map.try_insert(pattern_of(alloc, &[("pathname", "/*")])?, 0u32)?;
     map.try_insert(without_parts(alloc, "/a")?, 1)?;
     assert!(rt; lacks_parts(map.reach_of_each(alloc, USUAL_LIMITS))?);
+    let mut router = UrlPatternRouter::new(alloc);
+    router.insert_any(pattern_of(alloc, &[("pathname", "/*")])?, 0u32)?;
+    router.insert_any(without_parts(alloc, "/a")?, 1)?;
+    assert!(rt; lacks_parts(router.check(alloc, USUAL_LIMITS))?);
     Ok(())
 }
 

@@ -59,7 +59,7 @@ pub(crate) fn reach_of_all(
 }
 
 /// Returns references to the automata, in order.
-pub(super) fn references(
+pub(crate) fn references(
     alloc: Global,
     automata: &[PatternAutomata],
 ) -> Result<Vec<&PatternAutomata>, AllocError>
@@ -71,7 +71,7 @@ pub(super) fn references(
 /// Returns the automata of each pattern, in order.
 ///
 /// The error is `NoParts` if a pattern has no parts, else `OutOfMemory`.
-pub(super) fn automata_of_each<R: RegExp>(
+pub(crate) fn automata_of_each<R: RegExp>(
     alloc: Global,
     patterns: &[UrlPattern<R>],
 ) -> Result<Vec<PatternAutomata>, CompareError>
@@ -106,7 +106,7 @@ pub(crate) fn push_automata(
 
 /// Returns the error of comparing the patterns if memory ran out: `NoParts` if a pattern has no
 /// parts, else `OutOfMemory`.
-pub(super) fn error_without_memory<R: RegExp>(patterns: &[UrlPattern<R>]) -> CompareError
+pub(crate) fn error_without_memory<R: RegExp>(patterns: &[UrlPattern<R>]) -> CompareError
     ensures { LacksParts patterns.now result }
 {
     for pattern in patterns {

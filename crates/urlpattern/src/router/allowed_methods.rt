@@ -118,8 +118,9 @@ impl<'m, 'u, T, R: RegExp> AllowedMethods<'m, 'u, T, R> {
 }
 
 impl<'m, 'u, T, R: RegExp> Iterator for AllowedMethods<'m, 'u, T, R> {
-    ghost use Rattle.std.specs.Iterator.{at_most};
-    ghost use Rattle.std.specs.Prelude.{◌-◌, length};
+    ghost use Rattle.std.specs.Iterator.{at_most, UpTo};
+    ghost use Rattle.std.specs.Iterator.SizeHint.{IsWithinCount};
+    ghost use Rattle.std.specs.Prelude.{◌≡◌, ◌-◌, IfSome, length};
     ghost use Rattle.urlpattern.specs.Routes.{allowed_left, YieldsMethod};
 
     type Item = Result<&'m str, Error>;
@@ -144,7 +145,13 @@ impl<'m, 'u, T, R: RegExp> Iterator for AllowedMethods<'m, 'u, T, R> {
         }
     }
 
-    fn size_hint(&self) -> (usize, Option<usize>) {
+    fn size_hint(&self) -> (usize, Option<usize>)
+        ensures lower { IsWithinCount result.0
+            (at_most (length self.now.routes.now - self.now.from)) }
+        ensures upper { IfSome result.1
+            (UpTo (at_most (length self.now.routes.now - self.now.from))) }
+        ensures least { result.0 ≡ 0 }
+    {
         (0, None)
     }
 }

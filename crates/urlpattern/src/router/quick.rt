@@ -32,7 +32,9 @@ pub(super) enum Quick<'m, 'u, T, R: RegExp> {
 impl<T, R: RegExp> UrlPatternRouter<T, R> {
     /// Returns what the router has for a request with this method and a path. `hashes` are those of
     /// the path, and no route before the index `first` matches it.
-    #[inline(never)]
+    ///
+    /// Inlined into `at`, which then does not copy the match.
+    #[inline(always)]
     pub(super) fn at_plain_path<'m, 'u>(
         &'m self,
         alloc: Global,
@@ -64,8 +66,9 @@ impl<T, R: RegExp> UrlPatternRouter<T, R> {
     }
 
     /// Returns what the router has for a request with this method and a path, as `at_plain_path`
-    /// does, without reading the path by parts.
-    #[inline(never)]
+    /// does, without reading the path by parts. The variables that it needs are initialized only
+    /// for such a request, since it is inlined.
+    #[inline(always)]
     fn at_path_slowly<'m, 'u>(
         &'m self,
         alloc: Global,
@@ -147,6 +150,9 @@ impl<T, R: RegExp> UrlPatternRouter<T, R> {
         };
         if !route.takes(method) {
             return Ok(false);
+        }
+        if !self.routes.is_read_by_parts(index) {
+            return Err(Quick::Unknown);
         }
         match read_by_parts(alloc, pattern, path) {
             PathReading::Matched(groups) => {

@@ -1,6 +1,7 @@
 //! Routes of a router: the method that each serves, its name, and its value.
 ghost use Rattle.std.specs.Prelude.{◌≡◌, ◌↔◌, IfOk, IsTrue, Some, option_map};
 ghost use Rattle.std.specs.Str.{chars};
+ghost use Rattle.urlpattern.specs.Conflicts.{ShareMethod, TakesAllOf};
 ghost use Rattle.urlpattern.specs.Routes.{HasMethod, HasName, IsRoute, Takes};
 ghost use Rattle.urlpattern_syntax.specs.Text.{option_text, text_of};
 
@@ -66,6 +67,26 @@ impl<T> Route<T> {
         ensures { IsTrue result ↔ Takes (chars method.now) self.now }
     {
         self.method.is_none() || self.has_method(method)
+    }
+
+    /// Whether the route takes each method that another one takes.
+    pub(super) fn takes_all_of(&self, other: &Self) -> bool
+        ensures { IsTrue result ↔ TakesAllOf self.now other.now }
+    {
+        match &self.method {
+            Some(own) => other.has_method(own),
+            None => true,
+        }
+    }
+
+    /// Whether some method is taken by both routes.
+    pub(super) fn shares_method(&self, other: &Self) -> bool
+        ensures { IsTrue result ↔ ShareMethod self.now other.now }
+    {
+        match &self.method {
+            Some(own) => other.takes(own),
+            None => true,
+        }
     }
 }
 

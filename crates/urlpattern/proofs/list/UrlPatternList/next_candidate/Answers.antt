@@ -11,11 +11,11 @@ pub returns-clause-within : goal.returns-clause-within
 returns-clause-within g c =
     let found = c.first_from.result in
     subst (λ (patterns : List (UrlPattern g.row.R.Denot)). IfSome found (λ index. (c.args.from ≤ index) × (index < length patterns))) c.self.view_is
-    (found-inside g.R.RegExp.answer c.self.inside.patterns.items c.self.inside.index c.self.invariant (hashes_view c.args.hashes.now) c.args.from found c.first_from.ensures)
+    (found-inside g.R.RegExp.answer c.self.inside.patterns.items c.self.inside.index c.self.invariant.0 (hashes_view c.args.hashes.now) c.args.from found c.first_from.ensures)
 
 pub returns-clause-passed : goal.returns-clause-passed
 returns-clause-passed g c = λ texts same.
     let answer = g.R.RegExp.answer in
     let found = c.first_from.result in
     subst (λ (patterns : List (UrlPattern g.row.R.Denot)). NoneMatchBetween answer (patterns_view patterns) texts c.args.from (unwrap_or found (length (patterns_view patterns)))) c.self.view_is
-    (found-passed answer texts c.self.inside.patterns.items c.self.inside.index c.self.invariant (hashes_view c.args.hashes.now) same c.args.from found c.first_from.ensures)
+    (found-passed answer texts c.self.inside.patterns.items c.self.inside.index c.self.invariant.0 (hashes_view c.args.hashes.now) same c.args.from found c.first_from.ensures)

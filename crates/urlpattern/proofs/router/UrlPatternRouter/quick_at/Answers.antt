@@ -1,7 +1,7 @@
 use Rattle.std.proofs.Common.{refl, sym, ◌∙◌}
 use Rattle.std.proofs.lemmas.Bool.{false≢true}
 use Rattle.std.specs.Str.{chars}
-use Rattle.urlpattern.proofs.QuickLemmas.{refused-at}
+use Rattle.urlpattern.proofs.QuickLemmas.{read-at, refused-at}
 use Rattle.urlpattern.proofs.RouteLemmas.{unmatched-at}
 use Rattle.urlpattern.specs.QuickRoutes.{Any}
 use Rattle.urlpattern.specs.Routes.{Takes}
@@ -9,8 +9,12 @@ use Rattle.urlpattern_components.specs.declared.eight.ComponentName.TheVariants.
 use Rattle.urlpattern_matches.specs.MatchInput.{pathname_alone}
 use Rattle.urlpattern.proofs.router.UrlPatternRouter.quick_at.Goals as goal
 
-pub read_by_parts-requires : goal.read_by_parts-requires
-read_by_parts-requires g c = c.requires.path.line
+pub read_by_parts-requires-clause-read : goal.read_by_parts-requires-clause-read
+read_by_parts-requires-clause-read g c =
+    read-at g.R.RegExp.answer c.args.self.now.routes c.args.index c.in-Some.pattern.now c.in-Some.route.now (c.is_read_by_parts.ensures c.if-not-is_read_by_parts.false) c.in-Some.ensures
+
+pub read_by_parts-requires-clause-line : goal.read_by_parts-requires-clause-line
+read_by_parts-requires-clause-line g c = c.requires.path.line
 
 pub returns-then-not-takes-clause-passed : goal.returns-then-not-takes-clause-passed
 returns-then-not-takes-clause-passed g c = (
