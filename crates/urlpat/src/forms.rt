@@ -1,21 +1,8 @@
-//! The texts and options of each command, as `clap` has them.
+//! The texts and options of each command.
 
-use clap::{Arg, ArgAction, Command as Parser};
+use crate::options::{INIT, PATTERN_FILES, PATTERNS, with_operands, with_options};
+use clap::Command as Parser;
 use std::alloc::{AllocError, Global};
-
-/// The id of the operands.
-pub(crate) const OPERANDS: &str = "operands";
-
-/// The id of the option that gives a pattern as an init.
-pub(crate) const INIT: &str = "init";
-
-/// The names of the components, which the options for their patterns have too.
-const COMPONENTS: &[&str] = &[
-    "protocol", "username", "password", "hostname", "port", "pathname", "search", "hash",
-];
-
-/// The title of the options that give a pattern by component.
-const BY_COMPONENT: &str = "In place of PATTERN, by component (others match any text)";
 
 /// The version of this port, and that of the crate which it ports.
 const VERSION: &str = "2.0.0 (urlpattern 0.6.0)";
@@ -53,7 +40,7 @@ impl Form {
 const MATCHING: &[&str] = &["base", "ignore-case", "json", "explain-errors", INIT];
 
 /// The commands, in the order of the help.
-pub(crate) const FORMS: [Form; 10] = [
+pub(crate) const FORMS: [Form; 12] = [
     Form {
         name: "match",
         usage: "urlpat match [OPTIONS] PATTERN BASE INPUT",
@@ -89,9 +76,10 @@ Example: urlpat first https://example.com/ /users/7 /about /users/:id",
         usage: "urlpat filter [OPTIONS] PATTERN [BASE] [FILE..]",
         about: "Print the lines whose URLs match",
         more: "\
-BASE is a URL for the pattern and the lines, or - for none. The lines are those
+BASE is a URL for the patterns and the lines, or - for none. The lines are those
 of the files, or of standard input, which is also the file -. A line that is no
-URL does not match. If no line is selected, the status is 1.
+URL does not match. If no line is selected, the status is 1. With -e or -f there
+is no PATTERN.
 
 Example: urlpat filter https://example.com/users/:id --group pathname.id",
         options: &[
@@ -105,6 +93,10 @@ Example: urlpat filter https://example.com/users/:id --group pathname.id",
             "with-filename",
             "no-filename",
             "line-buffered",
+            "field",
+            "format",
+            PATTERNS,
+            PATTERN_FILES,
             INIT,
         ],
         least: 1,
@@ -116,14 +108,44 @@ Example: urlpat filter https://example.com/users/:id --group pathname.id",
         usage: "urlpat route [OPTIONS] TABLE [BASE] [FILE..]",
         about: "Find the pattern of a table that matches the URL of each line",
         more: "\
-TABLE is a file with a pattern a line, and its name after a tab, if it has one.
-Lines that are empty or begin with # are skipped. BASE is a URL for the patterns
-and the lines, or - for none. The lines are those of the files, or of standard
-input, which is also the file -. For each line the number of the pattern's line,
-its name and its groups are printed with tabs between, or - if no pattern
-matches. If none matches any line, the status is 1.
+TABLE is a file with a pattern a line, and its name after spaces or a tab, if it
+has one; or - for standard input. Lines that are empty or begin with # are
+skipped. BASE is a URL for the patterns and the lines, or - for none. The lines
+are those of the files, or of standard input, which is also the file -. For each
+line the number of the pattern's line, its name and its groups are printed with
+tabs between, or - if no pattern matches. If none matches any line, the status
+is 1.
 
 Example: urlpat route routes.txt https://example.com/ urls.txt",
+        options: &[
+            "base",
+            "ignore-case",
+            "json",
+            "line-number",
+            "with-filename",
+            "no-filename",
+            "line-buffered",
+            "field",
+            "format",
+            "with-line",
+            "summary",
+        ],
+        least: 1,
+        most: usize::MAX,
+        is_fixed: false,
+    },
+    Form {
+        name: "rewrite",
+        usage: "urlpat rewrite [OPTIONS] TABLE [BASE] [FILE..]",
+        about: "Write the URL of each line anew, by the rules of a table",
+        more: "\
+TABLE is a file with a rule a line: a pattern, a second pattern, and a status
+code if you like, with spaces or tabs between. A URL that matches the first
+pattern is written by the second, with its groups. The first rule that matches
+counts; other lines are printed as they came. BASE and FILE are as those of
+`route`. If no line is rewritten, the status is 1.
+
+Example: urlpat rewrite redirects.txt https://example.com/ urls.txt",
         options: &[
             "base",
             "ignore-case",
@@ -197,6 +219,23 @@ Example: urlpat unreachable routes.txt https://example.com/",
         is_fixed: false,
     },
     Form {
+        name: "check",
+        usage: "urlpat check [OPTIONS] TABLE..",
+        about: "Find what is wrong with tables of patterns",
+        more: "\
+A line is printed for each fault, with the file, the line and the column: for
+patterns that are rejected, or never the first match; for pairs of patterns
+whose order decides, with what both match; and for names that are given twice.
+If there are faults, the status is 1; if there are none as far as it is known,
+2. TABLE is as that of `route`.
+
+Example: urlpat check routes.txt --base https://example.com/",
+        options: &["base", "ignore-case", "json"],
+        least: 1,
+        most: usize::MAX,
+        is_fixed: false,
+    },
+    Form {
         name: "policy",
         usage: "urlpat policy [OPTIONS] decide|check|diff FILE..",
         about: "Decide about URLs by a policy, check it, or compare two",
@@ -231,101 +270,6 @@ Example: urlpat component pathname /users/:id",
         is_fixed: true,
     },
 ];
-
-/// The option with this id.
-fn option<'a>(alloc: Global, id: &'a str) -> Result<Arg<'a>, AllocError> {
-    let arg = Arg::new(alloc, id).long(id);
-    Ok(match id {
-        "base" => arg
-            .value_name("URL")
-            .help("Base URL; then there is no BASE among the operands"),
-        "group" => arg
-            .value_name("GROUP")
-            .help("Print what a group captured, such as pathname.id, or id")
-            .conflicts_with_all(&["not", "count", "json"])?,
-        "ignore-case" => flag(arg, "Ignore case in patterns").short('i'),
-        "init" => arg
-            .value_name("JSON")
-            .help("An init, such as {\"pathname\": \"/users/:id\"}")
-            .help_heading(BY_COMPONENT)
-            .conflicts_with_all(&[
-                "protocol", "username", "password", "hostname", "port", "pathname", "search",
-                "hash",
-            ])?,
-        "json" => flag(arg, "Print results as JSON"),
-        "explain-errors" => flag(arg, "Print the reason and the place of an error"),
-        "line-number" => flag(arg, "Print the number of each line before it")
-            .short('n')
-            .conflicts_with("json")?,
-        "with-filename" => flag(arg, "Print the name of the file before each line")
-            .short('H')
-            .conflicts_with("json")?,
-        "no-filename" => { flag(arg, "Print no names of files").conflicts_with("with-filename")? }
-        "line-buffered" => flag(arg, "Write the output for each line at once"),
-        "not" => flag(arg, "Select the lines that do not match")
-            .short('v')
-            .conflicts_with("json")?,
-        _ => flag(arg, "Print how many lines are selected, and no line")
-            .short('c')
-            .conflicts_with("json")?,
-    })
-}
-
-/// Adds the options that give the patterns of single components, by their names.
-fn with_components<'a>(
-    alloc: Global,
-    parser: Parser<'a>,
-    names: &[&'a str],
-) -> Result<Parser<'a>, AllocError> {
-    let mut parser = parser;
-    for name in names {
-        parser = parser.arg(component(alloc, name))?;
-    }
-    Ok(parser)
-}
-
-/// The option that gives the pattern of the component with this name.
-fn component<'a>(alloc: Global, name: &'a str) -> Arg<'a> {
-    Arg::new(alloc, name)
-        .long(name)
-        .value_name("PATTERN")
-        .help_heading(BY_COMPONENT)
-}
-
-/// An option without a value.
-fn flag<'a>(arg: Arg<'a>, help: &'a str) -> Arg<'a> {
-    arg.action(ArgAction::SetTrue).help(help)
-}
-
-/// Adds options to a command, and beside `--init` those for single components.
-fn with_options<'a>(
-    alloc: Global,
-    parser: Parser<'a>,
-    options: &[&'a str],
-) -> Result<Parser<'a>, AllocError> {
-    let mut parser = parser.args_override_self(true);
-    for id in options {
-        parser = parser.arg(option(alloc, id)?)?;
-        if *id == INIT {
-            parser = with_components(alloc, parser, COMPONENTS)?;
-        }
-    }
-    Ok(parser)
-}
-
-/// Adds operands to a command.
-fn with_operands<'a>(
-    alloc: Global,
-    parser: Parser<'a>,
-    takes_hyphens: bool,
-) -> Result<Parser<'a>, AllocError> {
-    let operands = Arg::new(alloc, OPERANDS)
-        .action(ArgAction::Append)
-        .num_args(0..)
-        .hide(true)
-        .allow_hyphen_values(takes_hyphens);
-    parser.arg(operands)
-}
 
 /// The command of a form. `takes_hyphens` says whether a word that begins with a hyphen and is no
 /// option is an operand.

@@ -1,0 +1,35 @@
+-- Lemmas on lists beside each other, and on what a list has at an index.
+use Rattle.std.proofs.Common.{◌≡◌, ◌⊎◌, ◌<◌, ◌+◌, ℕ, All, zero, suc, List, [], ◌∷◌, ◌++◌, Some, arith, get_or, inl, inr, length, slice_get, subst, sym, take}
+use Rattle.std.proofs.lemmas.List.{take_more}
+use Rattle.std.proofs.lemmas.List.Elements.{All-push}
+use Rattle.std.proofs.lemmas.Slice.Zip.{all_zipped_more}
+use Rattle.std.specs.List.{AllZip}
+
+-- What is beside the next element is appended.
+pub zip-taken : {A B : Type 0} (R : A → B → Type 0) (xs : List A) (index : ℕ) (none : A) (ys : List B) (y : B) → index < length xs → AllZip R (take index xs) ys
+    → R (get_or xs index none) y → AllZip R (take (index + 1) xs) (ys ++ y ∷ [])
+zip-taken R xs index none ys y within are is =
+    subst (λ them. AllZip R them (ys ++ y ∷ [])) (sym (take_more xs index none within)) (all_zipped_more R (take index xs) ys (get_or xs index none) y are is)
+
+-- What holds of the next element holds of all so far.
+pub all-taken : {A : Type 0} (P : A → Type 0) (xs : List A) (index : ℕ) (none : A) → index < length xs → All P (take index xs) → P (get_or xs index none) → All P (take (index + 1) xs)
+all-taken P xs index none within are is = subst (All P) (sym (take_more xs index none within)) (All-push P (take index xs) (get_or xs index none) are is)
+
+-- An element that a list has at an index.
+pub got : {A : Type 0} (xs : List A) (index : ℕ) (x : A) → slice_get xs index ≡ Some x → (index < length xs) × (x ≡ get_or xs index x)
+got [] index x at = absurd cc
+got (y ∷ xs) zero x at = (omega arith, cc)
+got (y ∷ xs) (suc index) x at =
+    let (within, is) = got xs index x at in
+    (omega (arith, within), is)
+
+-- What a list has at an index, with one more element at its end.
+pub get-push : {A : Type 0} (xs : List A) (x it : A) (index : ℕ) → slice_get (xs ++ x ∷ []) index ≡ Some it
+    → ((index < length xs) × (slice_get xs index ≡ Some it)) ⊎ ((index ≡ length xs) × (x ≡ it))
+get-push [] x it zero at = inr (cc, cc)
+get-push [] x it (suc index) at = absurd cc
+get-push (y ∷ xs) x it zero at = inl (omega arith, at)
+get-push (y ∷ xs) x it (suc index) at = elim (get-push xs x it index at) [
+  | inl is ↦ inl (omega (arith, is.0), is.1)
+  | inr is ↦ inr (omega (arith, is.0), is.1)
+]
