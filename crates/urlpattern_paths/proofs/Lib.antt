@@ -1,4 +1,0 @@
-pub mod PathAloneLemmas
-pub mod PathExamples
-pub mod PathLaws
-pub mod PathMatchers

@@ -1,2 +1,0 @@
-pub mod PathCaptures
-pub mod PathsAlone

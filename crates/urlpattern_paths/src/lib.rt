@@ -1,9 +1,0 @@
-//! Paths that parts can be read into in one way only: of fixed texts, segments, and a wildcard at
-//! the end. What such parts capture is read from a path in one pass, without an engine.
-#![tactic(auto)]
-
-mod by_parts;
-mod path_captures;
-mod read_once;
-
-pub use by_parts::{PathReading, is_read_by_parts, match_with_path, read_by_parts};
