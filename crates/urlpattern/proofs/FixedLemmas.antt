@@ -5,8 +5,9 @@ use Rattle.std.proofs.lemmas.List.{get_or-take, length_push}
 use Rattle.std.proofs.lemmas.List.Edits.{length-remove}
 use Rattle.std.proofs.lemmas.Option.{same_Some, slice_get-get_or, slice_get_within}
 use Rattle.std.proofs.lemmas.Slice.Eq.{bytes_eq-Decides}
+use Rattle.std.specs.Borrow.{Bor}
 use Rattle.std.specs.List.{remove}
-use Rattle.std.specs.Prelude.{All, Err, IfOk, IsTrue, Ok, Option, None, Result, Some, bytes_eq, slice_get}
+use Rattle.std.specs.Prelude.{All, Err, IfOk, IfSome, Ok, Option, None, Result, Some, bytes_eq, option_copied, slice_get}
 use Rattle.urlpattern_index.specs.FixedTexts.{FixedTexts, HasTexts, IsText}
 use Rattle.urlpattern_index.specs.Keys.{Hashes, form_key, hashes_of}
 use Rattle.urlpattern_index.specs.Listed.{AppendsPattern, Finds, Listing}
@@ -16,8 +17,9 @@ use Rattle.urlpattern_meaning.specs.PartMeaning.{Captures}
 use Rattle.urlpattern_pattern.specs.Match.{DoesNotMatch}
 use Rattle.urlpattern_pattern.specs.Patterns.{PatternView, pattern_view}
 use Rattle.urlpattern_pattern.specs.UrlPatterns.{UrlPattern}
-use Rattle.urlpattern_paths.specs.PathsAlone.{IsReadByParts}
-use Rattle.urlpattern.specs.PatternKeys.{AreFixed, AreIndexed, AreMarked, address_of}
+use Rattle.urlpattern_paths.specs.PathsAlone.{IsReadBy}
+use Rattle.urlpattern_paths.specs.declared.template.PathTemplate.{PathTemplate}
+use Rattle.urlpattern.specs.PatternKeys.{AreFixed, AreIndexed, AreTemplates, IsTemplateAt, address_of}
 use Rattle.urlpattern_components.specs.Eight.{Texts}
 
 -- ---- texts
@@ -117,39 +119,46 @@ module _ {E : Type 0} (answer : E → List ℕ → Option Captures) (patterns : 
   pub found_within : (hashes : Hashes) (number : ℕ) → Finds index hashes number → number < length patterns
   found_within hashes number (form, has, fits, key) = let within = slice_get_within index.keys number (form_key form hashes) key in omega (arith, are.as_many)
 
--- ---- marks
+-- ---- templates
 
-module _ {E : Type 0} (answer : E → List ℕ → Option Captures) (patterns : List (UrlPattern E)) (marks : List Bool) where
+module _ {E : Type 0} (answer : E → List ℕ → Option Captures) (patterns : List (UrlPattern E)) (templates : List (Option PathTemplate)) where
   -- An empty list.
-  pub marked-none : patterns ≡ [] → marks ≡ [] → AreMarked answer patterns marks
-  marked-none none empty = rw (none, empty) record { as_many = refl; marked = λ index mark pattern there. absurd (cc) }
+  pub templates-none : patterns ≡ [] → templates ≡ [] → AreTemplates answer patterns templates
+  templates-none none empty = rw (none, empty) record { as_many = refl; templates_at = λ index template there. absurd (cc) }
 
-  module _ (are : AreMarked answer patterns marks) where
+  module _ (are : AreTemplates answer patterns templates) where
     -- A pattern is appended.
-    pub marked-push : (pattern : UrlPattern E) (mark : Bool) → (IsTrue mark → IsReadByParts answer pattern) → AreMarked answer (patterns ++ pattern ∷ []) (marks ++ mark ∷ [])
-    marked-push pattern mark is_read = record {
-      as_many = length_push marks mark ∙ ap (λ n. n + 1) are.as_many ∙ sym (length_push patterns pattern);
-      marked = λ index marked other there. elim (got_more patterns pattern other index there) [
-        | inl earlier ↦ elim (got_more marks mark true index marked) [
-          | inl old ↦ are.marked index old other earlier
-          | inr last ↦ absurd (let within = slice_get_within patterns index other earlier in let past : index ≡ length marks = last.0 in omega (arith, are.as_many))
+    pub templates-push : (pattern : UrlPattern E) (found : Option PathTemplate) → IfSome found (IsReadBy answer (pattern_view pattern))
+        → AreTemplates answer (patterns ++ pattern ∷ []) (templates ++ found ∷ [])
+    templates-push pattern found is_read = record {
+      as_many = length_push templates found ∙ ap (λ n. n + 1) are.as_many ∙ sym (length_push patterns pattern);
+      templates_at = λ index template there other at. elim (got_more patterns pattern other index at) [
+        | inl earlier ↦ elim (got_more templates found (Some template) index there) [
+          | inl old ↦ are.templates_at index template old other earlier
+          | inr last ↦ absurd (let within = slice_get_within patterns index other earlier in let past : index ≡ length templates = last.0 in omega (arith, are.as_many))
         ]
-        | inr is_last ↦ elim (got_more marks mark true index marked) [
-          | inl old ↦ absurd (let within = slice_get_within marks index true old in let past : index ≡ length patterns = is_last.0 in omega (arith, are.as_many))
-          | inr last ↦ subst (λ (p : UrlPattern E). IsReadByParts answer p) is_last.1 (is_read last.1)
+        | inr is_last ↦ elim (got_more templates found (Some template) index there) [
+          | inl old ↦ absurd (let within = slice_get_within templates index (Some template) old in let past : index ≡ length patterns = is_last.0 in omega (arith, are.as_many))
+          | inr last ↦ subst (λ (p : UrlPattern E). IsReadBy answer (pattern_view p) template) is_last.1 (subst (λ (one : Option PathTemplate). IfSome one (IsReadBy answer (pattern_view pattern))) last.1 is_read)
         ]
       ];
     }
 
+    -- A template that is found at an index.
+    pub template-found : (index : ℕ) (found : Option (Bor PathTemplate)) (own : Option PathTemplate) → option_copied found ≡ own → slice_get templates index ≡ Some own
+        → IfSome found (λ template. IsTemplateAt answer patterns index template.now)
+    template-found index (Some template) own is there = are.templates_at index template.now (there ∙ ap (λ (one : Option PathTemplate). Some one) (sym is))
+    template-found index None own is there = tt
+
     -- A pattern is removed.
-    pub marked-remove : (i : ℕ) → i < length patterns → AreMarked answer (remove patterns i) (remove marks i)
-    marked-remove i within =
-        let within_marks : i < length marks = omega (arith, are.as_many) in
+    pub templates-remove : (i : ℕ) → i < length patterns → AreTemplates answer (remove patterns i) (remove templates i)
+    templates-remove i within =
+        let within_templates : i < length templates = omega (arith, are.as_many) in
         record {
-          as_many = (let a = length-remove marks i within_marks in let b = length-remove patterns i within in omega (arith, are.as_many));
-          marked = λ index marked pattern there. elim (cases_lt index i) [
-            | inl below ↦ are.marked index (sym (got_below marks i index below) ∙ marked) pattern (sym (got_below patterns i index below) ∙ there)
-            | inr above ↦ are.marked (suc index) (sym (got_above marks i index above within_marks) ∙ marked) pattern (sym (got_above patterns i index above within) ∙ there)
+          as_many = (let a = length-remove templates i within_templates in let b = length-remove patterns i within in omega (arith, are.as_many));
+          templates_at = λ index template there pattern at. elim (cases_lt index i) [
+            | inl below ↦ are.templates_at index template (sym (got_below templates i index below) ∙ there) pattern (sym (got_below patterns i index below) ∙ at)
+            | inr above ↦ are.templates_at (suc index) template (sym (got_above templates i index above within_templates) ∙ there) pattern (sym (got_above patterns i index above within) ∙ at)
           ];
         }
 

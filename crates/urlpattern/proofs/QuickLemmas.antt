@@ -4,7 +4,7 @@ use Rattle.std.proofs.lemmas.Option.{same_Some, slice_get-map, slice_get_within}
 use Rattle.std.specs.Borrow.{Bor}
 use Rattle.std.specs.Map.{keys_of}
 use Rattle.std.specs.Prelude.{Option, Some, option_map, slice_get, ◌&&◌}
-use Rattle.urlpattern.specs.PatternKeys.{IsReadByPartsAt}
+use Rattle.urlpattern.specs.PatternKeys.{IsTemplateAt}
 use Rattle.urlpattern.specs.QuickRoutes.{Any, IsPassed, IsQuick, IsQuickAt, quick_end}
 use Rattle.urlpattern.specs.Routes.{IsHead, IsRouted, NoneMatches, NoneServesAt, NoneServesBefore, Routes, Takes}
 use Rattle.urlpattern.specs.declared.router.UrlPatternRouter.{UrlPatternRouter}
@@ -17,11 +17,21 @@ use Rattle.urlpattern_matches.specs.BorrowedMatches.{groups_view, pattern_captur
 use Rattle.urlpattern_matches.specs.MatchInput.{pathname_alone}
 use Rattle.urlpattern_matches.specs.declared.captures.GroupCaptures.{GroupCaptures}
 use Rattle.urlpattern_matches.specs.declared.captures.UrlPatternCaptures.{UrlPatternCaptures}
+use Rattle.urlpattern_components.specs.declared.eight.ComponentName.TheVariants.{Pathname}
+use Rattle.urlpattern_init.specs.UrlTexts.{IsLine}
+use Rattle.urlpattern_meaning.specs.Matching.{Returns}
 use Rattle.urlpattern_meaning.specs.PartMeaning.{Captures}
-use Rattle.urlpattern_paths.specs.PathsAlone.{IsReadByParts}
+use Rattle.urlpattern_paths.specs.PathsAlone.{IsReadBy}
+use Rattle.urlpattern_paths.specs.Templates.{template_captured}
+use Rattle.urlpattern_paths.specs.declared.template.PathTemplate.{PathTemplate}
 use Rattle.urlpattern_pattern.specs.Match.{AreGroupsInOrder, IsMatchOf}
-use Rattle.urlpattern_pattern.specs.Patterns.{pattern_view}
+use Rattle.urlpattern_pattern.specs.Patterns.{PatternView, pattern_view}
 use Rattle.urlpattern_pattern.specs.UrlPatterns.{UrlPattern}
+
+-- What the template of a pattern captures in a line is what the matcher of the path returns.
+pub returned-by : {E : Type 0} (answer : E → List ℕ → Option Captures) (pattern : PatternView E) (template : PathTemplate) (path : List ℕ) (found : Option Captures) → IsReadBy answer pattern template
+    → IsLine path → template_captured template path ≡ found → Returns answer (pattern Pathname).matcher path found
+returned-by answer pattern template path found read line is = subst (λ (found : Option Captures). Returns answer (pattern Pathname).matcher path found) is (read.path path line)
 
 module _ {E T : Type 0} (answer : E → List ℕ → Option Captures) where
   -- A route that is passed does not match, nor do the routes before it.
@@ -31,10 +41,11 @@ module _ {E T : Type 0} (answer : E → List ℕ → Option Captures) where
   next-passed routes Is texts index true false passed none is = absurd cc
   next-passed routes Is texts index false unmatched passed none is = absurd cc
 
-  -- The pattern of a route is read by its parts, where that of its index is.
-  pub read-at : (routes : Routes E T) (index : ℕ) (pattern : UrlPattern E) (route : Route T) → IsReadByPartsAt answer (keys_of routes) index → Some (pattern, route) ≡ slice_get routes index
-      → IsReadByParts answer pattern
-  read-at routes index pattern route read is = read pattern (slice_get-map (λ (one : UrlPattern E × Route T). one.0) routes index ∙ ap (option_map (λ (one : UrlPattern E × Route T). one.0)) (sym is))
+  -- The pattern of a route is read by the template at its index.
+  pub template-at : (routes : Routes E T) (index : ℕ) (template : PathTemplate) (pattern : UrlPattern E) (route : Route T) → IsTemplateAt answer (keys_of routes) index template
+      → Some (pattern, route) ≡ slice_get routes index → IsReadBy answer (pattern_view pattern) template
+  template-at routes index template pattern route read is =
+      read pattern (slice_get-map (λ (one : UrlPattern E × Route T). one.0) routes index ∙ ap (option_map (λ (one : UrlPattern E × Route T). one.0)) (sym is))
 
   -- A route for which `Is` does not hold.
   pub refused-at : (routes : Routes E T) (Is : Route T → Type 0) (texts : Texts) (pattern : UrlPattern E) (route : Route T) (index : ℕ) → Some (pattern, route) ≡ slice_get routes index → ¬ Is route

@@ -1,5 +1,5 @@
 -- The fixed texts of patterns, and the index of a list of patterns.
-use Rattle.std.specs.Prelude.{◌≡◌, ℕ, Bool, List, length, slice_get, Option, Some, true}
+use Rattle.std.specs.Prelude.{◌≡◌, ℕ, List, length, slice_get, Option, Some}
 use Rattle.urlpattern_index.specs.FixedTexts.{AddressTexts, FixedTexts, IsText}
 use Rattle.urlpattern_index.specs.Keys.{hashes_of}
 use Rattle.urlpattern_index.specs.Listed.{Finds, Listing}
@@ -8,7 +8,8 @@ use Rattle.urlpattern_components.specs.declared.eight.ComponentName.TheVariants.
 use Rattle.urlpattern_components.specs.Eight.{Texts}
 use Rattle.urlpattern_meaning.specs.Matching.{IsMatched}
 use Rattle.urlpattern_meaning.specs.PartMeaning.{Captures}
-use Rattle.urlpattern_paths.specs.PathsAlone.{IsReadByParts}
+use Rattle.urlpattern_paths.specs.PathsAlone.{IsReadBy}
+use Rattle.urlpattern_paths.specs.declared.template.PathTemplate.{PathTemplate}
 use Rattle.urlpattern_pattern.specs.Match.{DoesNotMatch}
 use Rattle.urlpattern_pattern.specs.Patterns.{PatternView, pattern_view}
 use Rattle.urlpattern_pattern.specs.UrlPatterns.{UrlPattern}
@@ -41,16 +42,17 @@ pub record AreIndexed {E : Type 0} (answer : E → List ℕ → Option Captures)
       (texts : Texts) → ¬ Finds index (hashes_of (address_of texts)) number
       → DoesNotMatch answer (pattern_view pattern) texts
 
--- The pattern at an index, if there is one, is read by its parts.
-abbrev pub IsReadByPartsAt : {E : Type 0} → (answer : E → List ℕ → Option Captures)
-    → List (UrlPattern E) → (index : ℕ) → Type 0
-IsReadByPartsAt {E} answer patterns index =
+-- The pattern at an index, if there is one, is read by the template.
+abbrev pub IsTemplateAt : {E : Type 0} → (answer : E → List ℕ → Option Captures)
+    → List (UrlPattern E) → (index : ℕ) → PathTemplate → Type 0
+IsTemplateAt {E} answer patterns index template =
     (pattern : UrlPattern E) → slice_get patterns index ≡ Some pattern
-    → IsReadByParts answer pattern
+    → IsReadBy answer (pattern_view pattern) template
 
--- There is a mark for each pattern, and a pattern whose mark is `true` is read by its parts.
-pub record AreMarked {E : Type 0} (answer : E → List ℕ → Option Captures)
-    (patterns : List (UrlPattern E)) (marks : List Bool) : Type 0 where
-  pub as_many : length marks ≡ length patterns
-  pub marked : (index : ℕ) → slice_get marks index ≡ Some true
-      → IsReadByPartsAt answer patterns index
+-- There is a template or none for each pattern, and a pattern that has one is read by it.
+pub record AreTemplates {E : Type 0} (answer : E → List ℕ → Option Captures)
+    (patterns : List (UrlPattern E)) (templates : List (Option PathTemplate)) : Type 0 where
+  pub as_many : length templates ≡ length patterns
+  pub templates_at : (index : ℕ) (template : PathTemplate)
+      → slice_get templates index ≡ Some (Some template)
+      → IsTemplateAt answer patterns index template

@@ -6,12 +6,12 @@
 //! patterns that do not match.
 ghost use Rattle.std.specs.Iterator.Adapters.{IterYieldsInOrder};
 ghost use Rattle.std.specs.List.{remove};
-ghost use Rattle.std.specs.Prelude.{◌≡◌, ◌==◌, ◌++◌, ◌<◌, [], ◌∷◌, length, option_copied, slice_get, IfErr, IfOk, IsTrue, OnErr, OnOk};
+ghost use Rattle.std.specs.Prelude.{◌≡◌, ◌==◌, ◌++◌, ◌<◌, [], ◌∷◌, length, option_copied, slice_get, IfErr, IfOk, IfSome, OnErr, OnOk};
 ghost use Rattle.std.specs.Slice.Iter.{iter_rest};
 ghost use Rattle.urlpattern_init.specs.Inheritance.{texts_of_url};
 ghost use Rattle.urlpattern_init.specs.declared.init.UrlPatternMatchInput.TheVariants as inputs;
 ghost use Rattle.urlpattern.specs.FirstMatch.{first_captures_view, first_view, patterns_view, CopiesFirstMatch, HasGroupsInOrder, IsFirstMatch, CallsEngineBeforeMatch};
-ghost use Rattle.urlpattern.specs.PatternKeys.{address_of, IsReadByPartsAt};
+ghost use Rattle.urlpattern.specs.PatternKeys.{address_of, IsTemplateAt};
 ghost use Rattle.urlpattern_index.specs.FixedTexts.{address_texts};
 ghost use Rattle.urlpattern_index.specs.Keys.{hashes_of, hashes_view};
 ghost use Rattle.urlpattern.specs.NextMatch.{matches_left, CallsEngineBeforeMatchFrom, IsFirstCapturedFrom};
@@ -45,7 +45,7 @@ use urlpattern_matcher::regexp::RegExp;
 use urlpattern_matches::{
     UrlPatternCaptures, UrlPatternResult, input_texts, parse_match_input, url_texts,
 };
-use urlpattern_paths::is_read_by_parts;
+use urlpattern_paths::{PathTemplate, path_template};
 use urlpattern_pattern::UrlPattern;
 use urlpattern_syntax::Error;
 
@@ -63,8 +63,8 @@ pub struct UrlPatternList<R: RegExp = regex::Regex> {
     patterns: Vec<UrlPattern<R>>,
     /// Finds the patterns that can match a URL, by its protocol, hostname and path.
     index: Index,
-    /// For each pattern, whether it is known to be read by its parts.
-    are_read_by_parts: Vec<bool>,
+    /// For each pattern, the template by which its path is read, if there is one.
+    templates: Vec<Option<PathTemplate>>,
 }
 
 impl<R: RegExp> Drop for UrlPatternList<R> {
@@ -74,14 +74,14 @@ impl<R: RegExp> Drop for UrlPatternList<R> {
         let Self {
             patterns: _patterns,
             index: _index,
-            are_read_by_parts: _are_read_by_parts,
+            templates: _templates,
         } = self;
     }
 }
 
 impl<R: RegExp> Model for UrlPatternList<R> {
     ghost use Rattle.std.specs.Prelude.{List};
-    ghost use Rattle.urlpattern.specs.PatternKeys.{AreIndexed, AreMarked};
+    ghost use Rattle.urlpattern.specs.PatternKeys.{AreIndexed, AreTemplates};
     ghost use Rattle.urlpattern_pattern.specs.UrlPatterns.{UrlPattern};
 
     ghost Value = { List (UrlPattern R) };
@@ -89,7 +89,7 @@ impl<R: RegExp> Model for UrlPatternList<R> {
     ghost view = { λ list. list.patterns.items };
 
     ghost invariant = { λ list. AreIndexed R.answer list.patterns.items list.index
-        × AreMarked R.answer list.patterns.items list.are_read_by_parts.items };
+        × AreTemplates R.answer list.patterns.items list.templates.items };
 }
 
 impl<R: RegExp> UrlPatternList<R> {
@@ -100,12 +100,12 @@ impl<R: RegExp> UrlPatternList<R> {
         Self {
             patterns: Vec::new(alloc),
             index: Index::new(alloc),
-            are_read_by_parts: Vec::new(alloc),
+            templates: Vec::new(alloc),
         }
     }
 
-    /// Returns an empty list with room for `capacity` patterns, but not for their entries in the
-    /// index: adding a pattern may still allocate.
+    /// Returns an empty list with room for `capacity` patterns, but not for what is kept beside
+    /// each of them, such as its entry in the index: adding a pattern may still allocate.
     pub fn with_capacity(alloc: Global, capacity: usize) -> Result<Self, Error>
         ensures empty { IfOk result (λ list. list ≡ []) }
         ensures memory { OnlyOutOfMemory result }
@@ -113,7 +113,7 @@ impl<R: RegExp> UrlPatternList<R> {
         Ok(Self {
             patterns: Vec::with_capacity(alloc, capacity)?,
             index: Index::new(alloc),
-            are_read_by_parts: Vec::new(alloc),
+            templates: Vec::new(alloc),
         })
     }
 
@@ -128,14 +128,14 @@ impl<R: RegExp> UrlPatternList<R> {
         let Ok(()) = self.patterns.reserve(1) else {
             return Err(pattern);
         };
-        let Ok(()) = self.are_read_by_parts.reserve(1) else {
+        let Ok(()) = self.templates.reserve(1) else {
             return Err(pattern);
         };
-        let is_read = is_read_by_parts(&pattern);
+        let template = path_template(&pattern);
         let Ok(()) = self.index.push(fixed_of(&pattern)) else {
             return Err(pattern);
         };
-        match self.are_read_by_parts.push(is_read) {
+        match self.templates.push(template) {
             Ok(()) => {}
             Err(_) => unreachable!(),
         }
@@ -171,7 +171,7 @@ impl<R: RegExp> UrlPatternList<R> {
             return None;
         }
         self.index.remove(index);
-        self.are_read_by_parts.remove(index);
+        self.templates.remove(index);
         Some(self.patterns.remove(index))
     }
 
@@ -203,15 +203,13 @@ impl<R: RegExp> UrlPatternList<R> {
         self.patterns.as_slice()
     }
 
-    /// Whether the pattern at an index is known to be read by its parts, without a look at it.
+    /// Returns the template by which the path of the pattern at an index is read, without a look
+    /// at the pattern, if there is one.
     #[inline(always)]
-    pub(crate) fn is_read_by_parts(&self, index: usize) -> bool
-        ensures { IsTrue result → IsReadByPartsAt R.answer self.now index }
+    pub(crate) fn template(&self, index: usize) -> Option<&PathTemplate>
+        ensures { IfSome result (λ template. IsTemplateAt R.answer self.now index template.now) }
     {
-        if index >= self.are_read_by_parts.len() {
-            return false;
-        }
-        self.are_read_by_parts[index]
+        self.templates.get(index)?.as_ref()
     }
 
     /// Iterates over the patterns, in order.

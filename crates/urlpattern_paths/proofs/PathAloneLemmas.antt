@@ -12,7 +12,6 @@ use Rattle.urlpattern_components.specs.declared.eight.ComponentName.{ComponentNa
 use Rattle.urlpattern_components.specs.declared.eight.ComponentName.TheVariants.{Protocol, Username, Password, Hostname, Port, Pathname, Search, Hash}
 use Rattle.urlpattern_components.specs.declared.eight.Eight.{Eight}
 use Rattle.urlpattern_compare.specs.declared.pattern_parts.PatternParts.{PatternParts}
-use Rattle.urlpattern_init.specs.UrlTexts.{IsLine}
 use Rattle.urlpattern_matcher.specs.Matchers.{inner_view}
 use Rattle.urlpattern_matcher.specs.declared.matcher.InnerMatcher.{InnerMatcher}
 use Rattle.urlpattern_matcher.specs.declared.regexp.RegExp.{Ghosts as Engine}
@@ -25,8 +24,10 @@ use Rattle.urlpattern_meaning.specs.FirstResults.{AcceptedText}
 use Rattle.urlpattern_meaning.specs.Matching.{Accepts, HoldsEngine, InnerView, Literal, MatcherView, RegExp, Returns, SingleCapture, ValuesAgreeWithParts, folded}
 use Rattle.urlpattern_meaning.specs.PartMeaning.{Captures}
 use Rattle.urlpattern_paths.proofs.PathMatchers.{returned-is}
-use Rattle.urlpattern_paths.specs.PathCaptures.{are_read_once, captured}
-use Rattle.urlpattern_paths.specs.PathsAlone.{CapturesAll, IsMadeOfKept, IsPathAlone, IsRead, IsReadByParts, OthersCaptureAll, ReturnsCaptured, captures_with_path}
+use Rattle.urlpattern_paths.specs.PathCaptures.{are_read_once}
+use Rattle.urlpattern_paths.specs.PathsAlone.{CapturesAll, IsMadeOfKept, IsRead, IsReadBy, OthersCaptureAll, ReturnsCaptured, captures_with_path}
+use Rattle.urlpattern_paths.specs.Templates.{IsTemplateOf}
+use Rattle.urlpattern_paths.specs.declared.template.PathTemplate.{PathTemplate}
 use Rattle.urlpattern_pattern.proofs.MatchersDecide.{answered}
 use Rattle.urlpattern_pattern.specs.Match.{AreGroupsInOrder, AreResults, IsMatchOf}
 use Rattle.urlpattern_pattern.specs.Patterns.{PatternView, pattern_view}
@@ -75,16 +76,14 @@ kept-made engine pattern parts is made =
     let all = subst (λ (kept : Option PatternParts). IfSome kept (λ parts. AreMadeOfParts engine parts (pattern_view pattern))) (sym is) made in
     record { is_made = (all Pathname).is_component.has_matcher; has_engine = (all Pathname).has_engine.of_matcher }
 
--- A pattern with these parts is read by them if it is one of a path alone.
-pub by_parts-of : {E : Type 0} (answer : E → List ℕ → Option Captures) (pattern : UrlPattern E) (parts : PatternParts) → Some parts ≡ pattern.parts
-    → IsPathAlone answer (pattern_view pattern) (kept_parts parts.components.pathname) → IsReadByParts answer pattern
-by_parts-of answer pattern parts is alone =
-    subst (λ (kept : Option PatternParts). IfSome kept (λ parts. IsPathAlone answer (pattern_view pattern) (kept_parts parts.components.pathname))) is alone
-
-pub alone-of : {E : Type 0} (answer : E → List ℕ → Option Captures) (pattern : UrlPattern E) (parts : PatternParts) → Some parts ≡ pattern.parts → IsReadByParts answer pattern
-    → IsPathAlone answer (pattern_view pattern) (kept_parts parts.components.pathname)
-alone-of answer pattern parts is read =
-    subst (λ (kept : Option PatternParts). IfSome kept (λ parts. IsPathAlone answer (pattern_view pattern) (kept_parts parts.components.pathname))) (sym is) read
+-- A pattern is read by the template of its path's parts, if they have one.
+pub read_by-of : {E : Type 0} (answer : E → List ℕ → Option Captures) (pattern : PatternView E) (parts : List PartView) (found : Option PathTemplate) → OthersCaptureAll answer pattern
+    → ReturnsCaptured answer parts (pattern Pathname).matcher → IfSome found (IsTemplateOf parts) → IfSome found (IsReadBy answer pattern)
+read_by-of answer pattern parts (Some template) others returns same = record {
+  others = others;
+  path = λ path line. subst (λ (found : Option Captures). Returns answer (pattern Pathname).matcher path found) (sym (same path)) (returns path line.no_line_feed line.characters);
+}
+read_by-of answer pattern parts None others returns same = tt
 
 -- What the components of a pattern of a path alone return.
 pub results-with_path : {E : Type 0} (answer : E → List ℕ → Option Captures) (pattern : PatternView E) (texts : Texts) (groups : Captures) → OthersCaptureAll answer pattern
@@ -92,12 +91,6 @@ pub results-with_path : {E : Type 0} (answer : E → List ℕ → Option Capture
 results-with_path answer pattern texts groups others path =
     by_name (λ name. Returns answer (pattern name).matcher (at texts name) (Some (captures_with_path texts groups name))) (others Protocol (λ e. cc e) texts.protocol) (others Username (λ e. cc e) texts.username)
     (others Password (λ e. cc e) texts.password) (others Hostname (λ e. cc e) texts.hostname) (others Port (λ e. cc e) texts.port) path (others Search (λ e. cc e) texts.search) (others Hash (λ e. cc e) texts.hash)
-
--- What the matcher of the path returns.
-pub returns-path : {E : Type 0} (answer : E → List ℕ → Option Captures) (pattern : PatternView E) (parts : List PartView) (path : List ℕ) → IsPathAlone answer pattern parts → IsLine path
-    → (found : Option Captures) → found ≡ captured parts path → Returns answer (pattern Pathname).matcher path found
-returns-path answer pattern parts path alone line found is =
-    subst (λ (found : Option Captures). Returns answer (pattern Pathname).matcher path found) (sym is) (alone.path path line.no_line_feed line.characters)
 
 -- The result of each component, and its groups, with the names of the pattern.
 abbrev pub IsMatchWithPath : {E : Type 0} → PatternView E → Texts → (groups : Captures) → UrlPatternCaptures → Type 0

@@ -1,8 +1,8 @@
 -- Parts that can be read in one way only mean what `captured` says.
-use Rattle.std.proofs.Common.{◌≡◌, ℕ, ◌+◌, ◌<◌, Bool, true, false, not, eqb, cond, List, [], ◌∷◌, ◌++◌, refl, sym, ap, subst, ◌∙◌, append_assoc, arith, get_or, length, take, drop, ◌≤◌, ◌↔◌, IsTrue, Some, None, Option}
+use Rattle.std.proofs.Common.{◌≡◌, ℕ, ◌+◌, Bool, true, false, not, eqb, cond, List, [], ◌∷◌, ◌++◌, refl, sym, ap, subst, ◌∙◌, append_assoc, arith, length, take, drop, ◌↔◌, IsTrue, Some, None, Option}
 use Rattle.std.proofs.lemmas.Bool.Decides.{nat_tests}
 use Rattle.std.proofs.lemmas.Bool.{and_parts}
-use Rattle.std.proofs.lemmas.List.{append-nil, at_drop_all, at_drop_more, take-append-drop}
+use Rattle.std.proofs.lemmas.List.{append-nil, take-append-drop}
 use Rattle.std.proofs.lemmas.List.Folds.{list_all-append}
 use Rattle.std.proofs.lemmas.Str.{IsUtf8-encode, IsUtf8-take, chars-append, chars-nil}
 use Rattle.std.specs.Borrow.{Bor}
@@ -19,7 +19,7 @@ use Rattle.urlpattern_meaning.specs.PartMeaning.{Captures, IsCapture, IsWildcard
 use Rattle.urlpattern_paths.specs.PathCaptures.{Read, after_front, after_segment, are_read_once, captured, captured_after, end_segment, is_last, is_read_once, read_all, read_first_segment, read_part, read_segment, read_text, segment}
 use Rattle.urlpattern_syntax.proofs.StringTexts.{chars-encode, is_empty-str}
 use Rattle.urlpattern_syntax.specs.Options.{OptionsView}
-use Rattle.urlpattern_syntax.specs.Parts.{PartView, part_view, parts_view}
+use Rattle.urlpattern_syntax.specs.Parts.{PartView, parts_view}
 use Rattle.urlpattern_syntax.specs.RegexpText.{IsWildcard, is_empty, is_fixed_text, is_unmodified}
 use Rattle.urlpattern_syntax.specs.Text.{begins_with, lacks, line_feed, option_text}
 use Rattle.urlpattern_syntax.specs.declared.parser.Part.{Part}
@@ -317,17 +317,6 @@ segment-found text at is_text (end, (none, found), order, boundary, after) =
     let cut = segment-of (chars front) (chars (drop at text)) ((lacks-searched slash front false is_front none).0 refl) (subst Ends (sym slashed) refl) in
     (sym cut.0 ∙ ap segment whole, sym cut.1 ∙ ap after_segment whole)
 
--- The part that is read next.
-next_part : (parts : List Part) (index : ℕ) (part : Part) → index < length parts → part ≡ get_or parts index part
-    → parts_view (drop index parts) ≡ part_view part ∷ parts_view (drop (index + 1) parts)
-next_part parts index part within is = at_drop_more parts_view parts index part within ∙ ap (λ p. part_view p ∷ parts_view (drop (index + 1) parts)) (sym is)
-
--- What the parts from an index on capture, by what the part there reads.
-pub read-next : (parts : List Part) (index : ℕ) (part : Part) (text : List ℕ) (read : Option Read) → index < length parts → part ≡ get_or parts index part
-    → read ≡ read_part part.kind (part_view part) text → captured (parts_view (drop index parts)) text ≡ captured_after (captured (parts_view (drop (index + 1) parts))) read
-read-next parts index part text read within is of_part =
-    ap (λ left. captured left text) (next_part parts index part within is) ∙ ap (λ r. captured_after (captured (parts_view (drop (index + 1) parts))) r) (sym of_part)
-
 -- No captures before others.
 pub nothing-more : (next : Option Captures) → option_map (λ others. [] ++ others) next ≡ next
 nothing-more (Some others) = refl
@@ -342,16 +331,6 @@ captured-more groups own None = refl
 pub last-view : (parts : List Part) → eqb (length parts) 0 ≡ is_last (parts_view parts)
 last-view [] = refl
 last-view (part ∷ parts) = let some : eqb (length (part ∷ parts)) 0 ≡ false = grind (arith, nat_tests) in some
-
--- After the last part only the empty text is left.
-pub captured-end : (parts : List Part) (at : ℕ) (groups : Captures) (rest : List ℕ) → IsUtf8 rest → length parts ≤ at →
-    option_map (λ others. groups ++ others) (captured (parts_view (drop at parts)) (chars rest)) ≡ (if eqb (length rest) 0 then Some groups else None)
-captured-end parts at groups rest is_text all =
-    at_drop_all (λ left. option_map (λ others. groups ++ others) (captured (parts_view left) (chars rest))) parts at all ∙ by (chars rest) ∙ ap (λ b. if b then Some groups else None) (is_empty-str rest is_text)
-  where
-    by : (text : List ℕ) → option_map (λ others. groups ++ others) (captured [] text) ≡ (if is_empty text then Some groups else None)
-    by [] = ap (λ (cs : Captures). Some cs) (append-nil groups)
-    by (c ∷ text) = refl
 
 -- A segment that is empty in memory is empty.
 pub segment-none : (piece : List ℕ) (segment rest : List ℕ) (none : Bool) → chars piece ≡ segment → IsUtf8 piece → none ≡ eqb (length piece) 0 → none ≡ true → read_segment segment rest ≡ None

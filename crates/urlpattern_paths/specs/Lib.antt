@@ -1,2 +1,3 @@
 pub mod PathCaptures
 pub mod PathsAlone
+pub mod Templates

@@ -5,7 +5,7 @@ use Rattle.url.specs.Ascii.{slash}
 use Rattle.urlpattern_meaning.specs.PartMeaning.{Captures}
 use Rattle.urlpattern_syntax.specs.Parts.{PartView}
 use Rattle.urlpattern_syntax.specs.RegexpText.{is_empty, is_fixed_text, is_unmodified}
-use Rattle.urlpattern_syntax.specs.Text.{begins_with, option_text}
+use Rattle.urlpattern_syntax.specs.Text.{begins_with}
 use Rattle.urlpattern_syntax.specs.declared.parser.PartType.{PartType}
 
 -- ---- texts
@@ -63,14 +63,9 @@ abbrev pub captured_after : (next : List ℕ → Option Captures) → Option Rea
 captured_after next (Some (own, rest)) = option_map (λ others. own ++ others) (next rest)
 captured_after next None = None
 
--- A capture, if there is one.
-abbrev pub own_capture : Option (List ℕ) → Captures
-own_capture (Some text) = Some text ∷ []
-own_capture None = []
-
--- The view of what is read of a text: a capture, if there is one, and the rest of the text.
-abbrev pub read_view : Option (Bor (List ℕ)) × Bor (List ℕ) → Read
-read_view (capture, rest) = (own_capture (option_text capture), chars rest.now)
+-- The view of a segment, which is captured, and the rest of the text.
+abbrev pub read_view : Bor (List ℕ) × Bor (List ℕ) → Read
+read_view (segment, rest) = (Some (chars segment.now) ∷ [], chars rest.now)
 
 -- What the parts capture in a path, where each reads what the one before it left. None: they do not
 -- match the path.

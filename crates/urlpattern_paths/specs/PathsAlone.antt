@@ -1,10 +1,11 @@
 -- Patterns of a path alone, which match every text in each other component. `answer` is what an
 -- engine returns for a text.
-use Rattle.std.specs.Prelude.{◌≢◌, ◌∷◌, [], ⊤, ℕ, IfSome, IsTrue, List, None, Option, Some, false}
+use Rattle.std.specs.Prelude.{◌≡◌, ◌≢◌, ◌∷◌, [], ⊤, ℕ, IsTrue, List, None, Option, Some, false}
 use Rattle.std.specs.Str.{all_scalars}
 use Rattle.urlpattern_components.specs.Eight.{Texts, at}
 use Rattle.urlpattern_components.specs.declared.eight.ComponentName.{ComponentName}
 use Rattle.urlpattern_components.specs.declared.eight.ComponentName.TheVariants.{Pathname}
+use Rattle.urlpattern_init.specs.UrlTexts.{IsLine}
 use Rattle.urlpattern_matcher.specs.Components.{IsEngineOf, engine_flags}
 use Rattle.urlpattern_matcher.specs.declared.regexp.RegExp.{Ghosts as Engine}
 use Rattle.urlpattern_matches.specs.GroupTexts.{captures_of}
@@ -12,10 +13,11 @@ use Rattle.urlpattern_meaning.specs.FirstResults.{AcceptedText}
 use Rattle.urlpattern_meaning.specs.Matching.{IsMadeOf, MatcherView, Returns}
 use Rattle.urlpattern_meaning.specs.PartMeaning.{Captures}
 use Rattle.urlpattern_paths.specs.PathCaptures.{captured}
+use Rattle.urlpattern_paths.specs.Templates.{template_captured}
 use Rattle.urlpattern_paths.specs.declared.by_parts.PathReading.{PathReading}
 use Rattle.urlpattern_paths.specs.declared.by_parts.PathReading.TheVariants as readings
-use Rattle.urlpattern_pattern.specs.Patterns.{PatternView, pattern_view}
-use Rattle.urlpattern_pattern.specs.UrlPatterns.{UrlPattern}
+use Rattle.urlpattern_paths.specs.declared.template.PathTemplate.{PathTemplate}
+use Rattle.urlpattern_pattern.specs.Patterns.{PatternView}
 use Rattle.urlpattern_syntax.specs.ComponentParts.{kept_options, kept_parts}
 use Rattle.urlpattern_syntax.specs.Parts.{PartView}
 use Rattle.urlpattern_syntax.specs.Text.{lacks, line_feed}
@@ -47,17 +49,13 @@ pub record IsMadeOfKept {E : Type 0} (engine : Engine E) (kept : ComponentParts)
       (kept_options kept) (kept_parts kept) matcher
   pub has_engine : AcceptedText (λ value. ⊤) matcher.inner
 
--- The pattern matches every text in each component but the path, and its path as the parts say.
-pub record IsPathAlone {E : Type 0} (answer : E → List ℕ → Option Captures)
-    (pattern : PatternView E) (parts : List PartView) : Type 0 where
+-- The pattern matches every text in each component but the path, and a line as a path if the
+-- template does, with the same captures.
+pub record IsReadBy {E : Type 0} (answer : E → List ℕ → Option Captures) (pattern : PatternView E)
+    (template : PathTemplate) : Type 0 where
   pub others : OthersCaptureAll answer pattern
-  pub path : ReturnsCaptured answer parts (pattern Pathname).matcher
-
--- The pattern is one of a path alone, by the parts of its path, if it has parts.
-abbrev pub IsReadByParts : {E : Type 0} → (answer : E → List ℕ → Option Captures) → UrlPattern E
-    → Type 0
-IsReadByParts answer pattern = IfSome pattern.parts (λ parts.
-    IsPathAlone answer (pattern_view pattern) (kept_parts parts.components.pathname))
+  pub path : (path : List ℕ) → IsLine path
+      → Returns answer (pattern Pathname).matcher path (template_captured template path)
 
 -- What the components capture: the path `groups`, and each other component all of its text.
 abbrev pub captures_with_path : Texts → (groups : Captures) → ComponentName → Captures
@@ -71,12 +69,10 @@ IsRead answer pattern path groups =
     OthersCaptureAll answer pattern
     × Returns answer (pattern Pathname).matcher path (Some groups)
 
--- What is read of a path. `Matched`: the pattern matches it with these captures, and every text in
--- each other component. `Unmatched`: its path does not match. `Unknown`: nothing is said.
-abbrev pub IsReading : {E : Type 0} → (answer : E → List ℕ → Option Captures) → PatternView E
-    → (path : List ℕ) → PathReading → Type 0
-IsReading answer pattern path (readings.Matched groups) =
-    IsRead answer pattern path (captures_of groups)
-IsReading answer pattern path readings.Unmatched =
-    Returns answer (pattern Pathname).matcher path None
-IsReading answer pattern path readings.Unknown = Unit {0}
+-- What is read of a path by a template. `Matched`: its captures. `Unmatched`: the template does not
+-- match it. `Unknown`: nothing is said.
+abbrev pub IsReading : PathTemplate → (path : List ℕ) → PathReading → Type 0
+IsReading template path (readings.Matched groups) =
+    template_captured template path ≡ Some (captures_of groups)
+IsReading template path readings.Unmatched = template_captured template path ≡ None
+IsReading template path readings.Unknown = Unit {0}

@@ -1,18 +1,18 @@
 //! Paths read by the parts of a pattern that matches every text in each other component.
-ghost use Rattle.std.specs.Prelude.{◌≡◌, IsTrue};
+ghost use Rattle.std.specs.Prelude.{◌≡◌, IfSome, IsTrue};
 ghost use Rattle.std.specs.Str.{chars};
 ghost use Rattle.urlpattern_components.specs.Eight.{at};
-ghost use Rattle.urlpattern_init.specs.UrlTexts.{IsLine};
 ghost use Rattle.urlpattern_matcher.specs.Components.{component_view};
 ghost use Rattle.urlpattern_matches.specs.BorrowedMatches.{groups_view, pattern_captures_view};
 ghost use Rattle.urlpattern_matches.specs.GroupTexts.{borrowed_texts, captures_of};
-ghost use Rattle.urlpattern_paths.specs.PathsAlone.{CapturesAll, IsMadeOfKept, IsRead, IsReadByParts, IsReading, OthersCaptureAll, ReturnsCaptured};
+ghost use Rattle.urlpattern_paths.specs.PathsAlone.{CapturesAll, IsMadeOfKept, IsRead, IsReadBy, IsReading, OthersCaptureAll, ReturnsCaptured};
 ghost use Rattle.urlpattern_pattern.specs.Match.{AreGroupsInOrder, IsMatchOf};
 ghost use Rattle.urlpattern_pattern.specs.Patterns.{components_of, pattern_view};
 ghost use Rattle.urlpattern_syntax.specs.ComponentParts.{kept_parts};
 
 use crate::path_captures::read_path;
 use crate::read_once::are_read_once;
+use crate::template::{PathTemplate, template_of};
 use std::alloc::Global;
 use urlpattern_components::{ComponentName, Eight, with_fields};
 use urlpattern_matcher::component::Component;
@@ -33,41 +33,35 @@ pub enum PathReading<'u> {
     Unknown,
 }
 
-/// Whether a pattern can be read by the parts of its path: they can be read in one way only, and
-/// all other components match every text. A pattern without parts cannot.
-pub fn is_read_by_parts<R: RegExp>(pattern: &UrlPattern<R>) -> bool
-    ensures { IsTrue result → IsReadByParts R.answer pattern.now }
+/// Returns the template by which the path of a pattern can be read, if the pattern has parts, the
+/// parts of the path can be read in one way only and fit a template, and all other components match
+/// every text.
+pub fn path_template<R: RegExp>(pattern: &UrlPattern<R>) -> Option<PathTemplate>
+    ensures { IfSome result (IsReadBy R.answer (pattern_view pattern.now)) }
 {
-    let Some(kept) = pattern.parts() else {
-        return false;
-    };
+    let kept = pattern.parts()?;
     if !capture_others(pattern) {
-        return false;
+        return None;
     }
-    are_read(
-        &kept.components.pathname,
-        pattern.get(ComponentName::Pathname),
-    )
+    let parts = &kept.components.pathname;
+    if !are_read(parts, pattern.get(ComponentName::Pathname)) {
+        return None;
+    }
+    template_of(&parts.parts)
 }
 
-/// Reads a line as a path by the parts of a pattern that can be read so. `Unknown` if the pattern
-/// has no parts, or if memory runs out.
+/// Reads a line as a path by the template of a pattern. `Unknown` if memory runs out.
 ///
 /// Allocates for two captures or more.
 #[inline(always)]
-pub fn read_by_parts<'u, R: RegExp>(
+pub fn read_by_template<'u>(
     alloc: Global,
-    pattern: &UrlPattern<R>,
+    template: &PathTemplate,
     path: &'u str,
 ) -> PathReading<'u>
-    requires read { IsReadByParts R.answer pattern.now }
-    requires line { IsLine (chars path.now) }
-    ensures { IsReading R.answer (pattern_view pattern.now) (chars path.now) result }
+    ensures { IsReading template.now (chars path.now) result }
 {
-    let Some(kept) = pattern.parts() else {
-        return PathReading::Unknown;
-    };
-    match read_path(alloc, &kept.components.pathname.parts, path) {
+    match read_path(alloc, template, path) {
         Ok(Some(groups)) => PathReading::Matched(groups),
         Ok(None) => PathReading::Unmatched,
         Err(_) => PathReading::Unknown,

@@ -5,5 +5,7 @@
 mod by_parts;
 mod path_captures;
 mod read_once;
+mod template;
 
-pub use by_parts::{PathReading, is_read_by_parts, match_with_path, read_by_parts};
+pub use by_parts::{PathReading, match_with_path, path_template, read_by_template};
+pub use template::PathTemplate;

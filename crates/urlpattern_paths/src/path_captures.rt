@@ -1,59 +1,65 @@
 //! What parts capture in a path.
-ghost use Rattle.std.specs.Prelude.{◌≡◌, ◌++◌, IfOk, Some, option_map};
+ghost use Rattle.std.specs.Prelude.{◌≡◌, [], ◌∷◌, ◌++◌, IfOk, Some, option_map};
 ghost use Rattle.std.specs.Str.{chars};
 ghost use Rattle.urlpattern_matches.specs.GroupTexts.{captures_of};
-ghost use Rattle.urlpattern_paths.specs.PathCaptures.{after_front, after_segment, captured, own_capture, read_first_segment, read_part, read_view, segment};
-ghost use Rattle.urlpattern_syntax.specs.Parts.{part_view, parts_view};
+ghost use Rattle.urlpattern_paths.specs.PathCaptures.{after_front, after_segment, read_first_segment, read_view, segment};
+ghost use Rattle.urlpattern_paths.specs.Templates.{template_captured};
 ghost use Rattle.urlpattern_syntax.specs.Text.{option_text};
 
+use crate::template::{PathTemplate, SEGMENT};
 use std::alloc::Global;
 use urlpattern_matches::GroupCaptures;
 use urlpattern_syntax::error::OutOfMemory;
-use urlpattern_syntax::parser::{Part, PartType};
 
 /// The number of captures for which there is room at first, if there are more than one.
 const ROOM: usize = 4;
 
-/// Returns what parts capture in a path, in order. `None`: they do not match it.
+/// Returns what the parts of a template capture in a path, in order. `None`: they do not match it.
 ///
 /// Allocates for two captures or more.
+#[inline(always)]
 pub(crate) fn read_path<'u>(
     alloc: Global,
-    parts: &[Part],
+    template: &PathTemplate,
     path: &'u str,
 ) -> Result<Option<GroupCaptures<'u>>, OutOfMemory>
     ensures { IfOk result (λ found.
-        option_map captures_of found ≡ captured (parts_view parts.now) (chars path.now)) }
+        option_map captures_of found ≡ template_captured template.now (chars path.now)) }
 {
     let mut groups = GroupCaptures::Nothing;
+    let mut left = template.text.as_str();
     let mut rest = path;
-    for part in parts {
-        let Some((capture, after)) = read_part(part, rest) else {
+    while let Some((front, after)) = left.split_once(SEGMENT) {
+        let Some((capture, further)) = read_segment(front, rest) else {
             return Ok(None);
         };
         groups = with_capture(alloc, groups, capture)?;
-        rest = after;
+        left = after;
+        rest = further;
     }
-    if !rest.is_empty() {
+    let Some(end) = after_front(rest, left) else {
+        return Ok(None);
+    };
+    if template.takes_rest {
+        return Ok(Some(with_capture(alloc, groups, end)?));
+    }
+    if !end.is_empty() {
         return Ok(None);
     }
     Ok(Some(groups))
 }
 
-/// Appends a capture, if there is one, to those of a component.
+/// Appends a capture to those of a component.
 ///
 /// Allocates unless it is the first.
 fn with_capture<'u>(
     alloc: Global,
     groups: GroupCaptures<'u>,
-    capture: Option<&'u str>,
+    text: &'u str,
 ) -> Result<GroupCaptures<'u>, OutOfMemory>
     ensures { IfOk result (λ more.
-        captures_of more ≡ captures_of groups.entry ++ own_capture (option_text capture.entry)) }
+        captures_of more ≡ captures_of groups.entry ++ Some (chars text.entry.now) ∷ []) }
 {
-    let Some(text) = capture else {
-        return Ok(groups);
-    };
     match groups {
         GroupCaptures::Nothing => Ok(GroupCaptures::One(Some(text))),
         GroupCaptures::One(first) => {
@@ -70,38 +76,17 @@ fn with_capture<'u>(
     }
 }
 
-/// Returns what a part reads of a text: what it captures, if it captures, and the rest of the text.
-/// `None`: the text does not begin so.
-fn read_part<'u>(part: &Part, text: &'u str) -> Option<(Option<&'u str>, &'u str)>
+/// Returns the segment of a text after `front`, and the rest of the text. `None`: the text does not
+/// begin with `front`, or the segment is empty.
+fn read_segment<'u>(front: &str, text: &'u str) -> Option<(&'u str, &'u str)>
     ensures { option_map read_view result
-        ≡ read_part part.now.kind (part_view part.now) (chars text.now) }
+        ≡ read_first_segment (after_front (chars front.now) (chars text.now)) }
 {
-    match part.kind {
-        PartType::FixedText => {
-            let rest = after_front(text, &part.value)?;
-            Some((None, rest))
-        }
-        PartType::SegmentWildcard => {
-            let rest = after_front(text, &part.prefix)?;
-            read_segment(rest)
-        }
-        PartType::FullWildcard => {
-            let rest = after_front(text, &part.prefix)?;
-            Some((Some(rest), ""))
-        }
-        PartType::Regexp => None,
-    }
-}
-
-/// Returns the first segment of a text, and the rest of the text. `None`: the segment is empty.
-fn read_segment<'u>(text: &'u str) -> Option<(Option<&'u str>, &'u str)>
-    ensures { option_map read_view result ≡ read_first_segment (Some (chars text.now)) }
-{
-    let (piece, rest) = split_segment(text);
-    if piece.is_empty() {
+    let (segment, rest) = split_segment(after_front(text, front)?);
+    if segment.is_empty() {
         return None;
     }
-    Some((Some(piece), rest))
+    Some((segment, rest))
 }
 
 /// Returns the text after `front`. `None`: it does not begin with `front`.

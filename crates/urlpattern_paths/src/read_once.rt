@@ -49,7 +49,7 @@ fn end_segment(parts: &[Part]) -> bool
 }
 
 /// Returns the text with which each text begins that `part` matches, if it has no modifier.
-fn front_text(part: &Part) -> &str
+pub(crate) fn front_text(part: &Part) -> &str
     ensures { chars result.now ≡ front_text (part_view part.now) }
 {
     match part.kind {

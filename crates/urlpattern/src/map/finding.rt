@@ -1,12 +1,12 @@
 //! The matches of a map for what is no `Url`: eight texts, an input that is parsed, or a path.
 ghost use Rattle.std.specs.Map.{keys_of};
-ghost use Rattle.std.specs.Prelude.{◌≡◌, ◌<◌, ◌≤◌, length, IfErr, IfOk, IfSome, IsTrue};
+ghost use Rattle.std.specs.Prelude.{◌≡◌, ◌<◌, ◌≤◌, length, IfErr, IfOk, IfSome};
 ghost use Rattle.std.specs.Str.{chars};
 ghost use Rattle.urlpattern.specs.FirstMatch.{CallsEngineBeforeMatch, HasGroupsInOrder, IsFirstCaptured};
 ghost use Rattle.urlpattern.specs.MapMatches.{all_entries, entries_left, HasEntriesOfPath};
 ghost use Rattle.urlpattern.specs.NextMatch.{CallsEngineBeforeMatchFrom, IsFirstCapturedFrom, SkipsOnlyMismatches};
 ghost use Rattle.urlpattern.specs.Paths.{HasGroupsOfPath, IsFirstOfPath, IsPathError};
-ghost use Rattle.urlpattern.specs.PatternKeys.{IsReadByPartsAt};
+ghost use Rattle.urlpattern.specs.PatternKeys.{IsTemplateAt};
 ghost use Rattle.urlpattern.specs.PatternMaps.{entry_patterns, HasValueAt, without_value};
 ghost use Rattle.urlpattern_index.specs.Keys.{hashes_view};
 ghost use Rattle.urlpattern_matches.specs.GroupTexts.{borrowed_texts};
@@ -22,6 +22,7 @@ use urlpattern_index::AddressHashes;
 use urlpattern_inputs::MatchInput;
 use urlpattern_matcher::regexp::RegExp;
 use urlpattern_matches::{UrlPatternCaptures, input_texts, pathname_texts};
+use urlpattern_paths::PathTemplate;
 use urlpattern_syntax::Error;
 use urlpattern_syntax::error::OutOfMemory;
 
@@ -139,12 +140,14 @@ impl<T, R: RegExp> UrlPatternMap<T, R> {
         Some(UrlPatternMapMatches::new(self, alloc, pathname_texts(path)))
     }
 
-    /// Whether the pattern at an index is known to be read by its parts, without a look at it.
+    /// Returns the template by which the path of the pattern at an index is read, without a look
+    /// at the pattern, if there is one.
     #[inline(always)]
-    pub(crate) fn is_read_by_parts(&self, index: usize) -> bool
-        ensures { IsTrue result → IsReadByPartsAt R.answer (keys_of self.now) index }
+    pub(crate) fn template(&self, index: usize) -> Option<&PathTemplate>
+        ensures { IfSome result (λ template.
+            IsTemplateAt R.answer (keys_of self.now) index template.now) }
     {
-        self.patterns.is_read_by_parts(index)
+        self.patterns.template(index)
     }
 
     /// Returns the least index, not below `from`, whose pattern may match texts with these hashes.

@@ -14,7 +14,7 @@ use std::alloc::Global;
 use urlpattern_index::AddressHashes;
 use urlpattern_matcher::regexp::RegExp;
 use urlpattern_matches::{GroupCaptures, pathname_texts};
-use urlpattern_paths::{PathReading, match_with_path, read_by_parts};
+use urlpattern_paths::{PathReading, match_with_path, read_by_template};
 use urlpattern_pattern::UrlPattern;
 
 /// What patterns of a path alone say of a request for a path.
@@ -151,10 +151,10 @@ impl<T, R: RegExp> UrlPatternRouter<T, R> {
         if !route.takes(method) {
             return Ok(false);
         }
-        if !self.routes.is_read_by_parts(index) {
+        let Some(template) = self.routes.template(index) else {
             return Err(Quick::Unknown);
-        }
-        match read_by_parts(alloc, pattern, path) {
+        };
+        match read_by_template(alloc, template, path) {
             PathReading::Matched(groups) => {
                 Err(Quick::Served(index, &route.value, pattern, groups))
             }

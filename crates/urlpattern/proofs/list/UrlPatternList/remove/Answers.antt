@@ -1,7 +1,7 @@
 use Rattle.std.proofs.Common.{◌<◌, ◌≤◌, ◌∙◌, List, ap, arith, length, refl, sym}
 use Rattle.std.proofs.lemmas.Option.{slice_get_past, slice_get_read}
 use Rattle.std.specs.Prelude.{slice_get}
-use Rattle.urlpattern.proofs.FixedLemmas.{indexed-remove, marked-remove, remove-past}
+use Rattle.urlpattern.proofs.FixedLemmas.{indexed-remove, templates-remove, remove-past}
 use Rattle.urlpattern_pattern.specs.UrlPatterns.{UrlPattern}
 use Rattle.urlpattern.proofs.list.UrlPatternList.remove.Goals as goal
 
@@ -20,7 +20,7 @@ remove-requires g c = omega (arith, c.len.ensures, c.if-index-len.false, c.self.
 
 pub remove-requires-2 : goal.remove-requires-2
 remove-requires-2 g c =
-    omega (arith, c.len.ensures, c.if-index-len.false, c.self.inside.patterns.ok, c.self.inside.are_read_by_parts.ok, c.self.invariant.1.as_many)
+    omega (arith, c.len.ensures, c.if-index-len.false, c.self.inside.patterns.ok, c.self.inside.templates.ok, c.self.invariant.1.as_many)
 
 pub invariant_of-self : goal.invariant_of-self
 invariant_of-self g c =
@@ -28,7 +28,7 @@ invariant_of-self g c =
     let within : c.args.index < length patterns = omega (arith, c.len.ensures, c.if-index-len.false, c.self.inside.patterns.ok) in
     rw (c.remove-3.ensures.items, c.remove.ensures, c.remove-2.ensures.items) (
       indexed-remove g.R.RegExp.answer patterns c.self.inside.index c.self.invariant.0 c.args.index within,
-      marked-remove g.R.RegExp.answer patterns c.self.inside.are_read_by_parts.items c.self.invariant.1 c.args.index within,
+      templates-remove g.R.RegExp.answer patterns c.self.inside.templates.items c.self.invariant.1 c.args.index within,
     )
 
 pub returns-clause-removed : goal.returns-clause-removed
