@@ -3,9 +3,10 @@ use Rattle.std.proofs.Common.{◌≡◌, ◌∙◌, ◌↔◌, ℕ, Bool, true, 
 use Rattle.std.proofs.lemmas.Bool.{false≢true}
 use Rattle.std.proofs.lemmas.List.Elements.{All-cons, All-head, All-nil, All-tail}
 use Rattle.std.specs.Prelude.{IsTrue, not}
+use Rattle.std.specs.Str.{all_scalars}
 use Rattle.urlpattern_compare.proofs.CommonLemmas.{accepts_text}
 use Rattle.urlpattern_compare.proofs.PartsRead.{made_within, meaning_accepted}
-use Rattle.urlpattern_compare.specs.Answers.{IsFoundBy, IsReason, IsSought, IsUntold, LeadBothAlike, answer_of}
+use Rattle.urlpattern_compare.specs.Answers.{IsFoundBy, IsReason, IsSought, IsTold, IsUntold, LeadBothAlike, answer_of}
 use Rattle.urlpattern_compare.specs.Automata.{IsWhether}
 use Rattle.urlpattern_compare.specs.Conditions.{accepts, is_as, is_met, states_after}
 use Rattle.urlpattern_compare.specs.Making.{IsMadeOf}
@@ -19,7 +20,6 @@ use Rattle.urlpattern_compare.specs.declared.coverage.Reason.TheVariants as reas
 use Rattle.urlpattern_compare.specs.declared.parts_automaton.PartsAutomaton.{PartsAutomaton}
 use Rattle.urlpattern_compare.specs.declared.search.Found.{Found}
 use Rattle.urlpattern_compare.specs.declared.search.Found.TheVariants.{Text, Nothing, TooMany}
-use Rattle.urlpattern_meaning.specs.PartMeaning.{AreGenerated}
 use Rattle.urlpattern_syntax.specs.{Options.OptionsView, Parts.PartView}
 
 -- ---- two conditions
@@ -106,29 +106,29 @@ whether_means : (asked found : Bool) (Means : Type 0) → IsTrue found ↔ Means
 whether_means true found Means same is = same.0 is
 whether_means false found Means same is = λ means. false≢true (sym is ∙ same.1 means)
 
-module _ (options : OptionsView) (parts : List PartView) (other_options : OptionsView) (others : List PartView) (one other : PartsAutomaton) (gen : AreGenerated parts) (other_gen : AreGenerated others)
+module _ (options : OptionsView) (parts : List PartView) (other_options : OptionsView) (others : List PartView) (one other : PartsAutomaton) (told : IsTold options parts) (other_told : IsTold other_options others)
     (same : IsMadeOf options parts one) (other_same : IsMadeOf other_options others other) where
-  means_one : (text : List ℕ) → IsTrue (accepts one text) ↔ MeansText options parts text
-  means_one text =
+  means_one : (text : List ℕ) → IsTrue (all_scalars text) → IsTrue (accepts one text) ↔ MeansText options parts text
+  means_one text good =
       let here = accepts_text one text (made_within options parts one same) in
-      let there = meaning_accepted options parts one gen same text in
+      let there = meaning_accepted options parts one told.by_case same text good in
       (λ is. there.0 (here.1 is), λ means. here.0 (there.1 means))
 
-  means_other : (text : List ℕ) → IsTrue (accepts other text) ↔ MeansText other_options others text
-  means_other text =
+  means_other : (text : List ℕ) → IsTrue (all_scalars text) → IsTrue (accepts other text) ↔ MeansText other_options others text
+  means_other text good =
       let here = accepts_text other text (made_within other_options others other other_same) in
-      let there = meaning_accepted other_options others other other_gen other_same text in
+      let there = meaning_accepted other_options others other other_told.by_case other_same text good in
       (λ is. there.0 (here.1 is), λ means. here.0 (there.1 means))
 
   found_answer : (is_meant : Bool) (found : Found) → IsFoundBy one other is_meant found → IsSought options parts other_options others is_meant (answer_of found)
   found_answer is_meant (Text text) (is, other_is, line) =
-      ((means_one text.items).0 is, whether_means is_meant (accepts other text.items) (MeansText other_options others text.items) (means_other text.items) other_is, line)
+      ((means_one text.items line.scalars).0 is, whether_means is_meant (accepts other text.items) (MeansText other_options others text.items) (means_other text.items line.scalars) other_is, line.plain)
   found_answer is_meant Nothing none = λ text fine plain means.
-      whether_means (not is_meant) (accepts other text) (MeansText other_options others text) (means_other text) (none text (record { scalars = fine; plain = plain }) ((means_one text).1 means))
+      whether_means (not is_meant) (accepts other text) (MeansText other_options others text) (means_other text fine) (none text (record { scalars = fine; plain = plain }) ((means_one text fine).1 means))
   found_answer is_meant TooMany many = inr (one, other, same, other_same, many)
 
 pub found_parts : (options : OptionsView) (parts : List PartView) (other_options : OptionsView) (others : List PartView) (is_meant : Bool) (one other : PartsAutomaton) (found : Found) (answer : Answer) →
-    answer ≡ answer_of found → AreGenerated parts → AreGenerated others → IsMadeOf options parts one → IsMadeOf other_options others other → IsFoundBy one other is_meant found →
+    answer ≡ answer_of found → IsTold options parts → IsTold other_options others → IsMadeOf options parts one → IsMadeOf other_options others other → IsFoundBy one other is_meant found →
     IsSought options parts other_options others is_meant answer
-found_parts options parts other_options others is_meant one other found answer e gen other_gen same other_same is =
-    subst (IsSought options parts other_options others is_meant) (sym e) (found_answer options parts other_options others one other gen other_gen same other_same is_meant found is)
+found_parts options parts other_options others is_meant one other found answer e told other_told same other_same is =
+    subst (IsSought options parts other_options others is_meant) (sym e) (found_answer options parts other_options others one other told other_told same other_same is_meant found is)

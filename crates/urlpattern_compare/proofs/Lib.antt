@@ -1,5 +1,6 @@
 pub mod StateSets
 pub mod CharacterClasses
+pub mod NamedCharacters
 pub mod ConditionClasses
 pub mod ConditionLemmas
 pub mod PlaceLemmas
@@ -9,6 +10,8 @@ pub mod MadeStates
 pub mod CellTexts
 pub mod Blocks
 pub mod ComparedCopies
+pub mod ShapeEdges
+pub mod ShapeStates
 pub mod PartTexts
 pub mod PartsRead
 pub mod AnswerLemmas
@@ -28,10 +31,12 @@ pub mod DependsLemmas
 pub mod TakenLemmas
 pub mod Numbers
 pub mod WorkLemmas
+pub mod MakingLemmas
 pub mod BoundLemmas
 pub mod SmallLemmas
 pub mod CommonExamples
 pub mod CaseExamples
+pub mod ShapeExamples
 pub mod WorkExamples
 pub mod TogetherLemmas
 pub mod ReachLemmas

@@ -1,8 +1,9 @@
 //! Compares the texts that two lists of parts match.
 
-ghost use Rattle.std.specs.Prelude.{◌≡◌, IfNone, IfOk, IfSome, false, true};
+ghost use Rattle.std.specs.Prelude.{◌≡◌, IfNone, IfOk, IfSome, IsTrue, false, true};
+ghost use Rattle.urlpattern_compare.specs.declared.coverage.Reason.TheVariants as reasons;
 ghost use Rattle.std.specs.List.{list_any};
-ghost use Rattle.urlpattern_compare.specs.Answers.{IsCoveringOf, IsFoundBy, IsOverlapOf, IsSoughtOf, IsUntold, answer_of, is_custom_part};
+ghost use Rattle.urlpattern_compare.specs.Answers.{IsCoveringOf, IsFoundBy, IsOverlapOf, IsSoughtOf, IsTold, IsUntold, answer_of, is_custom_part};
 ghost use Rattle.urlpattern_meaning.specs.PartMeaning.{AreGenerated};
 ghost use Rattle.urlpattern_syntax.specs.{Options.options_view, Parts.parts_view};
 
@@ -12,6 +13,8 @@ use crate::search::{Found, most_sets};
 use crate::text_search::find_text;
 use std::alloc::{AllocError, Global};
 use urlpattern_components::ComponentName;
+use urlpattern_expressions::are_simple;
+use urlpattern_syntax::error::OutOfMemory;
 use urlpattern_syntax::parser::{Options, Part, PartType};
 
 /// Whether parts match each text without line feed that other parts, the asked ones, match.
@@ -39,14 +42,16 @@ pub enum Overlap {
 /// Why a comparison has no result.
 #[derive(Clone, Copy, Debug, PartialEq, Eq)]
 pub enum Reason {
-    /// A part is a custom regular expression, and case is kept.
+    /// A custom regular expression is not simple (`urlpattern_expressions::is_simple`), and case is
+    /// kept.
     CustomExpression,
     /// Case is ignored, and a part is a custom regular expression, or an engine matches the
     /// component that does not honour the flag `i`, such as `regex::Regex`.
     IgnoredCase,
-    /// The parts need more than [`MOST_STATES`](crate::MOST_STATES) states, or the search for a
-    /// text that decides reaches more than [`MOST_SETS`](crate::MOST_SETS) sets of states. Of two
-    /// small components it is never the reason, as
+    /// The parts need more than [`MOST_STATES`](crate::MOST_STATES) states, an expression needs too
+    /// large a tree, or the search for a text that decides reaches more than
+    /// [`MOST_SETS`](crate::MOST_SETS) sets of states. Of two small components without custom
+    /// expressions it is never the reason, as
     /// [`small_components_are_compared`](crate::comparing_laws) says.
     TooMany,
 }
@@ -114,11 +119,13 @@ fn find_meant(
 ) -> Result<Answer, AllocError>
     ensures { IfOk result (IsSoughtOf options.now parts.now other_options.now others.now is_meant) }
 {
-    if let Some(reason) = untold(options, parts) {
-        return Ok(Answer::Unknown(reason));
+    match untold(alloc, options, parts)? {
+        Some(reason) => return Ok(Answer::Unknown(reason)),
+        None => {}
     }
-    if let Some(reason) = untold(other_options, others) {
-        return Ok(Answer::Unknown(reason));
+    match untold(alloc, other_options, others)? {
+        Some(reason) => return Ok(Answer::Unknown(reason)),
+        None => {}
     }
     let Some(one) = make(alloc, options, parts)? else {
         return Ok(Answer::Unknown(Reason::TooMany));
@@ -173,19 +180,51 @@ fn answer_of(found: Found) -> Answer
     }
 }
 
-/// Returns why `parts` do not tell which texts they match: a part is a custom regular expression.
-/// `None`: the parts tell.
-pub(crate) fn untold(options: &Options, parts: &[Part]) -> Option<Reason>
-    ensures told { IfNone result (AreGenerated (parts_view parts.now)) }
-    ensures reason { IfSome result (IsUntold (options_view options.now) (parts_view parts.now)) }
+/// Returns why `parts` do not tell which texts they match: a custom regular expression is not
+/// simple, or case is ignored. `None`: the parts tell.
+pub(crate) fn untold(
+    alloc: Global,
+    options: &Options,
+    parts: &[Part],
+) -> Result<Option<Reason>, AllocError>
+    ensures told { IfOk result (λ found.
+        IfNone found (IsTold (options_view options.now) (parts_view parts.now))) }
+    ensures reason { IfOk result (λ found.
+        IfSome found (IsUntold (options_view options.now) (parts_view parts.now))) }
 {
-    if !has_custom(parts) {
-        return None;
-    }
     if options.ignore_case {
-        Some(Reason::IgnoredCase)
+        return Ok(ignored(parts));
+    }
+    match are_simple(alloc, parts, false) {
+        Ok(are_simple) => Ok(complex(are_simple)),
+        Err(OutOfMemory) => Err(AllocError),
+    }
+}
+
+/// Returns why parts do not tell which texts they match where case is kept: a custom regular
+/// expression is not simple.
+fn complex(are_simple: bool) -> Option<Reason>
+    ensures told { IfNone result (IsTrue are_simple) }
+    ensures reason { IfSome result (λ reason.
+        (are_simple ≡ false) × (reason ≡ reasons.CustomExpression)) }
+{
+    if are_simple {
+        None
     } else {
         Some(Reason::CustomExpression)
+    }
+}
+
+/// Returns why `parts` do not tell which texts they match where case is ignored: one is custom.
+fn ignored(parts: &[Part]) -> Option<Reason>
+    ensures told { IfNone result (AreGenerated (parts_view parts.now)) }
+    ensures custom { IfSome result (λ reason.
+        (¬ AreGenerated (parts_view parts.now)) × (reason ≡ reasons.IgnoredCase)) }
+{
+    if has_custom(parts) {
+        Some(Reason::IgnoredCase)
+    } else {
+        None
     }
 }
 
@@ -197,7 +236,7 @@ pub(crate) fn has_custom(parts: &[Part]) -> bool
 }
 
 /// Whether the part is a custom regular expression.
-fn is_custom(part: &Part) -> bool
+pub(crate) fn is_custom(part: &Part) -> bool
     ensures { result ≡ is_custom_part part.now }
 {
     matches!(part.kind, PartType::Regexp)

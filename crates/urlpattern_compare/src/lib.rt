@@ -37,6 +37,7 @@ mod parts_hash;
 mod pattern_parts;
 mod reaching;
 mod search;
+mod shapes;
 mod states;
 mod text_search;
 mod together;
