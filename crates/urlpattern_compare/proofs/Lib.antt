@@ -16,6 +16,8 @@ pub mod PartTexts
 pub mod PartsRead
 pub mod AnswerLemmas
 pub mod ComponentLemmas
+pub mod ExampleLemmas
+pub mod FrontLemmas
 pub mod ListedLemmas
 pub mod OrderLemmas
 pub mod PatternPartLemmas
@@ -36,6 +38,7 @@ pub mod BoundLemmas
 pub mod SmallLemmas
 pub mod CommonExamples
 pub mod CaseExamples
+pub mod MadeTextExamples
 pub mod ShapeExamples
 pub mod WorkExamples
 pub mod TogetherLemmas

@@ -48,15 +48,16 @@ start_placed conditions place (flags_are, text_is) = record {
   line = subst IsLine (sym text_is) (record { scalars = refl; plain = refl });
 }
 
+-- A line is one still after a further character.
+pub line_more : (text : List ℕ) (c : ℕ) → IsScalar c → c ≢ line_feed → IsLine text → IsLine (text ++ c ∷ [])
+line_more text c scalar plain line = record { scalars = scalars_more text c scalar line.scalars; plain = lacks_more text c plain line.plain }
+
 -- A place is reached by a further character.
 pub step_placed : (conditions : List Condition) (place next : Place) (c : ℕ) → IsScalar c → c ≢ line_feed → IsPlaced conditions place →
     IsPlaceOf (joint_moved conditions place.flags.items c) (place.text.items ++ c ∷ []) next → IsPlaced conditions next
 step_placed conditions place next c scalar plain placed (flags_are, text_is) = record {
   flags = flags_are ∙ ap (λ f. joint_moved conditions f c) placed.flags ∙ moved_after conditions place.text.items c ∙ ap (λ t. joint_after conditions t) (sym text_is);
-  line = subst IsLine (sym text_is) (record {
-    scalars = scalars_more place.text.items c scalar placed.line.scalars;
-    plain = lacks_more place.text.items c plain placed.line.plain;
-  });
+  line = subst IsLine (sym text_is) (line_more place.text.items c scalar plain placed.line);
 }
 
 -- A copy of a place.

@@ -8,6 +8,7 @@ ghost use Rattle.urlpattern_syntax.specs.Parts.{parts_view};
 ghost use Rattle.urlpattern_syntax.specs.Text.{text_of};
 
 use crate::coverage::{Covering, Overlap, Reason, covers, has_custom, overlaps, untold};
+use crate::examples::example_of;
 use std::alloc::{AllocError, Global};
 use urlpattern_syntax::ComponentParts;
 use urlpattern_syntax::parser::{Options, Part, PartModifier, PartType};
@@ -220,6 +221,9 @@ fn common_with_anything(alloc: Global, component: &ComponentParts) -> Result<Ove
     requires { IsKnown component.now }
     ensures { IfOk result (IsExample component.now) }
 {
+    if let Some(text) = example_of(alloc, &component.options, &component.parts)? {
+        return Ok(Overlap::Common(text));
+    }
     let anything = anything(alloc)?;
     overlaps(
         alloc,

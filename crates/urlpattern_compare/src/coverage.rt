@@ -1,13 +1,18 @@
 //! Compares the texts that two lists of parts match.
 
-ghost use Rattle.std.specs.Prelude.{◌≡◌, IfNone, IfOk, IfSome, IsTrue, false, true};
+ghost use Rattle.std.specs.Prelude.{◌≡◌, ℕ, List, IfNone, IfOk, IfSome, IsTrue, false, true};
 ghost use Rattle.urlpattern_compare.specs.declared.coverage.Reason.TheVariants as reasons;
 ghost use Rattle.std.specs.List.{list_any};
 ghost use Rattle.urlpattern_compare.specs.Answers.{IsCoveringOf, IsFoundBy, IsOverlapOf, IsSoughtOf, IsTold, IsUntold, answer_of, is_custom_part};
+ghost use Rattle.urlpattern_compare.specs.{Conditions.accepts, Examples.IsExampleOf, MeantTexts.MeansText};
 ghost use Rattle.urlpattern_meaning.specs.PartMeaning.{AreGenerated};
 ghost use Rattle.urlpattern_syntax.specs.{Options.options_view, Parts.parts_view};
 
+use crate::accepting::accepts;
 use crate::condition::Condition;
+use crate::examples::example_of;
+use crate::fronts::fronts_part_ways;
+use crate::joint_states::is_as;
 use crate::parts_automaton::{PartsAutomaton, make};
 use crate::search::{Found, most_sets};
 use crate::text_search::find_text;
@@ -119,6 +124,63 @@ fn find_meant(
 ) -> Result<Answer, AllocError>
     ensures { IfOk result (IsSoughtOf options.now parts.now other_options.now others.now is_meant) }
 {
+    match settled(alloc, options, parts, other_options, others, is_meant)? {
+        Some(answer) => Ok(answer),
+        None => search_meant(alloc, options, parts, other_options, others, is_meant),
+    }
+}
+
+/// Returns the answer of `find_meant` where the fronts of the two lists tell that no text is matched
+/// by both. `None`: the fronts do not tell, or no text that `parts` match is made from them alone.
+fn settled(
+    alloc: Global,
+    options: &Options,
+    parts: &[Part],
+    other_options: &Options,
+    others: &[Part],
+    is_meant: bool,
+) -> Result<Option<Answer>, AllocError>
+    ensures { IfOk result (λ found. IfSome found
+        (IsSoughtOf options.now parts.now other_options.now others.now is_meant)) }
+{
+    if !are_apart(options, parts, other_options, others) {
+        return Ok(None);
+    }
+    if is_meant {
+        return Ok(Some(Answer::Nothing));
+    }
+    match example_of(alloc, options, parts)? {
+        Some(text) => Ok(Some(Answer::Text(text))),
+        None => Ok(None),
+    }
+}
+
+/// Whether case is kept, and the fronts of the two lists tell that no text is matched by both.
+fn are_apart(options: &Options, parts: &[Part], other_options: &Options, others: &[Part]) -> bool
+    ensures { IsTrue result → (text : List ℕ)
+        → MeansText (options_view options.now) (parts_view parts.now) text
+        → ¬ MeansText (options_view other_options.now) (parts_view others.now) text }
+{
+    if options.ignore_case {
+        return false;
+    }
+    if other_options.ignore_case {
+        return false;
+    }
+    fronts_part_ways(parts, others)
+}
+
+/// Finds the text of `find_meant`: the one that is made from `parts` alone, or by a search.
+fn search_meant(
+    alloc: Global,
+    options: &Options,
+    parts: &[Part],
+    other_options: &Options,
+    others: &[Part],
+    is_meant: bool,
+) -> Result<Answer, AllocError>
+    ensures { IfOk result (IsSoughtOf options.now parts.now other_options.now others.now is_meant) }
+{
     match untold(alloc, options, parts)? {
         Some(reason) => return Ok(Answer::Unknown(reason)),
         None => {}
@@ -127,14 +189,41 @@ fn find_meant(
         Some(reason) => return Ok(Answer::Unknown(reason)),
         None => {}
     }
-    let Some(one) = make(alloc, options, parts)? else {
+    let Some(other) = make(alloc, other_options, others)? else {
         return Ok(Answer::Unknown(Reason::TooMany));
     };
-    let Some(other) = make(alloc, other_options, others)? else {
+    if let Some(text) = example_by(alloc, options, parts, &other, is_meant)? {
+        return Ok(Answer::Text(text));
+    }
+    let Some(one) = make(alloc, options, parts)? else {
         return Ok(Answer::Unknown(Reason::TooMany));
     };
     let found = find_by(alloc, &one, &other, is_meant)?;
     Ok(answer_of(found))
+}
+
+/// Returns the text that is made from `parts` alone, if `other` accepts it and `is_accepted` is
+/// true, or rejects it and `is_accepted` is false.
+fn example_by(
+    alloc: Global,
+    options: &Options,
+    parts: &[Part],
+    other: &PartsAutomaton,
+    is_accepted: bool,
+) -> Result<Option<Vec<char>>, AllocError>
+    ensures { IfOk result (λ found. IfSome found (λ text.
+        IsExampleOf (options_view options.now) (parts_view parts.now) text.items
+        × (accepts other.now text.items ≡ is_accepted))) }
+{
+    let Some(text) = example_of(alloc, options, parts)? else {
+        return Ok(None);
+    };
+    let found = accepts(alloc, other, &text)?;
+    if is_as(is_accepted, found) {
+        Ok(Some(text))
+    } else {
+        Ok(None)
+    }
 }
 
 /// Finds a text without line feed that `one` accepts, and that `other` accepts if `is_accepted`,

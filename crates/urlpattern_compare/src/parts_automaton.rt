@@ -338,7 +338,7 @@ fn repeats(modifier: PartModifier) -> bool
 }
 
 /// Whether a part with this modifier may be left out.
-fn may_miss(modifier: PartModifier) -> bool
+pub(crate) fn may_miss(modifier: PartModifier) -> bool
     ensures { result ≡ may_miss modifier }
 {
     matches!(modifier, PartModifier::Optional | PartModifier::ZeroOrMore)
