@@ -36,7 +36,7 @@ static inline urlpattern_status urlpattern_is_same(urlpattern_list *patterns, si
  * component, or URLPATTERN_NO_COMPONENT.
  * DONE (it covers it), NO_MATCH (it does not: it does not match a text of this component that
  * the asked one matches), UNKNOWN (because of this component, where no other one decides: it has
- * a custom regular expression, or would take too many steps to compare),
+ * a custom regular expression that is not simple, or would take too many steps to compare),
  * OUT_OF_MEMORY, or NO_PATTERN (of one of the two indices). But for NO_MATCH and UNKNOWN
  * `component` is URLPATTERN_NO_COMPONENT. */
 urlpattern_status urlpattern_covers_within(urlpattern_list *patterns, size_t index, size_t asked,
@@ -61,8 +61,8 @@ static inline urlpattern_status urlpattern_covers(urlpattern_list *patterns, siz
 
 /* Why it is not known whether a pattern covers another one, as a `uint32_t`. */
 enum urlpattern_covering_reason_number {
-    URLPATTERN_CUSTOM_EXPRESSION = 1, /* a component has a custom regular expression */
-    URLPATTERN_IGNORED_CASE = 2,      /* a component has one, and ignores case */
+    URLPATTERN_CUSTOM_EXPRESSION = 1, /* a component has a custom expression that is not simple */
+    URLPATTERN_IGNORED_CASE = 2,      /* a component has a custom expression, and ignores case */
     URLPATTERN_TOO_MANY = 3,          /* it would take too many steps to compare them */
     URLPATTERN_NO_PARTS = 4           /* a pattern was put together by hand, as none here is */
 };
@@ -125,7 +125,7 @@ urlpattern_status urlpattern_overlaps_between(urlpattern_list *patterns, size_t 
  * an element for each pattern, in order: an init with texts that the pattern matches and none
  * before it does; or an array of the indices of earlier patterns that cover it together, none of
  * which can be left out, so that it is the first match of no URL; or null if neither is known, as
- * where a pattern has a custom regular expression.
+ * where a pattern has a custom regular expression that is not simple.
  * DONE, OUT_OF_MEMORY, NO_PATTERN (the handle has none), or TOO_SMALL. */
 urlpattern_status urlpattern_reach_of_each(urlpattern_list *patterns, char *buffer, size_t room,
                                            size_t *needed);

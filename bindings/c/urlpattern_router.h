@@ -56,8 +56,8 @@ urlpattern_status urlpattern_router_share(urlpattern_router *router, urlpattern_
  * Writes the index of the route, and its groups as `urlpattern_captures` does.
  * DONE, NO_MATCH (no route matches, as for the status 404, or there is none), NOT_ALLOWED (a route
  * matches, but none serves the method, as for 405), NO_PATH, NOT_UTF8, OUT_OF_MEMORY, or TOO_SMALL.
- * For DONE and TOO_SMALL `index` is written; for OUT_OF_MEMORY it may be, to whichever number; for
- * the others it is as it was. */
+ * For DONE and TOO_SMALL `index` is written; for the others it is as it was. The buffer, the array
+ * and `needed` are as `urlpattern_captures` leaves them. */
 urlpattern_status urlpattern_router_at(urlpattern_router *router, const char *method,
                                        size_t method_length, const char *path, size_t length,
                                        size_t *index, char *buffer, size_t room,

@@ -287,7 +287,7 @@ class URLPattern:
         """Why `covers` returns None: "custom expression", "ignored case" or "too many steps". None:
         it returns something else.
 
-        >>> numbers = URLPattern({"pathname": r"/:id(\\d+)"})
+        >>> numbers = URLPattern({"pathname": r"/:id(\\d+\\b)"})
         >>> numbers.covers(URLPattern({"pathname": "/7"}))
         >>> numbers.covering_reason(URLPattern({"pathname": "/7"}))
         'custom expression'

@@ -236,12 +236,18 @@ fn links_and_coverings() {
     assert_eq!(all.counterexample(&users), Ok(None));
     assert_eq!(users.overlaps(&all), Ok(Some(true)));
     let list = routes();
-    assert_eq!(list.overlaps(0, &list, 1), Ok(None));
+    assert_eq!(list.overlaps(0, &list, 1), Ok(Some(false)));
     assert_eq!(list.counterexample(2, &list, 0), Ok(None));
     let about = pattern("https://example.com/about");
     assert_eq!(users.overlaps(&about), Ok(Some(false)));
     assert_eq!(
         routes().covers(1, 2),
+        Ok(Covering::NotCovered(ComponentName::Pathname))
+    );
+    let words = pattern("https://example.com/:word(\\w+\\b)");
+    assert_eq!(users.overlaps(&words), Ok(None));
+    assert_eq!(
+        words.covers(&all),
         Ok(Covering::Unknown(Some(ComponentName::Pathname)))
     );
 }

@@ -69,17 +69,15 @@ fn compared<T>(found: Result<T, CompareError>) -> Result<T, Fault> {
     }
 }
 
-/// Whether what was found is recorded: `nothing`, `unknown`, `texts`, the rule that allows with the
-/// reason to deny, or, where expressions are custom, `no texts` or `not nothing`.
+/// Whether what was found is recorded: `nothing`, `unknown`, `texts`, or the rule that allows with
+/// the reason to deny.
 fn is_recorded(alloc: Global, found: &PolicyExcess, recorded: &str) -> Result<bool, Fault> {
     match found {
-        PolicyExcess::Nothing => Ok(recorded == "nothing" || recorded == "no texts"),
-        PolicyExcess::Unknown(_) => Ok(recorded == "unknown"
-            || recorded == "no texts"
-            || recorded == "not nothing"),
-        PolicyExcess::Texts(found) => Ok(recorded == "texts"
-            || recorded == "not nothing"
-            || by_rules(alloc, found)?.as_str() == recorded),
+        PolicyExcess::Nothing => Ok(recorded == "nothing"),
+        PolicyExcess::Unknown(_) => Ok(recorded == "unknown"),
+        PolicyExcess::Texts(found) => {
+            Ok(recorded == "texts" || by_rules(alloc, found)?.as_str() == recorded)
+        }
     }
 }
 

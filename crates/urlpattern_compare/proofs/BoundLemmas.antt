@@ -6,27 +6,25 @@ use Rattle.std.proofs.lemmas.List.Elements.{All-cons, All-contains, All-head, Al
 use Rattle.std.proofs.lemmas.List.Sums.{sum_by-cons}
 use Rattle.std.proofs.Math.Nat.{pow-le-pow_right}
 use Rattle.std.specs.List.{All, sum_by}
-use Rattle.std.specs.Prelude.{IsTrue}
 use Rattle.urlpattern_compare.proofs.CommonLemmas.{accepts_means}
 use Rattle.urlpattern_compare.proofs.ConditionLemmas.{length_after}
 use Rattle.urlpattern_compare.proofs.DependsLemmas.{slice_contains}
 use Rattle.urlpattern_compare.proofs.Numbers.{at_most, code, code_below, code_one, doubled, doubled_is}
 use Rattle.urlpattern_compare.proofs.TakenLemmas.{automata_of}
 use Rattle.urlpattern_compare.proofs.WorkLemmas.{parts_states}
-use Rattle.urlpattern_compare.specs.Candidates.{LackLines, TextAt}
-use Rattle.urlpattern_compare.specs.CommonLaws.{AreCounted, FewNeedFewTexts, MatchesAnything, SmallHaveAutomata, SmallNeedFewSets, joint_size}
+use Rattle.urlpattern_compare.specs.Candidates.{AreLines, TextAt}
+use Rattle.urlpattern_compare.specs.CommonLaws.{AreCounted, FewNeedFewTexts, IsSmall, MatchesAnything, SmallHaveAutomata, SmallNeedFewSets, joint_size}
 use Rattle.urlpattern_compare.specs.CommonTexts.{AcceptsAlike, AreAutomata, IsAutomatonOrLacks, LacksBy, LeadsAlike, TakeAlike}
 use Rattle.urlpattern_compare.specs.Conditions.{accepts, states_after}
-use Rattle.urlpattern_compare.specs.TextSearch.{AreApart}
+use Rattle.urlpattern_compare.specs.TextSearch.{AreApart, IsLine}
 use Rattle.urlpattern_compare.specs.WorkBounds.{component_size}
 use Rattle.urlpattern_compare.specs.declared.common_texts.PatternAutomata.{PatternAutomata}
-use Rattle.urlpattern_compare.specs.declared.coverage.Reason.TheVariants as reasons
 use Rattle.urlpattern_compare.specs.declared.parts_automaton.PartsAutomaton.{PartsAutomaton}
 use Rattle.urlpattern_components.specs.Eight.{at}
 use Rattle.urlpattern_components.specs.declared.eight.ComponentName.{ComponentName}
+use Rattle.urlpattern_meaning.specs.PartMeaning.{AreGenerated}
 use Rattle.urlpattern_syntax.specs.Options.{options_view}
 use Rattle.urlpattern_syntax.specs.Parts.{parts_view}
-use Rattle.urlpattern_syntax.specs.Text.{lacks, line_feed}
 use Rattle.urlpattern_syntax.specs.declared.parts.ComponentParts.{ComponentParts}
 use native.Mathlib.Nat as nat
 
@@ -79,9 +77,9 @@ own_alike : (found : Option PartsAutomaton) (text other : List ℕ) → own_stat
 own_alike None text other e = tt
 own_alike (Some automaton) text other e = e
 
-own_within : (component : ComponentParts) (found : Option PartsAutomaton) → IsAutomatonOrLacks component found → own_width found ≤ component_size component
-own_within component None made = omega arith
-own_within component (Some automaton) made = let size = made.size in omega arith
+own_within : (component : ComponentParts) (found : Option PartsAutomaton) → AreGenerated (parts_view component.parts.items) → IsAutomatonOrLacks component found → own_width found ≤ component_size component
+own_within component None generated made = omega arith
+own_within component (Some automaton) generated made = let size = made.size generated in omega arith
 
 abbrev sets : List PatternAutomata → ComponentName → (text : List ℕ) → List Bool
 sets [] name text = []
@@ -106,20 +104,21 @@ sets_alike (it ∷ others) name text other e =
     let two = pieces (own_width found) (own_states found text) (own_states found other) (sets others name text) (sets others name other) (own_long found text) (own_long found other) e in
     All-cons (λ automata. LeadsAlike text other (at automata name)) it.automata (automata_of others) (own_alike found text other two.0) (sets_alike others name text other two.1)
 
-width_within : (patterns : List PatternAutomata) (name : ComponentName) → All AreAutomata patterns → width patterns name ≤ joint_size patterns name
-width_within [] name made = omega arith
-width_within (it ∷ others) name made =
-    let own = own_within (at it.parts.components name) (at it.automata name) (All-head AreAutomata it others made name) in
-    let rest = width_within others name (All-tail AreAutomata it others made) in
+width_within : (patterns : List PatternAutomata) (name : ComponentName) → All AreAutomata patterns → All (λ (it : PatternAutomata). AreGenerated (parts_view (at it.parts.components name).parts.items)) patterns → width patterns name ≤ joint_size patterns name
+width_within [] name made generated = omega arith
+width_within (it ∷ others) name made generated =
+    let Is : PatternAutomata → Type 0 = λ it. AreGenerated (parts_view (at it.parts.components name).parts.items) in
+    let own = own_within (at it.parts.components name) (at it.automata name) (All-head Is it others generated) (All-head AreAutomata it others made name) in
+    let rest = width_within others name (All-tail AreAutomata it others made) (All-tail Is it others generated) in
     let sum : joint_size (it ∷ others) name ≡ component_size (at it.parts.components name) + joint_size others name = sum_by-cons (λ (p : PatternAutomata). component_size (at p.parts.components name)) it others in
     omega arith
 
 pub few_sets : SmallNeedFewSets
-few_sets all_of none_of limits name made small (texts, many, apart) =
+few_sets all_of none_of limits name made generated small (texts, many, apart) =
     let patterns = all_of ++ none_of in
     let few = few_values (λ text other. All (λ automata. LeadsAlike text other (at automata name)) (automata_of patterns)) (sets patterns name) (width patterns name) texts
     (sets_alike patterns name) (sets_long patterns name) apart in
-    let power : 2 ^ width patterns name ≤ 2 ^ joint_size patterns name = pow-le-pow_right (omega arith) (width_within patterns name made) in
+    let power : 2 ^ width patterns name ≤ 2 ^ joint_size patterns name = pow-le-pow_right (omega arith) (width_within patterns name made generated) in
     omega arith
 
 -- ---- texts
@@ -146,10 +145,10 @@ same_flags f g (x ∷ xs) e = All-cons (λ it. f it ≡ g it) x xs (ap first_fla
 
 -- A component that matches anything accepts both texts.
 anything_alike : (component : ComponentParts) (found : Option PartsAutomaton) (text other : List ℕ) → IsAutomatonOrLacks component found → MatchesAnything component →
-    IsTrue (lacks line_feed text) → IsTrue (lacks line_feed other) → AcceptsAlike text other found
+    IsLine text → IsLine other → AcceptsAlike text other found
 anything_alike component None text other made anything line other_line = tt
 anything_alike component (Some automaton) text other made anything line other_line =
-    (accepts_means component automaton text made).1 (anything made.known text line) ∙ sym ((accepts_means component automaton other made).1 (anything made.known other other_line))
+    (accepts_means component automaton text line.scalars made).1 (anything made.known text line) ∙ sym ((accepts_means component automaton other other_line.scalars made).1 (anything made.known other other_line))
 
 -- No two values of those of which `P` holds are alike.
 apart_among : {X : Type 0} (P : X → Type 0) (R : X → X → Type 0) (xs : List X) → All P xs → AreApart R xs → AreApart (λ x y. P x → P y → R x y) xs
@@ -178,7 +177,7 @@ module _ (counted : PatternAutomata → List ComponentName) where
       let sum = sum_by-cons (λ (p : PatternAutomata). length (counted p)) it others in
       omega arith
 
-  own_taken_alike : (it : PatternAutomata) (texts others : TextAt) → AreAutomata it → AreCounted (counted it) it → LackLines texts → LackLines others → own_flags it texts ≡ own_flags it others →
+  own_taken_alike : (it : PatternAutomata) (texts others : TextAt) → AreAutomata it → AreCounted (counted it) it → AreLines texts → AreLines others → own_flags it texts ≡ own_flags it others →
       (name : ComponentName) → AcceptsAlike (texts name) (others name) (at it.automata name)
   own_taken_alike it texts others made are lines other_lines e name =
       let found = at it.automata name in
@@ -189,7 +188,7 @@ module _ (counted : PatternAutomata → List ComponentName) where
         | inr anything ↦ anything_alike (at it.parts.components name) found (texts name) (others name) (made name) anything (lines name) (other_lines name)
       ]
 
-  flags_alike : (patterns : List PatternAutomata) (texts others : TextAt) → All AreAutomata patterns → All (λ it. AreCounted (counted it) it) patterns → LackLines texts → LackLines others →
+  flags_alike : (patterns : List PatternAutomata) (texts others : TextAt) → All AreAutomata patterns → All (λ it. AreCounted (counted it) it) patterns → AreLines texts → AreLines others →
       flags patterns texts ≡ flags patterns others → TakeAlike (automata_of patterns) texts others
   flags_alike [] texts others made are lines other_lines e = All-nil (λ automata. (name : ComponentName) → AcceptsAlike (texts name) (others name) (at automata name))
   flags_alike (it ∷ patterns) texts others made are lines other_lines e =
@@ -200,8 +199,8 @@ module _ (counted : PatternAutomata → List ComponentName) where
 
 pub few_texts : FewNeedFewTexts
 few_texts all_of none_of limits counted made are few (found, many, lines, taken, apart) =
-    let most = few_values (λ texts others. LackLines texts → LackLines others → TakeAlike (automata_of none_of) texts others) (flags counted none_of) (sum_by (λ it. length (counted it)) none_of) found
-    (λ texts others e line other_line. flags_alike counted none_of texts others made are line other_line e) (flags_long counted none_of) (apart_among LackLines (TakeAlike (automata_of none_of)) found lines apart) in
+    let most = few_values (λ texts others. AreLines texts → AreLines others → TakeAlike (automata_of none_of) texts others) (flags counted none_of) (sum_by (λ it. length (counted it)) none_of) found
+    (λ texts others e line other_line. flags_alike counted none_of texts others made are line other_line e) (flags_long counted none_of) (apart_among AreLines (TakeAlike (automata_of none_of)) found lines apart) in
     omega arith
 
 -- ---- states
@@ -210,7 +209,10 @@ pub small_automata : SmallHaveAutomata
 small_automata patterns lack small (pattern, there, (none, lacks)) many =
     let component = at pattern.parts.components lack.component in
     let has = slice_contains patterns lack.pattern pattern there in
-    let size = All-contains (λ (it : PatternAutomata). component_size (at it.parts.components lack.component) ≤ 10000) patterns pattern small has in
+    let is = All-contains (λ (it : PatternAutomata). IsSmall (at it.parts.components lack.component)) patterns pattern small has in
+    let size = is.small in
     let states = parts_states (options_view component.options) (parts_view component.parts.items) in
-    let above = subst (λ reason. LacksBy component reason) many lacks in
-    omega arith
+    elim (subst (λ reason. LacksBy component reason) many lacks) [
+      | inl custom ↦ absurd (custom is.generated)
+      | inr above ↦ absurd (omega arith)
+    ]

@@ -8,9 +8,9 @@ use Rattle.std.specs.Option.{IsSome, option_or}
 use Rattle.std.specs.Prelude.{◌==◌, IfErr, IfOk, IfSome, IsTrue, Result, Ok, Err, not}
 use Rattle.std.specs.declared.alloc.Global.{Global}
 use Rattle.std.specs.declared.vec.Vec.{Vec}
-use Rattle.urlpattern_compare.specs.Candidates.{AlikeBy, AreCandidates, AreFirstTexts, AreLines, HasManySetsAt, IsAmong, IsCandidateOf, IsFirstText, IsFoundAt, IsInside, IsSplit, IsWithText, LackLines, MeetsAt, MeetsEach, ShareBy, TextAt, negated, text_at}
+use Rattle.urlpattern_compare.specs.Candidates.{AlikeBy, AreCandidates, AreFirstTexts, AreLines, HasManySetsAt, IsAmong, IsCandidateOf, IsFirstText, IsFoundAt, IsInside, IsSplit, IsWithText, MeetsAt, MeetsEach, ShareBy, TextAt, negated, text_at}
 use Rattle.urlpattern_compare.specs.Conditions.{Meets, accepts, is_as, is_met}
-use Rattle.urlpattern_compare.specs.TextSearch.{AreApart, IsFoundText}
+use Rattle.urlpattern_compare.specs.TextSearch.{AreApart, IsFoundText, IsLine}
 use Rattle.urlpattern_compare.specs.declared.candidates.Candidate.{Candidate}
 use Rattle.urlpattern_compare.specs.declared.candidates.NoTexts.{NoTexts}
 use Rattle.urlpattern_compare.specs.declared.candidates.NoTexts.TheVariants as lacking
@@ -22,7 +22,6 @@ use Rattle.urlpattern_components.specs.Eight.{at}
 use Rattle.urlpattern_components.specs.declared.eight.ComponentName.{ComponentName}
 use Rattle.urlpattern_components.specs.declared.eight.Eight.{Eight}
 use Rattle.urlpattern_components.specs.declared.eight.ComponentName.TheVariants.{Protocol, Username, Password, Hostname, Port, Pathname, Search, Hash}
-use Rattle.urlpattern_syntax.specs.Text.{lacks, line_feed}
 
 -- ---- elements
 
@@ -173,20 +172,20 @@ with_met conditions it old new text met is here = λ k d lt.
       ]
     ]
 
-with_lines : (component : ComponentName) (old new : TextAt) (text : List ℕ) → LackLines old → IsTrue (lacks line_feed text) → IsWithText old component text new → LackLines new
+with_lines : (component : ComponentName) (old new : TextAt) (text : List ℕ) → AreLines old → IsLine text → IsWithText old component text new → AreLines new
 with_lines component old new text lines plain is = λ name.
     elim (name_cases name component) [
-      | inl same ↦ subst (λ t. IsTrue (lacks line_feed t)) (sym ((is name).0 same)) plain
-      | inr other ↦ subst (λ t. IsTrue (lacks line_feed t)) (sym ((is name).1 other)) (lines name)
+      | inl same ↦ subst IsLine (sym ((is name).0 same)) plain
+      | inr other ↦ subst IsLine (sym ((is name).1 other)) (lines name)
     ]
 
 among_itself : (conditions : List Condition) → All (IsAmong conditions) conditions
 among_itself conditions = λ k d lt. (get_or conditions k d, Contains-get_or conditions k d lt, refl, refl)
 
 -- The candidate that does not meet a further condition.
-pub rejecting : (conditions : List Condition) (condition : Condition) (old : TextAt) (text : List ℕ) (it : Candidate) → LackLines old → MeetsEach conditions old →
+pub rejecting : (conditions : List Condition) (condition : Condition) (old : TextAt) (text : List ℕ) (it : Candidate) → AreLines old → MeetsEach conditions old →
     it.conditions.items ≡ conditions ++ negated condition ∷ [] → IsWithText old condition.component text (text_at it.texts) →
-    MeetsAt (conditions ++ negated condition ∷ []) condition.component text → IsTrue (lacks line_feed text) → IsCandidateOf conditions (condition ∷ []) it
+    MeetsAt (conditions ++ negated condition ∷ []) condition.component text → IsLine text → IsCandidateOf conditions (condition ∷ []) it
 rejecting conditions condition old text it lines met e is here plain =
     let longer = conditions ++ negated condition ∷ [] in
     record {

@@ -1,14 +1,15 @@
 -- Worked examples of texts that parts mean where case is ignored.
-use Rattle.std.proofs.Common.{◌≡◌, ◌≢◌, ℕ, Bool, true, false, List, [], ◌∷◌, ◌++◌, ◌∙◌, ap, ap₂, append-nil, codes, map, refl, subst, sym, Option, Some, None}
+use Rattle.std.proofs.Common.{◌≡◌, ◌≢◌, ℕ, Bool, true, false, List, [], ◌∷◌, ◌++◌, ◌∙◌, ap, ap₂, append-nil, codes, inl, map, refl, subst, sym, Option, Some, None}
 use Rattle.std.proofs.lemmas.Bool.{false≢true}
 use Rattle.std.specs.Prelude.{◌&&◌, not}
 use Rattle.urlpattern_compare.specs.Comparing.{IsKnown}
-use Rattle.urlpattern_compare.specs.MeantTexts.{MeansText, folded_options, folded_part}
+use Rattle.urlpattern_compare.specs.MeantTexts.{MeansText, folded_options}
 use Rattle.urlpattern_compare.specs.TextSearch.{with_cases}
 use Rattle.urlpattern_meaning.specs.Matching.{folded_character}
-use Rattle.urlpattern_meaning.specs.PartMeaning.{AreCopies, AreGenerated}
+use Rattle.urlpattern_expressions.specs.SimpleExpressions.{AreSimple}
 use Rattle.urlpattern_syntax.specs.Options.{OptionsView, default_options}
 use Rattle.urlpattern_syntax.specs.Parts.{PartView, parts_view}
+use Rattle.urlpattern_syntax.specs.Text.{IsRepeated}
 use Rattle.urlpattern_syntax.specs.declared.parts.ComponentParts.{ComponentParts}
 use Rattle.urlpattern_syntax.specs.declared.parser.{PartModifier.PartModifier, PartType.PartType}
 
@@ -24,11 +25,11 @@ meant_fixed : (ignore_case : Bool) (value text : List ℕ) → map (folded_chara
 meant_fixed ignore_case value text same =
     let read = map (folded_character ignore_case) value in
     let whole = sym (append-nil read) in
-    ([], (read, [], [], [], same ∙ whole, refl, record { count = 1; allowed = refl; are_copies = (read, [], whole, refl, refl); are_captures = refl }, (refl, refl)))
+    (read, [], same ∙ whole, (1, refl, (read, [], whole, refl, refl)), refl)
 
 meant_same : (ignore_case : Bool) (value text : List ℕ) → MeansText (options_with None ignore_case) (fixed value ∷ []) text → map (folded_character ignore_case) text ≡ map (folded_character ignore_case) value
-meant_same ignore_case value text (captures, (first, rest, own, others, cut, joined, means, (empty, none))) =
-    let (one, more, whole, is, end) = subst (λ (n : ℕ). AreCopies (folded_options (options_with None ignore_case)) (folded_part ignore_case (fixed value)) n first) means.allowed means.are_copies in
+meant_same ignore_case value text (first, rest, cut, (count, allowed, copies), empty) =
+    let (one, more, whole, is, end) = subst (λ (n : ℕ). IsRepeated (λ (t : List ℕ). t ≡ map (folded_character ignore_case) value) n first) allowed copies in
     cut ∙ ap (λ (t : List ℕ). first ++ t) empty ∙ append-nil first ∙ whole ∙ ap₂ (λ (s t : List ℕ). s ++ t) is end ∙ append-nil (map (folded_character ignore_case) value)
 
 apart : codes "a" ≢ codes "A"
@@ -71,5 +72,5 @@ unknown : (component : ComponentParts) → component.options.ignore_case ≡ tru
 unknown component ignored keeps known = false≢true (sym known.case ∙ ap₂ (λ ignores honours. ignores && not honours) ignored keeps)
 
 -- Where case is kept, no engine matters.
-known : (component : ComponentParts) → AreGenerated (parts_view component.parts.items) → component.options.ignore_case ≡ false → IsKnown component
-known component generated kept = record { generated = generated; case = ap (λ (ignores : Bool). ignores && not component.honours_case) kept }
+known : (component : ComponentParts) → AreSimple (parts_view component.parts.items) → component.options.ignore_case ≡ false → IsKnown component
+known component simple kept = record { told = record { simple = simple; by_case = inl kept }; case = ap (λ (ignores : Bool). ignores && not component.honours_case) kept }

@@ -3,18 +3,14 @@ use Rattle.std.proofs.Common.{◌≡◌, ◌≢◌, ℕ, Bool, true, false, List
 use Rattle.std.proofs.lemmas.Str.Ascii.{uppercase_is}
 use Rattle.std.specs.Char.{to_ascii_lowercase, to_ascii_uppercase}
 use Rattle.std.specs.List.{Contains}
-use Rattle.std.specs.Prelude.{◌==◌, ◌||◌, not}
-use Rattle.urlpattern_compare.specs.Automata.{named, passes}
-use Rattle.urlpattern_compare.specs.declared.parts_automaton.Test.{Test}
-use Rattle.urlpattern_compare.specs.declared.parts_automaton.Test.TheVariants.{Only, AnyBut}
+use Rattle.std.specs.Prelude.{◌==◌, ◌||◌}
 use Rattle.urlpattern_syntax.specs.Text.{is_among}
 use Rattle.urlpattern_meaning.proofs.FoldedTrees.{moved_or_same}
 use Rattle.urlpattern_compare.proofs.StateSets.{contains_cons, contains_head, contains_tail}
 
--- A test does not tell characters apart that it does not name.
-pub unnamed_same : (test : Test) (c other : ℕ) → c ≢ named test → other ≢ named test → passes test c ≡ passes test other
-unnamed_same (Only mark) c other h k = ne_eqb c mark h ∙ sym (ne_eqb other mark k)
-unnamed_same (AnyBut mark) c other h k = ap not (ne_eqb c mark h ∙ sym (ne_eqb other mark k))
+-- Two characters that differ from a third are equally unlike it.
+pub unlike_same : (mark c other : ℕ) → c ≢ mark → other ≢ mark → (c == mark) ≡ (other == mark)
+unlike_same mark c other h k = ne_eqb c mark h ∙ sym (ne_eqb other mark k)
 
 -- A character that is another in lower case is that one, or that one in upper case.
 pub lower_cases : (c d : ℕ) → to_ascii_lowercase c ≡ d → (c ≡ d) ⊎ (c ≡ to_ascii_uppercase d)

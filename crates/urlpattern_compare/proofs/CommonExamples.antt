@@ -70,7 +70,7 @@ one_try_decides all_of (texts ∷ others ∷ more, many, lines, taken, apart) =
 -- A full wildcard without prefix, suffix and modifier matches anything.
 a_wildcard_matches_anything : (component : ComponentParts) → parts_view component.parts.items ≡ anything_part ∷ [] → MatchesAnything component
 a_wildcard_matches_anything component are known text line =
-    subst (λ parts. MeansText (options_view component.options) parts text) (sym are) (wildcard_means (options_view component.options) text line)
+    subst (λ parts. MeansText (options_view component.options) parts text) (sym are) (wildcard_means (options_view component.options) text line.plain)
 
 -- ---- common texts
 

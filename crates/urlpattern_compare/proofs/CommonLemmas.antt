@@ -6,15 +6,15 @@ use Rattle.std.proofs.lemmas.Option.{slice_get-get_or, slice_get-map}
 use Rattle.std.specs.List.{All, Contains}
 use Rattle.std.specs.Option.{IsSome}
 use Rattle.std.specs.Prelude.{IfNone, IfOk, IfSome, IsTrue, Result, Ok, Err, String, option_map, slice_get}
+use Rattle.std.specs.Str.{all_scalars}
 use Rattle.std.specs.declared.alloc.AllocError.{AllocError}
 use Rattle.std.specs.declared.alloc.Global.{Global}
 use Rattle.urlpattern_compare.proofs.CandidateLemmas.{all_back, all_front}
-use Rattle.urlpattern_compare.proofs.DecidedLemmas.{fine_text}
 use Rattle.urlpattern_compare.proofs.PartsRead.{made_within, meaning_accepted}
 use Rattle.urlpattern_compare.proofs.StateSets.{leads_moved, leads_starts, length_moved, length_starts}
 use Rattle.urlpattern_compare.proofs.WorkLemmas.{made_states}
 use Rattle.urlpattern_compare.specs.Automata.{AcceptsText, IsWithin}
-use Rattle.urlpattern_compare.specs.Candidates.{AreLines, LackLines, TextAt, text_at}
+use Rattle.urlpattern_compare.specs.Candidates.{AreLines, TextAt, text_at}
 use Rattle.urlpattern_compare.specs.CommonTexts.{AreAutomata, AreCommon, AreMeanings, AreTaken, HasAutomata, IsAutomatonOf, IsAutomatonOrLacks, IsLack, IsLackOf, IsSameIn, IsSure, LacksBy, MeanAlike, MeansByParts, MeansEach, PatternMeaning, Takes, TakesAll, TakesEach, parts_of, string_at}
 use Rattle.urlpattern_compare.specs.Comparing.{AreSame, IsKnown, IsUnknownBy, MeansIn}
 use Rattle.urlpattern_compare.specs.Conditions.{accepts, states_by}
@@ -34,7 +34,7 @@ use Rattle.urlpattern_components.specs.declared.eight.Eight.{Eight}
 use Rattle.urlpattern_meaning.specs.Matching.{folded_character}
 use Rattle.urlpattern_syntax.specs.Options.{options_view}
 use Rattle.urlpattern_syntax.specs.Parts.{parts_view}
-use Rattle.urlpattern_syntax.specs.Text.{lacks, line_feed}
+use Rattle.urlpattern_syntax.specs.Text.{lacks}
 use Rattle.urlpattern_syntax.specs.declared.parts.ComponentParts.{ComponentParts}
 
 -- ---- automata
@@ -54,18 +54,18 @@ accepts_text automaton text within =
     (λ leads. by.0 (starts.0 leads), λ has. starts.1 (by.1 has))
 
 -- An automaton that is made of a component's parts accepts the texts that they mean.
-made_means : (component : ComponentParts) (automaton : PartsAutomaton) (text : List ℕ) → IsKnown component → IsMadeOf (options_view component.options) (parts_view component.parts.items) automaton →
+made_means : (component : ComponentParts) (automaton : PartsAutomaton) (text : List ℕ) → IsTrue (all_scalars text) → IsKnown component → IsMadeOf (options_view component.options) (parts_view component.parts.items) automaton →
     IsTrue (accepts automaton text) ↔ MeansIn component text
-made_means component automaton text known is =
+made_means component automaton text good known is =
     let options = options_view component.options in
     let parts = parts_view component.parts.items in
     let here = accepts_text automaton text (made_within options parts automaton is) in
-    let meant = meaning_accepted options parts automaton known.generated is text in
+    let meant = meaning_accepted options parts automaton known.told.by_case is text good in
     (λ has. meant.0 (here.1 has), λ means. here.0 (meant.1 means))
 
 -- The automaton of a component accepts the texts that its parts mean.
-pub accepts_means : (component : ComponentParts) (automaton : PartsAutomaton) (text : List ℕ) → IsAutomatonOf component automaton → IsTrue (accepts automaton text) ↔ MeansIn component text
-accepts_means component automaton text is = is.means text
+pub accepts_means : (component : ComponentParts) (automaton : PartsAutomaton) (text : List ℕ) → IsTrue (all_scalars text) → IsAutomatonOf component automaton → IsTrue (accepts automaton text) ↔ MeansIn component text
+accepts_means component automaton text good is = is.means text good
 
 -- ---- one component
 
@@ -73,13 +73,13 @@ accepts_means component automaton text is = is.means text
 abbrev pub Says : (meant : Bool) → ComponentParts → (text : List ℕ) → Type 0
 Says meant component text = IsKnown component → IsTrue meant ↔ MeansIn component text
 
-means_takes : (meant : Bool) (component : ComponentParts) (found : Option PartsAutomaton) (text : List ℕ) → Says meant component text → IsAutomatonOrLacks component found → IsTrue meant → Takes found text
-means_takes meant component None text says made is = tt
-means_takes meant component (Some automaton) text says made is = (accepts_means component automaton text made).1 ((says made.known).0 is)
+means_takes : (meant : Bool) (component : ComponentParts) (found : Option PartsAutomaton) (text : List ℕ) → IsTrue (all_scalars text) → Says meant component text → IsAutomatonOrLacks component found → IsTrue meant → Takes found text
+means_takes meant component None text good says made is = tt
+means_takes meant component (Some automaton) text good says made is = (accepts_means component automaton text good made).1 ((says made.known).0 is)
 
-takes_means : (meant : Bool) (component : ComponentParts) (found : Option PartsAutomaton) (text : List ℕ) → Says meant component text → IsAutomatonOrLacks component found → IsSome found → Takes found text → IsTrue meant
-takes_means meant component None text says made some takes = absurd (false≢true some)
-takes_means meant component (Some automaton) text says made some takes = (says made.known).1 ((accepts_means component automaton text made).0 takes)
+takes_means : (meant : Bool) (component : ComponentParts) (found : Option PartsAutomaton) (text : List ℕ) → IsTrue (all_scalars text) → Says meant component text → IsAutomatonOrLacks component found → IsSome found → Takes found text → IsTrue meant
+takes_means meant component None text good says made some takes = absurd (false≢true some)
+takes_means meant component (Some automaton) text good says made some takes = (says made.known).1 ((accepts_means component automaton text good made).0 takes)
 
 -- ---- lists
 
@@ -135,7 +135,7 @@ module _ (all_of none_of : List PatternAutomata) (all none : List PatternMeaning
         taken = λ k d lt.
             across (λ (one : PatternMeaning). one.parts) (λ (one : PatternAutomata). one.parts) (λ it. MeansByParts it × MeansEach it texts) (λ pattern. AreAutomata pattern → TakesAll pattern texts)
             (λ meaning pattern e (by, each) made name.
-            means_takes (meaning.means name (texts name)) (at pattern.parts.components name) (at pattern.automata name) (texts name) (says meaning pattern e by name (common.lines name)) (made name) (each name))
+            means_takes (meaning.means name (texts name)) (at pattern.parts.components name) (at pattern.automata name) (texts name) (common.lines name).scalars (says meaning pattern e by name (common.lines name)) (made name) (each name))
             all all_of are.all_parts (λ i o below. (known_all i o below, common.meant i o below)) k d lt (all_made k d lt);
         refused = λ k d lt.
             across (λ (one : PatternMeaning). one.parts) (λ (one : PatternAutomata). one.parts) (λ it. MeansByParts it × All (λ one. MeanAlike one it) all × ¬ MeansEach it texts)
@@ -145,7 +145,7 @@ module _ (all_of none_of : List PatternAutomata) (all none : List PatternMeaning
               | inl same ↦ same_meant meaning pattern name e alike common.lines common.meant same
               | inr some ↦ elim (takes name) [
                 | inl same ↦ same_meant meaning pattern name e alike common.lines common.meant same
-                | inr taken ↦ takes_means (meaning.means name (texts name)) (at pattern.parts.components name) (at pattern.automata name) (texts name) (says meaning pattern e by name (common.lines name)) (made name) some taken
+                | inr taken ↦ takes_means (meaning.means name (texts name)) (at pattern.parts.components name) (at pattern.automata name) (texts name) (common.lines name).scalars (says meaning pattern e by name (common.lines name)) (made name) some taken
               ]
             ]))
             none none_of are.none_parts
@@ -168,12 +168,12 @@ module _ (all_of none_of : List PatternAutomata) (all none : List PatternMeaning
         meant = λ k d lt.
             across (λ (one : PatternAutomata). one.parts) (λ (one : PatternMeaning). one.parts) (λ pattern. AreAutomata pattern × HasAutomata pattern × TakesAll pattern texts) (λ it. MeansByParts it → MeansEach it texts)
             (λ pattern meaning e (made, has, takes) by name.
-            takes_means (meaning.means name (texts name)) (at pattern.parts.components name) (at pattern.automata name) (texts name) (says meaning pattern (sym e) by name (lines name)) (made name) (has name) (takes name))
+            takes_means (meaning.means name (texts name)) (at pattern.parts.components name) (at pattern.automata name) (texts name) (lines name).scalars (says meaning pattern (sym e) by name (lines name)) (made name) (has name) (takes name))
             all_of all (sym are.all_parts) (λ i o below. (all_made i o below, some i o below, taken.taken i o below)) k d lt (known_all k d lt);
         unmeant = λ k d lt.
             across (λ (one : PatternAutomata). one.parts) (λ (one : PatternMeaning). one.parts) (λ pattern. AreAutomata pattern × ¬ TakesEach all_of pattern texts) (λ it. MeansByParts it → ¬ MeansEach it texts)
             (λ pattern meaning e (made, refused) by each. refused (λ name.
-            inr (means_takes (meaning.means name (texts name)) (at pattern.parts.components name) (at pattern.automata name) (texts name) (says meaning pattern (sym e) by name (lines name)) (made name) (each name))))
+            inr (means_takes (meaning.means name (texts name)) (at pattern.parts.components name) (at pattern.automata name) (texts name) (lines name).scalars (says meaning pattern (sym e) by name (lines name)) (made name) (each name))))
             none_of none (sym are.none_parts) (λ i o below. (none_made i o below, taken.refused i o below (sure i o below))) k d lt (known_none k d lt);
       }
 
@@ -190,8 +190,8 @@ texts_common all_of none_of is_sure texts all_made none_made lines some sure tak
 
 -- Texts that were found, as strings.
 module _ (all_of none_of : List PatternAutomata) (is_sure : Bool) (texts : TextAt) (strings : Eight (String Global)) (same : (name : ComponentName) → string_at strings name ≡ texts name) where
-  pub string_lines : LackLines texts → AreLines (string_at strings)
-  string_lines lines = λ name. record { scalars = fine_text (at strings name); plain = subst (λ t. IsTrue (lacks line_feed t)) (sym (same name)) (lines name) }
+  pub string_lines : AreLines texts → AreLines (string_at strings)
+  string_lines lines = λ name. subst IsLine (sym (same name)) (lines name)
 
   pub string_taken : AreTaken all_of none_of is_sure texts → AreTaken all_of none_of is_sure (string_at strings)
   string_taken taken = record {
@@ -221,8 +221,8 @@ automaton_found component (Err e) known is many = is
 automaton_found component (Ok None) known is many = (reasons.TooMany, many)
 automaton_found component (Ok (Some automaton)) known is many = record {
   known = known;
-  means = λ text. made_means component automaton text known is;
-  size = made_states (options_view component.options) (parts_view component.parts.items) automaton is;
+  means = λ text good. made_means component automaton text good known is;
+  size = λ generated. made_states (options_view component.options) (parts_view component.parts.items) automaton generated is;
 }
 
 pub lacks_if : (component : ComponentParts) (found : Option PartsAutomaton) → IsAutomatonOrLacks component found → ¬ IsSome found → (reason : Reason) × LacksBy component reason

@@ -2,7 +2,8 @@
 use Rattle.std.proofs.Common.{◌≡◌, ◌≢◌, ◌∙◌, ℕ, Bool, true, false, List, [], ◌∷◌, ◌++◌, ap₂, inl, inr, map, refl, sym, subst, append-nil, Option, Some, None}
 use Rattle.std.proofs.lemmas.Bool.{false≢true}
 use Rattle.std.proofs.lemmas.List.Elements.{All-cons, All-nil}
-use Rattle.std.specs.Prelude.{◌==◌, ◌&&◌, IfSome, IsTrue, not}
+use Rattle.std.specs.Prelude.{◌==◌, ◌&&◌, IfNone, IfSome, IsTrue, not}
+use Rattle.urlpattern_compare.proofs.AnswerLemmas.{told_generated}
 use Rattle.urlpattern_compare.specs.Answers.{IsCovering, IsOverlap, IsReason, IsUntold}
 use Rattle.urlpattern_compare.specs.MeantTexts.{MeansText}
 use Rattle.urlpattern_compare.specs.declared.coverage.Covering.{Covering}
@@ -13,6 +14,8 @@ use Rattle.urlpattern_compare.specs.declared.coverage.Reason.{Reason}
 use Rattle.urlpattern_compare.specs.declared.coverage.Reason.TheVariants as reasons
 use Rattle.urlpattern_compare.specs.Comparing.{IsComponentOverlap, IsExample, IsKnown, IsReasonAlone, IsReasonToMiss, IsReasonToShare, IsUnknownBy, MatchesEveryLine, MayMissLine, anything_part, misses_case}
 use Rattle.urlpattern_compare.specs.ComparingSteps.{IsCoveringByMeaning}
+use Rattle.urlpattern_expressions.proofs.SimpleLemmas.{generated_simple}
+use Rattle.urlpattern_expressions.specs.SimpleExpressions.{AreSimple}
 use Rattle.urlpattern_meaning.specs.PartMeaning.{AreGenerated}
 use Rattle.urlpattern_meaning.proofs.FoldedTrees.{line_feed_same}
 use Rattle.urlpattern_meaning.specs.Matching.{folded_character}
@@ -35,31 +38,15 @@ pub wildcard_means : (options : OptionsView) (text : List ℕ) → IsTrue (lacks
 wildcard_means options text line =
     let read = map (folded_character options.ignore_case) text in
     let plain : IsTrue (lacks line_feed read) = lowered_lacks options.ignore_case text ∙ line in
-    let whole : read ≡ read ++ [] = sym (append-nil read) in (
-      Some read ∷ [],
-      (
-        read,
-        [],
-        Some read ∷ [],
-        [],
-        whole,
-        refl,
-        record {
-          count = 1;
-          allowed = refl;
-          are_copies = (read, [], whole, (read, whole, plain), refl);
-          are_captures = (Some read, (read, whole, refl), refl);
-        },
-        (refl, refl),
-      ),
-    )
+    let whole : read ≡ read ++ [] = sym (append-nil read) in
+    (read, [], whole, (1, refl, (read, [], whole, (read, whole, plain), refl)), refl)
 
 -- ---- reasons
 
--- Parts with a custom one do not tell which texts a component matches.
+-- Where parts do not tell which texts they match, nothing is known of the component.
 pub untold_unknown : (component : ComponentParts) (reason : Reason) → IsUntold (options_view component.options) (parts_view component.parts.items) reason → IsUnknownBy component reason
-untold_unknown component reasons.CustomExpression is = (λ known. is.0 known.generated, is.1)
-untold_unknown component reasons.IgnoredCase is = (λ known. is.0 known.generated, is.1)
+untold_unknown component reasons.CustomExpression is = (λ known. is.0 known.told.simple, is.1)
+untold_unknown component reasons.IgnoredCase is = (λ known. is.0 (told_generated (options_view component.options) (parts_view component.parts.items) known.told is.1), is.1)
 untold_unknown component reasons.TooMany is = is
 
 -- What the options and the flag `i` decide of a component.
@@ -106,6 +93,10 @@ pub later_unknown : (component other : ComponentParts) (found : Option Reason) �
 later_unknown component other None is = (tt, tt)
 later_unknown component other (Some reason) is = (other_unknown component other reason is, first_unknown other component reason is)
 
+pub later_known : (component other : ComponentParts) (found : Option Reason) → IsKnown component → IfNone found (IsKnown other) → IfNone found (IsKnown component × IsKnown other)
+later_known component other None known is = (known, is)
+later_known component other (Some reason) known is = tt
+
 pub alone_unknown : (component : ComponentParts) (reason : Reason) → IsUnknownBy component reason → IsReasonAlone component reason
 alone_unknown component reasons.CustomExpression is = is
 alone_unknown component reasons.IgnoredCase is = is
@@ -120,15 +111,18 @@ unknown_missed component reasons.TooMany is = absurd is
 pub anything_generated : AreGenerated (anything_part ∷ [])
 anything_generated = All-cons (λ (part : PartView). part.kind ≢ PartType.Regexp) anything_part [] (λ e. absurd (cc e)) (All-nil (λ (part : PartView). part.kind ≢ PartType.Regexp))
 
+anything_simple : AreSimple (anything_part ∷ [])
+anything_simple = generated_simple (anything_part ∷ []) anything_generated
+
 own_alone : (component : ComponentParts) (reason : Reason) → IsReason (options_view component.options) (parts_view component.parts.items) default_options (anything_part ∷ []) reason → IsReasonAlone component reason
 own_alone component reasons.CustomExpression (inl is) = untold_unknown component reasons.CustomExpression is
-own_alone component reasons.CustomExpression (inr is) = absurd (is.0 anything_generated)
+own_alone component reasons.CustomExpression (inr is) = absurd (is.0 anything_simple)
 own_alone component reasons.IgnoredCase (inl is) = untold_unknown component reasons.IgnoredCase is
 own_alone component reasons.IgnoredCase (inr is) = absurd (is.0 anything_generated)
 own_alone component reasons.TooMany is = is
 
 own_missed : (component : ComponentParts) (reason : Reason) → IsReason default_options (anything_part ∷ []) (options_view component.options) (parts_view component.parts.items) reason → IsReasonToMiss component reason
-own_missed component reasons.CustomExpression (inl is) = absurd (is.0 anything_generated)
+own_missed component reasons.CustomExpression (inl is) = absurd (is.0 anything_simple)
 own_missed component reasons.CustomExpression (inr is) = untold_unknown component reasons.CustomExpression is
 own_missed component reasons.IgnoredCase (inl is) = absurd (is.0 anything_generated)
 own_missed component reasons.IgnoredCase (inr is) = untold_unknown component reasons.IgnoredCase is

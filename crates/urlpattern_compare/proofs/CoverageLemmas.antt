@@ -3,10 +3,14 @@ use Rattle.std.proofs.Common.{◌≡◌, ◌∙◌, ◌↔◌, ℕ, Bool, true, 
 use Rattle.std.proofs.lemmas.Bool.{false≢true}
 use Rattle.std.proofs.lemmas.List.Elements.{All-cons, All-head, All-nil, All-tail}
 use Rattle.std.specs.Prelude.{IsTrue, not}
+use Rattle.std.specs.Str.{all_scalars}
+use Rattle.std.specs.declared.alloc.Global.{Global}
+use Rattle.std.specs.declared.vec.Vec.{Vec}
 use Rattle.urlpattern_compare.proofs.CommonLemmas.{accepts_text}
 use Rattle.urlpattern_compare.proofs.PartsRead.{made_within, meaning_accepted}
-use Rattle.urlpattern_compare.specs.Answers.{IsFoundBy, IsReason, IsSought, IsUntold, LeadBothAlike, answer_of}
+use Rattle.urlpattern_compare.specs.Answers.{IsFoundBy, IsReason, IsSought, IsTold, IsUntold, LeadBothAlike, answer_of}
 use Rattle.urlpattern_compare.specs.Automata.{IsWhether}
+use Rattle.urlpattern_compare.specs.Examples.{IsExampleOf}
 use Rattle.urlpattern_compare.specs.Conditions.{accepts, is_as, is_met, states_after}
 use Rattle.urlpattern_compare.specs.Making.{IsMadeOf}
 use Rattle.urlpattern_compare.specs.MeantTexts.{MeansText}
@@ -14,18 +18,18 @@ use Rattle.urlpattern_compare.specs.Searching.{IsMostSets}
 use Rattle.urlpattern_compare.specs.TextSearch.{AreApart, IsFoundText, LeadAlike}
 use Rattle.urlpattern_compare.specs.declared.condition.Condition.{Condition}
 use Rattle.urlpattern_compare.specs.declared.coverage.Answer.{Answer}
+use Rattle.urlpattern_compare.specs.declared.coverage.Answer.TheVariants as answers
 use Rattle.urlpattern_compare.specs.declared.coverage.Reason.{Reason}
 use Rattle.urlpattern_compare.specs.declared.coverage.Reason.TheVariants as reasons
 use Rattle.urlpattern_compare.specs.declared.parts_automaton.PartsAutomaton.{PartsAutomaton}
 use Rattle.urlpattern_compare.specs.declared.search.Found.{Found}
 use Rattle.urlpattern_compare.specs.declared.search.Found.TheVariants.{Text, Nothing, TooMany}
-use Rattle.urlpattern_meaning.specs.PartMeaning.{AreGenerated}
 use Rattle.urlpattern_syntax.specs.{Options.OptionsView, Parts.PartView}
 
 -- ---- two conditions
 
 -- An automaton does what is asked of it.
-as_asked : (asked found : Bool) → IsTrue (is_as asked found) → found ≡ asked
+pub as_asked : (asked found : Bool) → IsTrue (is_as asked found) → found ≡ asked
 as_asked true found is = is
 as_asked false true is = absurd cc
 as_asked false false is = refl
@@ -106,29 +110,46 @@ whether_means : (asked found : Bool) (Means : Type 0) → IsTrue found ↔ Means
 whether_means true found Means same is = same.0 is
 whether_means false found Means same is = λ means. false≢true (sym is ∙ same.1 means)
 
-module _ (options : OptionsView) (parts : List PartView) (other_options : OptionsView) (others : List PartView) (one other : PartsAutomaton) (gen : AreGenerated parts) (other_gen : AreGenerated others)
+-- An automaton accepts the texts that its parts mean.
+accepts_meant : (options : OptionsView) (parts : List PartView) (automaton : PartsAutomaton) → IsTold options parts → IsMadeOf options parts automaton → (text : List ℕ) → IsTrue (all_scalars text) →
+    IsTrue (accepts automaton text) ↔ MeansText options parts text
+accepts_meant options parts automaton told same text good =
+    let here = accepts_text automaton text (made_within options parts automaton same) in
+    let there = meaning_accepted options parts automaton told.by_case same text good in
+    (λ is. there.0 (here.1 is), λ means. here.0 (there.1 means))
+
+module _ (options : OptionsView) (parts : List PartView) (other_options : OptionsView) (others : List PartView) (one other : PartsAutomaton) (told : IsTold options parts) (other_told : IsTold other_options others)
     (same : IsMadeOf options parts one) (other_same : IsMadeOf other_options others other) where
-  means_one : (text : List ℕ) → IsTrue (accepts one text) ↔ MeansText options parts text
-  means_one text =
-      let here = accepts_text one text (made_within options parts one same) in
-      let there = meaning_accepted options parts one gen same text in
-      (λ is. there.0 (here.1 is), λ means. here.0 (there.1 means))
-
-  means_other : (text : List ℕ) → IsTrue (accepts other text) ↔ MeansText other_options others text
-  means_other text =
-      let here = accepts_text other text (made_within other_options others other other_same) in
-      let there = meaning_accepted other_options others other other_gen other_same text in
-      (λ is. there.0 (here.1 is), λ means. here.0 (there.1 means))
-
   found_answer : (is_meant : Bool) (found : Found) → IsFoundBy one other is_meant found → IsSought options parts other_options others is_meant (answer_of found)
   found_answer is_meant (Text text) (is, other_is, line) =
-      ((means_one text.items).0 is, whether_means is_meant (accepts other text.items) (MeansText other_options others text.items) (means_other text.items) other_is, line)
+      ((accepts_meant options parts one told same text.items line.scalars).0 is, whether_means is_meant (accepts other text.items) (MeansText other_options others text.items) (accepts_meant other_options others other other_told other_same text.items line.scalars) other_is, line.plain)
   found_answer is_meant Nothing none = λ text fine plain means.
-      whether_means (not is_meant) (accepts other text) (MeansText other_options others text) (means_other text) (none text (record { scalars = fine; plain = plain }) ((means_one text).1 means))
+      whether_means (not is_meant) (accepts other text) (MeansText other_options others text) (accepts_meant other_options others other other_told other_same text fine) (none text (record { scalars = fine; plain = plain }) ((accepts_meant options parts one told same text fine).1 means))
   found_answer is_meant TooMany many = inr (one, other, same, other_same, many)
 
 pub found_parts : (options : OptionsView) (parts : List PartView) (other_options : OptionsView) (others : List PartView) (is_meant : Bool) (one other : PartsAutomaton) (found : Found) (answer : Answer) →
-    answer ≡ answer_of found → AreGenerated parts → AreGenerated others → IsMadeOf options parts one → IsMadeOf other_options others other → IsFoundBy one other is_meant found →
+    answer ≡ answer_of found → IsTold options parts → IsTold other_options others → IsMadeOf options parts one → IsMadeOf other_options others other → IsFoundBy one other is_meant found →
     IsSought options parts other_options others is_meant answer
-found_parts options parts other_options others is_meant one other found answer e gen other_gen same other_same is =
-    subst (IsSought options parts other_options others is_meant) (sym e) (found_answer options parts other_options others one other gen other_gen same other_same is_meant found is)
+found_parts options parts other_options others is_meant one other found answer e told other_told same other_same is =
+    subst (IsSought options parts other_options others is_meant) (sym e) (found_answer options parts other_options others one other told other_told same other_same is_meant found is)
+
+-- A text that is made of the parts alone.
+pub example_sought : (options : OptionsView) (parts : List PartView) (other_options : OptionsView) (others : List PartView) (is_meant : Bool) (other : PartsAutomaton) (text : Vec ℕ Global) →
+    IsTold other_options others → IsMadeOf other_options others other → IsExampleOf options parts text.items × (accepts other text.items ≡ is_meant) → IsSought options parts other_options others is_meant (answers.Text text)
+example_sought options parts other_options others is_meant other text told same (is, found) = (
+  is.means,
+  whether_means is_meant (accepts other text.items) (MeansText other_options others text.items) (accepts_meant other_options others other told same text.items is.line.scalars) found,
+  is.line.plain,
+)
+
+-- ---- lists of parts that match no text in common
+
+pub apart_nothing : (options : OptionsView) (parts : List PartView) (other_options : OptionsView) (others : List PartView) (is_meant : Bool) → is_meant ≡ true →
+    ((text : List ℕ) → MeansText options parts text → ¬ MeansText other_options others text) → IsSought options parts other_options others is_meant answers.Nothing
+apart_nothing options parts other_options others true e apart = λ text fine plain means. apart text means
+apart_nothing options parts other_options others false e apart = absurd cc
+
+pub apart_text : (options : OptionsView) (parts : List PartView) (other_options : OptionsView) (others : List PartView) (is_meant : Bool) (text : Vec ℕ Global) → is_meant ≡ false →
+    ((text : List ℕ) → MeansText options parts text → ¬ MeansText other_options others text) → IsExampleOf options parts text.items → IsSought options parts other_options others is_meant (answers.Text text)
+apart_text options parts other_options others true text e apart is = absurd cc
+apart_text options parts other_options others false text e apart is = (is.means, apart text.items is.means, is.line.plain)

@@ -7,6 +7,7 @@ use Rattle.std.proofs.lemmas.Option.{get_or_from_slice_get, slice_get-get_or, sl
 use Rattle.std.specs.List.{All, Contains}
 use Rattle.std.specs.Option.{IsSome}
 use Rattle.std.specs.Prelude.{IsTrue, slice_get}
+use Rattle.std.specs.Str.{all_scalars}
 use Rattle.urlpattern_compare.proofs.CandidateLemmas.{all_back, all_front}
 use Rattle.urlpattern_compare.proofs.CommonLemmas.{accepts_means, all_unmap}
 use Rattle.urlpattern_compare.proofs.SameDecided.{dec_same, holds, holds_alike, holds_if, if_holds, same_trans}
@@ -45,10 +46,10 @@ settled_some component known settled = elim settled [
   | inr unknown ↦ unknown known
 ]
 
-said_means : (free : Bool) (component : ComponentParts) (found : Option PartsAutomaton) (text : List ℕ) → IsAutomatonOrLacks component found → IsSettled component found → IsKnown component →
+said_means : (free : Bool) (component : ComponentParts) (found : Option PartsAutomaton) (text : List ℕ) → IsTrue (all_scalars text) → IsAutomatonOrLacks component found → IsSettled component found → IsKnown component →
     IsTrue (said free found text) ↔ MeansIn component text
-said_means free component None text made settled known = absurd (settled_some component known settled)
-said_means free component (Some automaton) text made settled known = accepts_means component automaton text made
+said_means free component None text good made settled known = absurd (settled_some component known settled)
+said_means free component (Some automaton) text good made settled known = accepts_means component automaton text good made
 
 same_known : (component other : ComponentParts) → AreSame component other → IsKnown component → IsKnown other
 same_known component other same known = (same_within component other same known).asked_known
@@ -60,8 +61,8 @@ said_alike free other_free component other None (Some automaton) text made other
     absurd (settled_some component (same_known other component (same_flips component other same) other_made.known) settled)
 said_alike free other_free component other (Some automaton) None text made other_made settled other_settled same line e = absurd (settled_some other (same_known component other same made.known) other_settled)
 said_alike free other_free component other (Some automaton) (Some another) text made other_made settled other_settled same line e =
-    let own = accepts_means component automaton text made in
-    let its = accepts_means other another text other_made in
+    let own = accepts_means component automaton text line.scalars made in
+    let its = accepts_means other another text line.scalars other_made in
     let to = same_within component other same made.known in
     let from = same_within other component (same_flips component other same) other_made.known in
     same_from_decides (accepts automaton text) (accepts another text) own
@@ -106,7 +107,7 @@ Agree free other_free it other =
 
 by_automata : (free : Free) (it : PatternAutomata) → AreAutomata it → AreSettled it → MeansByParts (meaning_by free it)
 by_automata free it made settled = λ name known text line.
-    said_means (free name (at it.parts.components name)) (at it.parts.components name) (at it.automata name) text (made name) (settled name) known
+    said_means (free name (at it.parts.components name)) (at it.parts.components name) (at it.automata name) text line.scalars (made name) (settled name) known
 
 alike_by : (free other_free : Free) (it other : PatternAutomata) → AreAutomata it → AreAutomata other → AreSettled it → AreSettled other → Agree free other_free it other →
     MeanAlike (meaning_by free it) (meaning_by other_free other)

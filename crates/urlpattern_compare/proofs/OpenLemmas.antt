@@ -7,7 +7,7 @@ use Rattle.std.specs.Option.{IsSome, option_or}
 use Rattle.std.specs.Prelude.{IfSome}
 use Rattle.std.specs.declared.alloc.Global.{Global}
 use Rattle.std.specs.declared.vec.Vec.{Vec}
-use Rattle.urlpattern_compare.specs.Candidates.{AlikeBy, AreCandidates, AreLines, HasManySetsAt, HasManyTexts, IsAmong, IsAnswer, IsCandidateOf, IsInside, IsSplit, LackLines, MeetAlike, MeetsEach, ShareBy, TextAt, all_conditions, text_at}
+use Rattle.urlpattern_compare.specs.Candidates.{AlikeBy, AreCandidates, AreLines, HasManySetsAt, HasManyTexts, IsAmong, IsAnswer, IsCandidateOf, IsInside, IsSplit, MeetAlike, MeetsEach, ShareBy, TextAt, all_conditions, text_at}
 use Rattle.urlpattern_compare.specs.TextSearch.{AreApart}
 use Rattle.urlpattern_compare.specs.declared.candidates.Candidate.{Candidate}
 use Rattle.urlpattern_compare.specs.declared.candidates.Limits.{Limits}
@@ -21,7 +21,7 @@ use Rattle.urlpattern_compare.proofs.StateSets.{contains_cons}
 -- An open candidate: its texts, which have no line feed, meet its conditions, which are on automata
 -- of all; what meets these meets the first conditions too.
 pub record IsOpen (first all : List Condition) (it : Candidate) : Type 0 where
-  pub lines : LackLines (text_at it.texts)
+  pub lines : AreLines (text_at it.texts)
   pub met : MeetsEach it.conditions.items (text_at it.texts)
   pub within : (texts : TextAt) → MeetsEach it.conditions.items texts → MeetsEach first texts
   pub among : All (IsAmong all) it.conditions.items
@@ -38,7 +38,7 @@ IsNear refused tried it = (texts : TextAt) × MeetsEach it.conditions.items text
 -- The open candidates, and the texts that were tried: all are apart.
 pub record AreOpen (first : List Condition) (refused : List (Vec Condition Global)) (candidates : List Candidate) (tried : List TextAt) : Type 0 where
   pub each : All (IsOpen first (all_conditions first refused)) candidates
-  pub tried_lines : All LackLines tried
+  pub tried_lines : All AreLines tried
   pub met : All (MeetsEach first) tried
   pub tried_apart : AreApart (MeetAlike refused) tried
   pub far : All (λ it. All (λ one. ¬ IsNear refused one it) tried) candidates
@@ -99,8 +99,8 @@ module _ (first : List Condition) (refused : List (Vec Condition Global)) (rest 
   parent_far : All (λ one. ¬ IsNear refused one parent) tried
   parent_far = all_last (λ (it : Candidate). All (λ one. ¬ IsNear refused one it) tried) rest parent opened.far
 
-  tried_lines : All LackLines (texts_now ∷ tried)
-  tried_lines = All-cons LackLines texts_now tried parent_open.lines opened.tried_lines
+  tried_lines : All AreLines (texts_now ∷ tried)
+  tried_lines = All-cons AreLines texts_now tried parent_open.lines opened.tried_lines
 
   tried_met : All (MeetsEach first) (texts_now ∷ tried)
   tried_met = All-cons (MeetsEach first) texts_now tried (parent_open.within texts_now parent_open.met) opened.met
@@ -192,7 +192,7 @@ many_tried first refused limits rest parent tried doubt is = (
 
 pub parent_answer : (first : List Condition) (refused : List (Vec Condition Global)) (limits : Limits) (rest : List Candidate) (parent : Candidate) (tried : List TextAt) (left : ℕ)
     (doubt : Option ComponentName) → IsDividing first refused limits (rest ++ parent ∷ []) tried left doubt → All (λ them. ¬ MeetsEach them.items (text_at parent.texts)) refused →
-    LackLines (text_at parent.texts) × IsAnswer first refused (text_at parent.texts)
+    AreLines (text_at parent.texts) × IsAnswer first refused (text_at parent.texts)
 parent_answer first refused limits rest parent tried left doubt is unmet =
     let here = parent_open first refused rest parent tried is.opened in
     (here.lines, record { met = here.within (text_at parent.texts) here.met; unmet = unmet })
@@ -208,7 +208,7 @@ none_left first refused limits tried left is texts lines answer = elim (is.cover
   | inr (it, (k, lt, e), met) ↦ absurd (omega arith)
 ]
 
-pub first_dividing : (it : Candidate) (refused : List (Vec Condition Global)) (limits : Limits) → LackLines (text_at it.texts) → MeetsEach it.conditions.items (text_at it.texts) →
+pub first_dividing : (it : Candidate) (refused : List (Vec Condition Global)) (limits : Limits) → AreLines (text_at it.texts) → MeetsEach it.conditions.items (text_at it.texts) →
     IsDividing it.conditions.items refused limits (it ∷ []) [] limits.texts None
 first_dividing it refused limits lines met =
     let first = it.conditions.items in
@@ -222,7 +222,7 @@ first_dividing it refused limits lines met =
           within = λ texts meets. meets;
           among = λ k d lt. let one = get_or first k d in (one, first_among first refused one (Contains-get_or first k d lt), refl, refl);
         }) (All-nil (IsOpen first all));
-        tried_lines = All-nil LackLines;
+        tried_lines = All-nil AreLines;
         met = All-nil (MeetsEach first);
         tried_apart = tt;
         far = All-cons (λ (one : Candidate). All (λ other. ¬ IsNear refused other one) []) it [] (All-nil (λ other. ¬ IsNear refused other it)) (All-nil (λ (one : Candidate). All (λ other. ¬ IsNear refused other one) []));

@@ -1,22 +1,28 @@
 -- The texts that the cells of parts read, and the texts that parts mean.
-use Rattle.std.proofs.Common.{◌≡◌, ◌≢◌, ℕ, zero, suc, ◌+◌, true, List, [], ◌∷◌, ◌++◌, Some, refl, sym, subst, ap, ◌∙◌, ◌↔◌, append_assoc, reverse}
+use Rattle.std.proofs.Common.{◌≡◌, ◌≢◌, ℕ, zero, suc, ◌+◌, true, List, [], ◌∷◌, ◌++◌, Some, None, map, refl, sym, subst, ap, ◌∙◌, ◌↔◌, append_assoc, reverse}
 use Rattle.std.proofs.lemmas.List.Elements.{All-head, All-tail}
-use Rattle.std.specs.List.{list_all}
+use Rattle.std.specs.List.{All, list_all}
+use lib.Utf8.{scalars}
 use Rattle.std.specs.Prelude.{◌&&◌, IsTrue, unwrap_or}
 use Rattle.urlpattern_compare.specs.Automata.{passes}
 use Rattle.urlpattern_compare.specs.Cells.{cells_of, has_one, text_cells, wildcard_cells}
+use Rattle.urlpattern_compare.specs.Making.{IsShaped, ShapedPart}
 use Rattle.urlpattern_compare.specs.declared.parts_automaton.Test.TheVariants.{AnyBut}
 use Rattle.urlpattern_compare.specs.declared.cells.Cell.{Cell}
 use Rattle.urlpattern_compare.specs.declared.cells.Cell.TheVariants.{One, Many}
 use Rattle.urlpattern_compare.proofs.CellTexts.{CellsThen, InOrder, OneThen, RunThen, Texts, TimesThen, in_order, one_after, one_reversed, order_append, pieces_run, run_pieces, text_then, times_none, times_run}
 use Rattle.urlpattern_compare.proofs.ComparedCopies.{Absorbs, CopiesThen}
+use Rattle.urlpattern_compare.proofs.ShapeStates.{ShapeThen}
 use Rattle.urlpattern_compare.proofs.StateSets.{both}
+use Rattle.urlpattern_expressions.proofs.PartShapes.{scalars_parts}
+use Rattle.urlpattern_expressions.specs.MatchedPartTexts.{IsMatchedCopy, PartsMatch}
+use Rattle.urlpattern_expressions.specs.Shapes.{IsShapeOfPart, Shape}
 use Rattle.urlpattern_meaning.specs.PartMeaning.{AreCaptures, AreCopies, AreGenerated, Captures, IsCopyOf, IsWildcardText, PartsMean, capture_of_no_copies}
 use Rattle.urlpattern_meaning.proofs.Copies.{copies_core}
 use Rattle.urlpattern_syntax.specs.declared.parser.PartModifier.{PartModifier}
 use Rattle.urlpattern_syntax.specs.declared.parser.PartType.{PartType}
 use Rattle.urlpattern_syntax.specs.{Options.OptionsView, Parts.PartView}
-use Rattle.urlpattern_syntax.specs.Text.{lacks, line_feed}
+use Rattle.urlpattern_syntax.specs.Text.{IsRepeated, lacks, line_feed}
 
 -- The text begins with a text of which `Is` holds, and one of the texts follows.
 abbrev pub BeginsBy : (List ℕ → Type 0) → Texts → List ℕ → Type 0
@@ -152,10 +158,77 @@ absorbs options part Rest = absorbs_by options part.kind part.value part.prefix 
 
 -- ---- parts
 
--- The texts that the cells of the parts read.
-abbrev pub PartsThen : OptionsView → List PartView → List ℕ → Type 0
+-- The texts that the cells of the parts read, or of which their shapes are.
+abbrev pub PartsThen : OptionsView → List ShapedPart → List ℕ → Type 0
 PartsThen options [] text = text ≡ []
-PartsThen options (part ∷ parts) text = CopiesThen part.modifier (reverse (cells_of options part.kind part)) (PartsThen options parts) text
+PartsThen options ((part, None) ∷ parts) text = CopiesThen part.modifier (reverse (cells_of options part.kind part)) (PartsThen options parts) text
+PartsThen options ((part, Some shape) ∷ parts) text = ShapeThen shape (PartsThen options parts) text
+
+-- A copy of a part that is not custom.
+copy_matched : (options : OptionsView) (kind : PartType) (part : PartView) → kind ≢ PartType.Regexp → (text : List ℕ) → IsCopyOf options kind part text → IsMatchedCopy options kind part text
+copy_matched options PartType.FixedText part other text is = is
+copy_matched options PartType.Regexp part other text is = absurd (other refl)
+copy_matched options PartType.SegmentWildcard part other text is = is
+copy_matched options PartType.FullWildcard part other text is = is
+
+matched_copy : (options : OptionsView) (kind : PartType) (part : PartView) → kind ≢ PartType.Regexp → (text : List ℕ) → IsMatchedCopy options kind part text → IsCopyOf options kind part text
+matched_copy options PartType.FixedText part other text is = is
+matched_copy options PartType.Regexp part other text is = absurd (other refl)
+matched_copy options PartType.SegmentWildcard part other text is = is
+matched_copy options PartType.FullWildcard part other text is = is
+
+repeated_as : (Is Other : List ℕ → Type 0) → ((text : List ℕ) → Is text → Other text) → (n : ℕ) (text : List ℕ) → IsRepeated Is n text → IsRepeated Other n text
+repeated_as Is Other weaker zero text ended = ended
+repeated_as Is Other weaker (suc n) text (first, rest, cut, is, more) = (first, rest, cut, weaker first is, repeated_as Is Other weaker n rest more)
+
+copies_matched : (options : OptionsView) (part : PartView) → part.kind ≢ PartType.Regexp → (n : ℕ) (text : List ℕ) → AreCopies options part n text ↔ IsRepeated (IsMatchedCopy options part.kind part) n text
+copies_matched options part other n text = (
+  repeated_as (IsCopyOf options part.kind part) (IsMatchedCopy options part.kind part) (copy_matched options part.kind part other) n text,
+  repeated_as (IsMatchedCopy options part.kind part) (IsCopyOf options part.kind part) (matched_copy options part.kind part other) n text,
+)
+
+-- A part without shape is not custom.
+unshaped_other : (kind : PartType) (part : PartView) → IsShaped kind part None → kind ≢ PartType.Regexp
+unshaped_other PartType.FixedText part is e = cc
+unshaped_other PartType.SegmentWildcard part is e = cc
+unshaped_other PartType.FullWildcard part is e = cc
+unshaped_other PartType.Regexp part is e = is
+
+shape_of_part : (kind : PartType) (part : PartView) (shape : Shape) → IsShaped kind part (Some shape) → IsShapeOfPart part shape
+shape_of_part PartType.FixedText part shape is = absurd cc
+shape_of_part PartType.SegmentWildcard part shape is = absurd cc
+shape_of_part PartType.FullWildcard part shape is = absurd cc
+shape_of_part PartType.Regexp part shape is = is
+
+-- The cells and shapes of parts read the texts of characters that the parts match.
+pub parts_then : (options : OptionsView) (parts : List ShapedPart) → All (λ (part : ShapedPart). IsShaped part.0.kind part.0 part.1) parts → (text : List ℕ) → scalars text ≡ true →
+    PartsThen options parts text ↔ PartsMatch options (map (λ (part : ShapedPart). part.0) parts) text
+parts_then options [] shaped text good = (λ e. e, λ e. e)
+parts_then options ((part, None) ∷ parts) shaped text good =
+    let Is : ShapedPart → Type 0 = λ it. IsShaped it.0.kind it.0 it.1 in
+    let other = unshaped_other part.kind part (All-head Is (part, None) parts shaped) in
+    let more = All-tail Is (part, None) parts shaped in (
+      λ (n, allowed, times).
+          let (first, rest, e, copies, others) = (times_then options part other n (PartsThen options parts) text).0 times in
+          let both = scalars_parts first rest (ap scalars (sym e) ∙ good) in
+          (first, rest, e, (n, allowed, (copies_matched options part other n first).0 copies), (parts_then options parts more rest both.1).0 others),
+      λ (first, rest, e, (n, allowed, copies), others).
+          let both = scalars_parts first rest (ap scalars (sym e) ∙ good) in
+          (n, allowed, (times_then options part other n (PartsThen options parts) text).1 (first, rest, e, (copies_matched options part other n first).1 copies, (parts_then options parts more rest both.1).1 others)),
+    )
+parts_then options ((part, Some shape) ∷ parts) shaped text good =
+    let Is : ShapedPart → Type 0 = λ it. IsShaped it.0.kind it.0 it.1 in
+    let own = shape_of_part part.kind part shape (All-head Is (part, Some shape) parts shaped) in
+    let more = All-tail Is (part, Some shape) parts shaped in (
+      λ (first, rest, e, takes, others).
+          let both = scalars_parts first rest (ap scalars (sym e) ∙ good) in
+          (first, rest, e, (own options first both.0).0 takes, (parts_then options parts more rest both.1).0 others),
+      λ (first, rest, e, matches, others).
+          let both = scalars_parts first rest (ap scalars (sym e) ∙ good) in
+          (first, rest, e, (own options first both.0).1 matches, (parts_then options parts more rest both.1).1 others),
+    )
+
+-- ---- captures
 
 capture_of : (options : OptionsView) (kind : PartType) (value prefix suffix name : List ℕ) (modifier : PartModifier) → kind ≢ PartType.Regexp → (n : ℕ) (text : List ℕ) →
     let part : PartView = record { kind = kind; value = value; modifier = modifier; name = name; prefix = prefix; suffix = suffix } in
@@ -169,17 +242,18 @@ capture_of options kind value prefix suffix name modifier other (suc n) text cop
     let core = copies_core (IsWildcardText options kind) prefix suffix n text copies in
     (Some core.0 ∷ [], (Some core.0, (core.0, core.1, refl), refl))
 
-pub parts_then : (options : OptionsView) (parts : List PartView) → AreGenerated parts → (text : List ℕ) → PartsThen options parts text ↔ ((captures : Captures) × PartsMean options parts text captures)
-parts_then options [] generated text = (λ e. ([], (e, refl)), λ means. means.1.0)
-parts_then options (part ∷ parts) generated text =
+-- Parts of which none is custom match the texts that they mean.
+pub generated_match : (options : OptionsView) (parts : List PartView) → AreGenerated parts → (text : List ℕ) → PartsMatch options parts text ↔ ((captures : Captures) × PartsMean options parts text captures)
+generated_match options [] generated text = (λ e. ([], (e, refl)), λ means. means.1.0)
+generated_match options (part ∷ parts) generated text =
     let Is : PartView → Type 0 = λ it. it.kind ≢ PartType.Regexp in
     let other = All-head Is part parts generated in
-    let rest_same = parts_then options parts (All-tail Is part parts generated) in (
-      λ (n, allowed, times).
-          let (first, rest, e, copies, more) = (times_then options part other n (PartsThen options parts) text).0 times in
+    let rest_same = generated_match options parts (All-tail Is part parts generated) in (
+      λ (first, rest, e, (n, allowed, matched), more).
+          let copies = (copies_matched options part other n first).1 matched in
           let own = capture_of options part.kind part.value part.prefix part.suffix part.name part.modifier other n first copies in
           let others = (rest_same rest).0 more in
           (own.0 ++ others.0, (first, rest, own.0, others.0, e, refl, record { count = n; allowed = allowed; are_copies = copies; are_captures = own.1 }, others.1)),
       λ (captures, (first, rest, own, others, e, f, mean, means)).
-          (mean.count, mean.allowed, (times_then options part other mean.count (PartsThen options parts) text).1 (first, rest, e, mean.are_copies, (rest_same rest).1 (others, means))),
+          (first, rest, e, (mean.count, mean.allowed, (copies_matched options part other mean.count first).0 mean.are_copies), (rest_same rest).1 (others, means)),
     )

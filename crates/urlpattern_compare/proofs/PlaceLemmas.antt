@@ -1,6 +1,6 @@
 -- The places that a search for a text visits.
 use Rattle.std.proofs.Common.{◌≡◌, ◌≢◌, ℕ, ◌+◌, ◌<◌, ◌≤◌, Bool, true, false, List, [], ◌∷◌, ◌++◌, length, refl, sym, subst, ap, ◌∙◌, ◌↔◌, arith, append_assoc, append-nil, eq-eqb, get_or, length-append, map, take}
-use Rattle.std.proofs.lemmas.Bool.{false≢true, ne_eqb}
+use Rattle.std.proofs.lemmas.Bool.{and_from, and_parts, false≢true, ne_eqb}
 use Rattle.std.proofs.lemmas.List.{get_or_append_left, length-map, take-append-le}
 use Rattle.std.proofs.lemmas.List.Elements.{All-contains, All-head, All-map, All-more, All-nil, All-push, All-tail, All-weaker, Contains-append_left, Contains-get_or}
 use Rattle.std.proofs.lemmas.List.Folds.{list_all-append}
@@ -37,26 +37,34 @@ lacks_more : (text : List ℕ) (c : ℕ) → c ≢ line_feed → IsTrue (lacks l
 lacks_more text c other plain =
     list_all-append (λ d. not (d == line_feed)) text (c ∷ []) ∙ ap (λ b. b && (not (c == line_feed) && true)) plain ∙ ap (λ b. not b && true) (ne_eqb c line_feed other)
 
+scalars_more : (text : List ℕ) (c : ℕ) → IsScalar c → IsTrue (all_scalars text) → IsTrue (all_scalars (text ++ c ∷ []))
+scalars_more [] c scalar good = and_from _ true scalar refl
+scalars_more (d ∷ text) c scalar good = let both = and_parts _ _ good in and_from _ _ both.0 (scalars_more text c scalar both.1)
+
 -- The place of the empty text.
 pub start_placed : (conditions : List Condition) (place : Place) → IsPlaceOf (joint_starts conditions) [] place → IsPlaced conditions place
 start_placed conditions place (flags_are, text_is) = record {
   flags = flags_are ∙ starts_after conditions ∙ ap (λ t. joint_after conditions t) (sym text_is);
-  line = subst (λ t. IsTrue (lacks line_feed t)) (sym text_is) refl;
+  line = subst IsLine (sym text_is) (record { scalars = refl; plain = refl });
 }
 
+-- A line is one still after a further character.
+pub line_more : (text : List ℕ) (c : ℕ) → IsScalar c → c ≢ line_feed → IsLine text → IsLine (text ++ c ∷ [])
+line_more text c scalar plain line = record { scalars = scalars_more text c scalar line.scalars; plain = lacks_more text c plain line.plain }
+
 -- A place is reached by a further character.
-pub step_placed : (conditions : List Condition) (place next : Place) (c : ℕ) → c ≢ line_feed → IsPlaced conditions place →
+pub step_placed : (conditions : List Condition) (place next : Place) (c : ℕ) → IsScalar c → c ≢ line_feed → IsPlaced conditions place →
     IsPlaceOf (joint_moved conditions place.flags.items c) (place.text.items ++ c ∷ []) next → IsPlaced conditions next
-step_placed conditions place next c plain placed (flags_are, text_is) = record {
+step_placed conditions place next c scalar plain placed (flags_are, text_is) = record {
   flags = flags_are ∙ ap (λ f. joint_moved conditions f c) placed.flags ∙ moved_after conditions place.text.items c ∙ ap (λ t. joint_after conditions t) (sym text_is);
-  line = subst (λ t. IsTrue (lacks line_feed t)) (sym text_is) (lacks_more place.text.items c plain placed.line);
+  line = subst IsLine (sym text_is) (line_more place.text.items c scalar plain placed.line);
 }
 
 -- A copy of a place.
 pub copy_placed : (conditions : List Condition) (place copy : Place) → IsPlaced conditions place → IsPlaceOf place.flags.items place.text.items copy → IsPlaced conditions copy
 copy_placed conditions place copy placed (flags_are, text_is) = record {
   flags = flags_are ∙ placed.flags ∙ ap (λ t. joint_after conditions t) (sym text_is);
-  line = subst (λ t. IsTrue (lacks line_feed t)) (sym text_is) placed.line;
+  line = subst IsLine (sym text_is) placed.line;
 }
 
 pub no_places : (conditions : List Condition) → ArePlaces conditions []

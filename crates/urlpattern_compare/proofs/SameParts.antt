@@ -1,21 +1,24 @@
 -- Components with equal parts but for names.
-use Rattle.std.proofs.Common.{◌≡◌, ◌≢◌, ◌∙◌, ◌↔◌, ◌⊎◌, ℕ, Bool, true, false, List, ap, ap₂, inl, inr, refl, subst, sym, true≢false, ◌+◌, ◌<◌, get_or, length, take}
+use Rattle.std.proofs.Common.{◌≡◌, ◌≢◌, ◌∙◌, ◌↔◌, ◌⊎◌, ℕ, Bool, true, false, List, [], ◌∷◌, ap, ap₂, inl, inr, refl, subst, sym, true≢false, ◌+◌, ◌<◌, get_or, length, take}
 use Rattle.std.proofs.lemmas.List.{get_or-map, length-map, take_more_same}
+use Rattle.std.proofs.lemmas.List.Elements.{All-cons, All-head, All-nil, All-tail}
 use Rattle.std.specs.List.{list_any}
 use Rattle.std.specs.Prelude.{◌&&◌, IsTrue, map, not, String, encode_utf8_all, string_bytes}
 use Rattle.std.specs.Str.{chars}
 use Rattle.std.specs.Cmp.Lexicographic.{bytes_decides}
 use Rattle.std.specs.String.{string_eq}
 use Rattle.std.specs.declared.alloc.Global.{Global}
-use Rattle.urlpattern_compare.specs.Answers.{is_custom_part}
-use Rattle.urlpattern_compare.proofs.AnswerLemmas.{custom, generated}
-use Rattle.urlpattern_compare.proofs.NamelessParts.{all_nameless, generated_renamed, means_renamed, unnamed_views}
+use Rattle.urlpattern_compare.specs.Answers.{IsTold, is_custom_part}
+use Rattle.urlpattern_compare.proofs.AnswerLemmas.{custom, generated, told_generated}
+use Rattle.urlpattern_compare.proofs.NamelessParts.{all_nameless, generated_renamed, means_renamed, simple_renamed, unnamed_views}
 use Rattle.urlpattern_compare.specs.Comparing.{AreSame, IsCaseKeptOrGenerated, IsKnown, MeansAllOf, misses_case}
 use Rattle.urlpattern_compare.specs.EqualParts.{AreEqual}
 use Rattle.urlpattern_compare.specs.MeantTexts.{MeansText}
 use Rattle.urlpattern_syntax.specs.declared.parts.ComponentParts.{ComponentParts}
 use Rattle.urlpattern_syntax.proofs.StringTexts.{text_bytes}
+use Rattle.urlpattern_expressions.specs.SimpleExpressions.{AreSimple, HasSimpleExpression, is_simple}
 use Rattle.urlpattern_syntax.specs.declared.parser.Part.{Part}
+use Rattle.urlpattern_syntax.specs.declared.parser.PartType.{PartType}
 use Rattle.urlpattern_syntax.specs.{Options.OptionsView, Options.options_view, Parts.PartView, Parts.parts_view, Text.text_of}
 
 -- ---- tests
@@ -54,14 +57,45 @@ module _ (view : Part → PartView) (parts others : List Part) (i : ℕ) (part o
 pub same_nameless : (component asked : ComponentParts) → AreSame component asked → all_nameless (parts_view component.parts.items) ≡ all_nameless (parts_view asked.parts.items)
 same_nameless component asked same = sym (unnamed_views component.parts.items) ∙ same.parts ∙ unnamed_views asked.parts.items
 
+-- The expressions of the parts are simple, or not.
+true_or_not : (b : Bool) → (b ≡ true) ⊎ ¬ (b ≡ true)
+true_or_not true = inl refl
+true_or_not false = inr (λ e. true≢false (sym e))
+
+abbrev IsSimplePart : PartView → Type 0
+IsSimplePart part = HasSimpleExpression part.kind part.value
+
+part_simple_or_not : (kind : PartType) (value : List ℕ) → HasSimpleExpression kind value ⊎ ¬ HasSimpleExpression kind value
+part_simple_or_not PartType.Regexp value = true_or_not (is_simple value)
+part_simple_or_not PartType.FixedText value = inl tt
+part_simple_or_not PartType.SegmentWildcard value = inl tt
+part_simple_or_not PartType.FullWildcard value = inl tt
+
+simple_or_not : (parts : List PartView) → AreSimple parts ⊎ ¬ AreSimple parts
+simple_or_not [] = inl (All-nil IsSimplePart)
+simple_or_not (part ∷ parts) = both (part_simple_or_not part.kind part.value) (simple_or_not parts)
+  where
+    both : IsSimplePart part ⊎ ¬ IsSimplePart part → AreSimple parts ⊎ ¬ AreSimple parts → AreSimple (part ∷ parts) ⊎ ¬ AreSimple (part ∷ parts)
+    both (inr complex) rest = inr (λ are. complex (All-head IsSimplePart part parts are))
+    both (inl simple) (inr complex) = inr (λ are. complex (All-tail IsSimplePart part parts are))
+    both (inl simple) (inl are) = inl (All-cons IsSimplePart part parts simple are)
+
 -- The texts that the parts mean are known, or not.
 pub known_or_not : (component : ComponentParts) → IsKnown component ⊎ ¬ IsKnown component
-known_or_not component = by (list_any is_custom_part component.parts.items) refl (misses_case component) refl
+known_or_not component =
+    by (told_or_not (list_any is_custom_part component.parts.items) refl component.options.ignore_case refl (simple_or_not (parts_view component.parts.items))) (misses_case component) refl
   where
-    by : (some : Bool) → list_any is_custom_part component.parts.items ≡ some → (missed : Bool) → misses_case component ≡ missed → IsKnown component ⊎ ¬ IsKnown component
-    by true e missed f = inr (λ known. custom component.parts.items e known.generated)
-    by false e true f = inr (λ known. true≢false (sym f ∙ known.case))
-    by false e false f = inl (record { generated = generated component.parts.items e; case = f })
+    by : IsTold (options_view component.options) (parts_view component.parts.items) ⊎ ¬ IsTold (options_view component.options) (parts_view component.parts.items) → (missed : Bool) → misses_case component ≡ missed → IsKnown component ⊎ ¬ IsKnown component
+    by (inr untold) missed f = inr (λ known. untold known.told)
+    by (inl told) true f = inr (λ known. true≢false (sym f ∙ known.case))
+    by (inl told) false f = inl (record { told = told; case = f })
+
+    told_or_not : (some : Bool) → list_any is_custom_part component.parts.items ≡ some → (ignored : Bool) → component.options.ignore_case ≡ ignored → AreSimple (parts_view component.parts.items) ⊎ ¬ AreSimple (parts_view component.parts.items) →
+        IsTold (options_view component.options) (parts_view component.parts.items) ⊎ ¬ IsTold (options_view component.options) (parts_view component.parts.items)
+    told_or_not some e ignored f (inr complex) = inr (λ told. complex told.simple)
+    told_or_not some e false f (inl simple) = inl (record { simple = simple; by_case = inl f })
+    told_or_not true e true f (inl simple) = inr (λ told. custom component.parts.items e (told_generated (options_view component.options) (parts_view component.parts.items) told f))
+    told_or_not false e true f (inl simple) = inl (record { simple = simple; by_case = inr (generated component.parts.items e) })
 
 -- Where case is ignored, `IsCaseKeptOrGenerated` says that no part is custom.
 pub settled_by : (component : ComponentParts) (some : Bool) → component.options.ignore_case ≡ true → some ≡ list_any is_custom_part component.parts.items → IsTrue (not some) ↔ IsCaseKeptOrGenerated component
@@ -110,7 +144,16 @@ same_within component asked same known =
     let nameless = same_nameless component asked same in
     record {
       known = known;
-      asked_known = record { generated = generated_renamed others parts (sym nameless) known.generated; case = sym (same_missed component asked same) ∙ known.case };
+      asked_known = record {
+        told = record {
+          simple = simple_renamed others parts (sym nameless) known.told.simple;
+          by_case = elim known.told.by_case [
+            | inl kept ↦ inl (sym (ap (λ (o : OptionsView). o.ignore_case) same.options) ∙ kept)
+            | inr generated ↦ inr (generated_renamed others parts (sym nameless) generated)
+          ];
+        };
+        case = sym (same_missed component asked same) ∙ known.case;
+      };
       within = λ text fine line means.
           subst (λ (o : OptionsView). MeansText o parts text) (sym same.options) (means_renamed (options_view asked.options) parts others nameless text means);
     }

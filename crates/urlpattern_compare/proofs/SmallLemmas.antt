@@ -12,6 +12,7 @@ use Rattle.urlpattern_compare.specs.TextSearch.{AreApart}
 use Rattle.urlpattern_compare.specs.WorkBounds.{SmallAreCompared, component_size, parts_size}
 use Rattle.urlpattern_compare.specs.declared.coverage.Reason.TheVariants.{TooMany}
 use Rattle.urlpattern_compare.specs.declared.parts_automaton.PartsAutomaton.{PartsAutomaton}
+use Rattle.urlpattern_meaning.specs.PartMeaning.{AreGenerated}
 use Rattle.urlpattern_syntax.specs.{Options.OptionsView, Options.options_view, Parts.PartView, Parts.parts_view}
 use Rattle.urlpattern_syntax.specs.declared.parts.ComponentParts.{ComponentParts}
 
@@ -27,11 +28,11 @@ few_sets one other texts apart =
     omega arith)
     apart
 
-long_search : (options : OptionsView) (parts : List PartView) (other_options : OptionsView) (others : List PartView) → IsSearchLong options parts other_options others → 19 < parts_size parts + parts_size others
-long_search options parts other_options others (one, other, same, other_same, (most, is_most, texts, many, apart)) =
+long_search : (options : OptionsView) (parts : List PartView) (other_options : OptionsView) (others : List PartView) → AreGenerated parts → AreGenerated others → IsSearchLong options parts other_options others → 19 < parts_size parts + parts_size others
+long_search options parts other_options others gen other_gen (one, other, same, other_same, (most, is_most, texts, many, apart)) =
     let few = few_sets one other texts apart in
-    let states : one.states ≡ parts_size parts = made_states options parts one same in
-    let other_states : other.states ≡ parts_size others = made_states other_options others other other_same in
+    let states : one.states ≡ parts_size parts = made_states options parts one gen same in
+    let other_states : other.states ≡ parts_size others = made_states other_options others other other_gen other_same in
     elim (cases_lt 19 (one.states + other.states)) [
       | inl large ↦ omega arith
       | inr small ↦
@@ -41,8 +42,8 @@ long_search options parts other_options others (one, other, same, other_same, (m
           absurd (omega arith)
     ]
 
-small_shared : (component other : ComponentParts) → component_size component + component_size other ≤ 19 → ¬ IsReasonToShare component other TooMany
-small_shared component other few much =
+small_shared : (component other : ComponentParts) → AreGenerated (parts_view component.parts.items) → AreGenerated (parts_view other.parts.items) → component_size component + component_size other ≤ 19 → ¬ IsReasonToShare component other TooMany
+small_shared component other gen other_gen few much =
     let options = options_view component.options in
     let parts = parts_view component.parts.items in
     let other_options = options_view other.options in
@@ -51,11 +52,11 @@ small_shared component other few much =
     let other_states = parts_states other_options others in
     elim much [
       | inl states ↦ elim states [
-        | inl many ↦ absurd (omega arith)
-        | inr many ↦ absurd (omega arith)
+        | inl many ↦ elim many [ inl custom ↦ absurd (custom gen) | inr states ↦ absurd (omega arith) ]
+        | inr many ↦ elim many [ inl custom ↦ absurd (custom other_gen) | inr states ↦ absurd (omega arith) ]
       ]
-      | inr long ↦ let above = long_search options parts other_options others long in absurd (omega arith)
+      | inr long ↦ let above = long_search options parts other_options others gen other_gen long in absurd (omega arith)
     ]
 
 pub small_compared : SmallAreCompared
-small_compared component other few = (small_shared other component (omega arith), small_shared component other few)
+small_compared component other gen other_gen few = (small_shared other component other_gen gen (omega arith), small_shared component other gen other_gen few)

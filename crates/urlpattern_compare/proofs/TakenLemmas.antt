@@ -10,7 +10,7 @@ use Rattle.std.specs.declared.vec.Vec.{Vec}
 use Rattle.urlpattern_compare.proofs.CandidateLemmas.{MeetsOne, all_back, all_front, all_last, apart_weaker}
 use Rattle.urlpattern_compare.proofs.CommonLemmas.{all_unmap}
 use Rattle.urlpattern_compare.proofs.StateSets.{contains_cons, contains_head, contains_tail}
-use Rattle.urlpattern_compare.specs.Candidates.{AreLines, HasManySetsAt, HasManyTexts, IsAmong, IsAnswer, IsFoundTexts, LackLines, MeetAlike, MeetsEach, TextAt, all_conditions, text_at}
+use Rattle.urlpattern_compare.specs.Candidates.{AreLines, HasManySetsAt, HasManyTexts, IsAmong, IsAnswer, IsFoundTexts, MeetAlike, MeetsEach, TextAt, all_conditions, text_at}
 use Rattle.urlpattern_compare.specs.CommonTexts.{AcceptsAlike, AreAdded, AreConditionsOf, AreLists, AreTaken, HasAutomata, IsConditionOf, IsFoundTaken, IsSure, LeadsAlike, NeedsManySets, NeedsManyTexts, TakeAlike, TakesAll, TakesEach}
 use Rattle.urlpattern_compare.specs.Conditions.{accepts, is_as, is_met, states_after}
 use Rattle.urlpattern_compare.specs.TextSearch.{LeadAlike}

@@ -19,6 +19,7 @@ use Rattle.urlpattern_compare.specs.declared.coverage.Reason.{Reason}
 use Rattle.urlpattern_compare.specs.declared.coverage.Reason.TheVariants as reasons
 use Rattle.urlpattern_compare.specs.declared.search.Found.{Found}
 use Rattle.urlpattern_compare.specs.declared.search.Found.TheVariants as founds
+use Rattle.urlpattern_expressions.specs.SimpleExpressions.{AreSimple}
 use Rattle.urlpattern_meaning.specs.PartMeaning.{AreGenerated}
 use Rattle.urlpattern_syntax.specs.{Options.OptionsView, Options.options_view, Parts.PartView, Parts.parts_view}
 use Rattle.urlpattern_syntax.specs.declared.parser.Options.{Options}
@@ -55,16 +56,26 @@ IsTooMuch options parts other_options others =
     (HasManyStates options parts ⊎ HasManyStates other_options others)
     ⊎ IsSearchLong options parts other_options others
 
--- `reason` is why parts do not tell which texts they match: a part is custom, and case is kept or
--- ignored.
+-- Case is kept, or no part is custom.
+abbrev pub IsByCase : OptionsView → List PartView → Type 0
+IsByCase options parts = (options.ignore_case ≡ false) ⊎ AreGenerated parts
+
+-- Parts tell which texts they match: custom expressions are simple, and case is kept if there is
+-- one.
+pub record IsTold (options : OptionsView) (parts : List PartView) : Type 0 where
+  pub simple : AreSimple parts
+  pub by_case : IsByCase options parts
+
+-- `reason` is why parts do not tell which texts they match: case is kept, and a custom expression
+-- is not simple, or case is ignored, and a part is custom.
 abbrev pub IsUntold : OptionsView → List PartView → Reason → Type 0
 IsUntold options parts reasons.CustomExpression =
-    (¬ AreGenerated parts) × (options.ignore_case ≡ false)
+    (¬ AreSimple parts) × (options.ignore_case ≡ false)
 IsUntold options parts reasons.IgnoredCase = (¬ AreGenerated parts) × (options.ignore_case ≡ true)
 IsUntold options parts reasons.TooMany = ⊥
 
 -- `reason` is true of two lists of parts if no text is known that the first matches, and that the
--- second matches or does not: a part of one of the two is custom, or the work is too much.
+-- second matches or does not: the parts of one of the two do not tell, or the work is too much.
 abbrev pub IsReason : OptionsView → List PartView → OptionsView → List PartView → Reason → Type 0
 IsReason options parts other_options others reasons.TooMany =
     IsTooMuch options parts other_options others
@@ -121,10 +132,11 @@ abbrev pub IfMade : {E : Type 0} → Result (Option PartsAutomaton) E → (Parts
     → Type 0
 IfMade result Is = IfOk result (λ found. IfSome found Is)
 
--- The automaton accepts exactly the texts that the parts match.
+-- The automaton accepts exactly the texts of characters that the parts match.
 abbrev pub AcceptsMeaning : OptionsView → List PartView → PartsAutomaton → Type 0
 AcceptsMeaning options parts automaton =
-    (text : List ℕ) → AcceptsText automaton text ↔ MeansText options parts text
+    (text : List ℕ) → IsTrue (all_scalars text)
+    → AcceptsText automaton text ↔ MeansText options parts text
 
 -- What each result of `find_meant` says. The text sought has no line feed, the parts match it, and
 -- the others match it if `is_meant` is true, and do not if it is false. Text: the text is as
@@ -157,7 +169,7 @@ abbrev pub IsFoundBy : (one other : PartsAutomaton) → (is_accepted : Bool) →
 IsFoundBy one other is_accepted (founds.Text text) =
     IsTrue (accepts one text.items)
     × (accepts other text.items ≡ is_accepted)
-    × IsTrue (lacks line_feed text.items)
+    × IsLine text.items
 IsFoundBy one other is_accepted founds.Nothing =
     (text : List ℕ) → IsLine text → IsTrue (accepts one text)
     → accepts other text ≡ not is_accepted

@@ -1,20 +1,16 @@
 -- The texts that automata accept.
-use Rattle.std.specs.Prelude.{◌≡◌, ℕ, ◌<◌, Bool, true, false, not, ◌==◌, All, Contains, List, [], ◌∷◌, IsTrue, map}
+use Rattle.std.specs.Prelude.{◌≡◌, ℕ, ◌<◌, Bool, true, false, not, ◌==◌, ◌&&◌, nat_le, All, Contains, List, [], ◌∷◌, IsTrue, map}
 use Rattle.urlpattern_compare.specs.declared.parts_automaton.PartsAutomaton.{PartsAutomaton}
 use Rattle.urlpattern_compare.specs.declared.parts_automaton.Edge.{Edge}
 use Rattle.urlpattern_compare.specs.declared.parts_automaton.Test.{Test}
-use Rattle.urlpattern_compare.specs.declared.parts_automaton.Test.TheVariants.{Only, AnyBut}
+use Rattle.urlpattern_compare.specs.declared.parts_automaton.Test.TheVariants.{Only, AnyBut, Within}
 use Rattle.urlpattern_meaning.specs.Matching.{folded_character}
 
 -- Whether the character passes the test.
 abbrev pub passes : Test → ℕ → Bool
 passes (Only c) other = other == c
 passes (AnyBut c) other = not (other == c)
-
--- The character that the test names.
-abbrev pub named : Test → ℕ
-named (Only c) = c
-named (AnyBut c) = c
+passes (Within first last) other = nat_le first other && nat_le other last
 
 -- The edges lead from the state to state 0 by the text, one edge for each character.
 abbrev pub Leads : List Edge → (state : ℕ) → (text : List ℕ) → Type 0

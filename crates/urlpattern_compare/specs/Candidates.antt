@@ -16,7 +16,6 @@ use Rattle.urlpattern_compare.specs.declared.search.Found.TheVariants.{Text, Not
 use Rattle.urlpattern_components.specs.Eight.{at}
 use Rattle.urlpattern_components.specs.declared.eight.ComponentName.{ComponentName}
 use Rattle.urlpattern_components.specs.declared.eight.Eight.{Eight}
-use Rattle.urlpattern_syntax.specs.Text.{lacks, line_feed}
 
 -- ---- eight texts
 
@@ -31,10 +30,6 @@ text_at texts = λ name. (at texts name).items
 -- Each text has characters, and none of them is a line feed.
 abbrev pub AreLines : TextAt → Type 0
 AreLines texts = (name : ComponentName) → IsLine (texts name)
-
--- No text has a line feed.
-abbrev pub LackLines : TextAt → Type 0
-LackLines texts = (name : ComponentName) → IsTrue (lacks line_feed (texts name))
 
 -- `new` is `text` if `name` is the component, and otherwise the text that `old` has for `name`.
 abbrev pub IsTextWith : (old : TextAt) → (component : ComponentName) → (text : List ℕ)
@@ -91,7 +86,7 @@ HasManySetsAt conditions component most =
 -- sets of states.
 abbrev pub IsFoundAt : List Condition → (component : ComponentName) → (most : ℕ) → Found → Type 0
 IsFoundAt conditions component most (Text text) =
-    MeetsAt conditions component text.items × IsTrue (lacks line_feed text.items)
+    MeetsAt conditions component text.items × IsLine text.items
 IsFoundAt conditions component most Nothing =
     (text : List ℕ) → IsLine text → ¬ MeetsAt conditions component text
 IsFoundAt conditions component most TooMany = HasManySetsAt conditions component most
@@ -101,7 +96,7 @@ IsFoundAt conditions component most TooMany = HasManySetsAt conditions component
 abbrev pub IsFirstText : List Condition → (most : ℕ) → ComponentName
     → Result (Result (Vec ℕ Global) ComponentName) NoTexts → Type 0
 IsFirstText conditions most component (Ok (Ok text)) =
-    MeetsAt conditions component text.items × IsTrue (lacks line_feed text.items)
+    MeetsAt conditions component text.items × IsLine text.items
 IsFirstText conditions most component (Ok (Err name)) = HasManySetsAt conditions name most
 IsFirstText conditions most component (Err lacking.Nothing) =
     (text : List ℕ) → IsLine text → ¬ MeetsAt conditions component text
@@ -112,7 +107,7 @@ IsFirstText conditions most component (Err lacking.OutOfMemory) = Unit {0}
 abbrev pub AreFirstTexts : List Condition → (most : ℕ)
     → Result (Result (Eight (Vec ℕ Global)) ComponentName) NoTexts → Type 0
 AreFirstTexts conditions most (Ok (Ok texts)) =
-    LackLines (text_at texts) × MeetsEach conditions (text_at texts)
+    AreLines (text_at texts) × MeetsEach conditions (text_at texts)
 AreFirstTexts conditions most (Ok (Err name)) = HasManySetsAt conditions name most
 AreFirstTexts conditions most (Err lacking.Nothing) =
     (texts : TextAt) → AreLines texts → ¬ MeetsEach conditions texts
@@ -136,7 +131,7 @@ ShareBy conditions it other =
 -- The candidate's texts, which have no line feed, meet its conditions. What meets these meets
 -- `conditions` too, and not all of `refused`; they are on automata of both.
 pub record IsCandidateOf (conditions refused : List Condition) (it : Candidate) : Type 0 where
-  pub lines : LackLines (text_at it.texts)
+  pub lines : AreLines (text_at it.texts)
   pub met : MeetsEach it.conditions.items (text_at it.texts)
   pub within : (texts : TextAt) → MeetsEach it.conditions.items texts → MeetsEach conditions texts
   pub failing : (texts : TextAt) → MeetsEach it.conditions.items texts → ¬ MeetsEach refused texts
@@ -190,7 +185,7 @@ abbrev pub HasManyTexts : (first : List Condition) → (refused : List (Vec Cond
     → (most : ℕ) → Type 0
 HasManyTexts first refused most =
     (found : List TextAt) × (most < length found)
-    × All LackLines found
+    × All AreLines found
     × All (MeetsEach first) found
     × AreApart (MeetAlike refused) found
 
@@ -201,7 +196,7 @@ HasManyTexts first refused most =
 abbrev pub IsFoundTexts : (first : List Condition) → (refused : List (Vec Condition Global))
     → Limits → FoundTexts → Type 0
 IsFoundTexts first refused limits (founds.Texts texts) =
-    LackLines (text_at texts) × IsAnswer first refused (text_at texts)
+    AreLines (text_at texts) × IsAnswer first refused (text_at texts)
 IsFoundTexts first refused limits founds.Nothing =
     (texts : TextAt) → AreLines texts → ¬ IsAnswer first refused texts
 IsFoundTexts first refused limits (founds.TooManySets component) =

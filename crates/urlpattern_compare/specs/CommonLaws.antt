@@ -1,8 +1,9 @@
 -- Laws of common texts: that meanings exist, and how much work a question takes at most.
-use Rattle.std.specs.Prelude.{◌≢◌, ◌⊎◌, ◌++◌, ◌^◌, ◌≤◌, ℕ, All, Contains, IsTrue, List, length}
+use Rattle.std.specs.Prelude.{◌≢◌, ◌⊎◌, ◌++◌, ◌^◌, ◌≤◌, ℕ, All, Contains, List, length}
 use Rattle.std.specs.List.{sum_by}
 use Rattle.urlpattern_compare.specs.CommonTexts.{AreAutomata, AreMeanings, IsDoubt, IsLack, PatternMeaning, SomeHasManyStates, parts_of}
 use Rattle.urlpattern_compare.specs.Comparing.{IsKnown, MeansIn}
+use Rattle.urlpattern_compare.specs.TextSearch.{IsLine}
 use Rattle.urlpattern_compare.specs.WorkBounds.{component_size}
 use Rattle.urlpattern_compare.specs.declared.candidates.Limits.{Limits}
 use Rattle.urlpattern_compare.specs.declared.candidates.TheConstants.{USUAL_LIMITS}
@@ -13,7 +14,8 @@ use Rattle.urlpattern_compare.specs.declared.coverage.Reason.TheVariants as reas
 use Rattle.urlpattern_compare.specs.declared.parts_automaton.TheConstants.{MOST_STATES}
 use Rattle.urlpattern_components.specs.declared.eight.ComponentName.{ComponentName}
 use Rattle.urlpattern_components.specs.Eight.{at}
-use Rattle.urlpattern_syntax.specs.Text.{lacks, line_feed}
+use Rattle.urlpattern_meaning.specs.PartMeaning.{AreGenerated}
+use Rattle.urlpattern_syntax.specs.Parts.{parts_view}
 use Rattle.urlpattern_syntax.specs.declared.parts.ComponentParts.{ComponentParts}
 
 -- Some meanings exist of any patterns, unless a component needs too many states.
@@ -28,19 +30,30 @@ MeaningsExist =
 abbrev pub joint_size : List PatternAutomata → ComponentName → ℕ
 joint_size patterns name = sum_by (λ it. component_size (at it.parts.components name)) patterns
 
--- A component does not need too many states if its size is at most `MOST_STATES`.
+-- No part of the component is custom.
+abbrev pub HasNoCustomPart : ComponentParts → Type 0
+HasNoCustomPart component = AreGenerated (parts_view component.parts.items)
+
+-- No part of the component is custom, and its size is at most `MOST_STATES`.
+pub record IsSmall (component : ComponentParts) : Type 0 where
+  pub generated : HasNoCustomPart component
+  pub small : component_size component ≤ MOST_STATES
+
+-- A component without custom parts does not need too many states if its size is at most
+-- `MOST_STATES`.
 abbrev pub SmallHaveAutomata : Type 0
 SmallHaveAutomata =
     (patterns : List PatternAutomata) (lack : Lack)
-    → All (λ it. component_size (at it.parts.components lack.component) ≤ MOST_STATES) patterns
+    → All (λ it. IsSmall (at it.parts.components lack.component)) patterns
     → IsLack patterns lack → lack.reason ≢ reasons.TooMany
 
--- A component does not need too many sets of states if 2 to the power of its size in all of the
--- patterns is at most `limits.sets`.
+-- A component without custom parts does not need too many sets of states if 2 to the power of its
+-- size in all of the patterns is at most `limits.sets`.
 abbrev pub SmallNeedFewSets : Type 0
 SmallNeedFewSets =
     (all_of none_of : List PatternAutomata) (limits : Limits) (name : ComponentName)
     → All AreAutomata (all_of ++ none_of)
+    → All (λ it. HasNoCustomPart (at it.parts.components name)) (all_of ++ none_of)
     → 2 ^ joint_size (all_of ++ none_of) name ≤ limits.sets
     → ¬ IsDoubt all_of none_of limits (doubts.TooManySets name)
 
@@ -49,7 +62,7 @@ SmallNeedFewSets =
 abbrev pub MatchesAnything : ComponentParts → Type 0
 MatchesAnything component =
     IsKnown component
-    → (text : List ℕ) → IsTrue (lacks line_feed text) → MeansIn component text
+    → (text : List ℕ) → IsLine text → MeansIn component text
 
 -- Each component of the pattern is among `counted`, or matches anything.
 abbrev pub AreCounted : (counted : List ComponentName) → PatternAutomata → Type 0

@@ -1,7 +1,8 @@
 -- Whether eight texts exist that each of some patterns matches, and none of others.
 use Rattle.std.specs.Prelude.{◌≡◌, ◌↔◌, ◌⊎◌, ◌++◌, ◌<◌, ℕ, All, Bool, Contains, IsSome, IsTrue, List, MatchOption, Option, String, Vec, length, map, slice_get, Some}
 use Rattle.std.specs.declared.alloc.Global.{Global}
-use Rattle.urlpattern_compare.specs.Candidates.{AreLines, LackLines, MeetsEach, TextAt, text_at}
+use Rattle.std.specs.Str.{all_scalars}
+use Rattle.urlpattern_compare.specs.Candidates.{AreLines, MeetsEach, TextAt, text_at}
 use Rattle.urlpattern_compare.specs.Comparing.{AreSame, IsKnown, IsUnknownBy, MeansIn}
 use Rattle.urlpattern_compare.specs.Conditions.{accepts, states_after}
 use Rattle.urlpattern_compare.specs.Making.{HasManyStates}
@@ -24,6 +25,7 @@ use Rattle.urlpattern_compare.specs.declared.pattern_parts.PatternParts.{Pattern
 use Rattle.urlpattern_components.specs.Eight.{at}
 use Rattle.urlpattern_components.specs.declared.eight.ComponentName.{ComponentName}
 use Rattle.urlpattern_components.specs.declared.eight.Eight.{Eight}
+use Rattle.urlpattern_meaning.specs.PartMeaning.{AreGenerated}
 use Rattle.urlpattern_syntax.specs.Options.{options_view}
 use Rattle.urlpattern_syntax.specs.Parts.{parts_view}
 use Rattle.urlpattern_syntax.specs.Text.{text_of}
@@ -110,18 +112,20 @@ TakesAll pattern texts = (name : ComponentName) → Takes (at pattern.automata n
 abbrev pub NeedsManyTexts : (all_of none_of : List PatternAutomata) → (most : ℕ) → Type 0
 NeedsManyTexts all_of none_of most =
     (found : List TextAt) × (most < length found)
-    × All LackLines found
+    × All AreLines found
     × All (λ texts. All (λ pattern. TakesAll pattern texts) all_of) found
     × AreApart (TakeAlike (map (λ it. it.automata) none_of)) found
 
 -- ---- the answer
 
--- The automaton accepts the texts that the component matches, and has as many states as the size of
--- the component.
+-- The automaton accepts the texts of characters that the component matches. If no part is custom,
+-- it has as many states as the size of the component.
 pub record IsAutomatonOf (component : ComponentParts) (automaton : PartsAutomaton) : Type 0 where
   pub known : IsKnown component
-  pub means : (text : List ℕ) → IsTrue (accepts automaton text) ↔ MeansIn component text
-  pub size : automaton.states ≡ component_size component
+  pub means : (text : List ℕ) → IsTrue (all_scalars text)
+      → IsTrue (accepts automaton text) ↔ MeansIn component text
+  pub size : AreGenerated (parts_view component.parts.items)
+      → automaton.states ≡ component_size component
 
 -- `reason` is why a component has no automaton.
 abbrev pub LacksBy : ComponentParts → Reason → Type 0
@@ -299,7 +303,7 @@ SomeAreTaken all_of none_of is_sure =
 abbrev pub IsFoundTaken : (all_of none_of : List PatternAutomata) → (is_sure : Bool) → Limits
     → FoundTexts → Type 0
 IsFoundTaken all_of none_of is_sure limits (founds.Texts texts) =
-    LackLines (text_at texts) × AreTaken all_of none_of is_sure (text_at texts)
+    AreLines (text_at texts) × AreTaken all_of none_of is_sure (text_at texts)
 IsFoundTaken all_of none_of is_sure limits founds.Nothing =
     (texts : TextAt) → AreLines texts → ¬ AreTaken all_of none_of is_sure texts
 IsFoundTaken all_of none_of is_sure limits (founds.TooManySets name) =

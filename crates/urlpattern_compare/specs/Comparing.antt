@@ -5,7 +5,7 @@ use Rattle.std.specs.Prelude.{◌≡◌, ◌⊎◌, ◌&&◌, ℕ, not, All, Boo
 use Rattle.std.specs.declared.alloc.Global.{Global}
 use Rattle.std.specs.List.{slice_get}
 use Rattle.std.specs.Str.{all_scalars}
-use Rattle.urlpattern_compare.specs.Answers.{IsTooMuch}
+use Rattle.urlpattern_compare.specs.Answers.{IsTold, IsTooMuch}
 use Rattle.urlpattern_compare.specs.MeantTexts.{MeansText}
 use Rattle.urlpattern_compare.specs.declared.coverage.Covering.{Covering}
 use Rattle.urlpattern_compare.specs.declared.coverage.Covering.TheVariants as coverings
@@ -40,15 +40,15 @@ MeansIn component text =
 abbrev pub misses_case : ComponentParts → Bool
 misses_case component = component.options.ignore_case && not component.honours_case
 
--- The parts tell which texts the component matches: no part is a custom regular expression, and a
--- match ignores case if the options do.
+-- The parts tell which texts the component matches: custom expressions are simple, case is kept if
+-- there is one, and a match ignores case if the options do.
 pub record IsKnown (component : ComponentParts) : Type 0 where
-  pub generated : AreGenerated (parts_view component.parts.items)
+  pub told : IsTold (options_view component.options) (parts_view component.parts.items)
   pub case : misses_case component ≡ false
 
 -- `reason` is why the parts do not tell which texts the component matches, as `IsKnown` says: case
--- is kept, so that a part is custom; or case is ignored, and a part is custom, or the engine does
--- not honour the flag `i`.
+-- is kept, so that an expression is not simple; or case is ignored, and a part is custom, or the
+-- engine does not honour the flag `i`.
 abbrev pub IsUnknownBy : ComponentParts → Reason → Type 0
 IsUnknownBy component reasons.CustomExpression =
     (¬ IsKnown component) × (component.options.ignore_case ≡ false)

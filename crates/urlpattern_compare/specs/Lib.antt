@@ -13,6 +13,8 @@ pub mod DecidedComparisons
 pub mod WorkBounds
 pub mod Conditions
 pub mod TextSearch
+pub mod Examples
+pub mod Fronts
 pub mod Candidates
 pub mod CommonTexts
 pub mod CommonLaws

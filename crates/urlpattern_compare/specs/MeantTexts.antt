@@ -1,7 +1,7 @@
 -- The texts that parts mean, with case ignored or kept.
 use Rattle.std.specs.Prelude.{ℕ, Bool, List, map, option_map}
+use Rattle.urlpattern_expressions.specs.MatchedPartTexts.{PartsMatch}
 use Rattle.urlpattern_meaning.specs.Matching.{folded_character}
-use Rattle.urlpattern_meaning.specs.PartMeaning.{Captures, PartsMean}
 use Rattle.urlpattern_syntax.specs.{Options.OptionsView, Parts.PartView}
 
 -- The options, with the delimiter in lower case if case is ignored.
@@ -22,10 +22,10 @@ folded_part ignore_case part = record part {
 abbrev pub folded_parts : OptionsView → List PartView → List PartView
 folded_parts options parts = map (folded_part options.ignore_case) parts
 
--- The parts mean the text: they can match it, one after the other, with some captures. If case is
--- ignored, ASCII letters of parts, delimiter and text are compared in lower case.
+-- The parts mean the text: they match it, one after the other. If case is ignored, ASCII letters of
+-- parts, delimiter and text are compared in lower case; of custom parts nothing is known then
+-- (`IsKnown`).
 abbrev pub MeansText : OptionsView → List PartView → (text : List ℕ) → Type 0
 MeansText options parts text =
-    (captures : Captures)
-    × PartsMean (folded_options options) (folded_parts options parts)
-    (map (folded_character options.ignore_case) text) captures
+    PartsMatch (folded_options options) (folded_parts options parts)
+    (map (folded_character options.ignore_case) text)

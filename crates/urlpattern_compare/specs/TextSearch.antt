@@ -1,12 +1,13 @@
 -- The search for a text that meets conditions: it visits places, the sets of states to which texts
 -- lead all automata.
-use Rattle.std.specs.Prelude.{◌≡◌, ◌≢◌, ℕ, ◌<◌, All, Bool, true, false, Contains, List, [], ◌∷◌, ◌++◌, length, IsTrue, if◌then◌else◌}
+use Rattle.std.specs.Prelude.{◌≡◌, ◌≢◌, ℕ, ◌+◌, ◌<◌, ◌≤◌, nat_lt, All, Bool, true, false, Contains, List, [], ◌∷◌, ◌++◌, codes, drop, length, take, IsTrue, if◌then◌else◌}
 use Rattle.std.specs.{Char.IsScalar, Char.to_ascii_uppercase, Str.all_scalars}
 use Rattle.urlpattern_compare.specs.Conditions.{Meets, are_open, joint_after, joint_moved, states_after}
-use Rattle.urlpattern_compare.specs.Automata.{named}
 use Rattle.urlpattern_compare.specs.Searching.{is_in}
 use Rattle.urlpattern_compare.specs.declared.condition.Condition.{Condition}
 use Rattle.urlpattern_compare.specs.declared.parts_automaton.Edge.{Edge}
+use Rattle.urlpattern_compare.specs.declared.parts_automaton.Test.{Test}
+use Rattle.urlpattern_compare.specs.declared.parts_automaton.Test.TheVariants.{Only, AnyBut, Within}
 use Rattle.urlpattern_compare.specs.declared.search.Found.{Found}
 use Rattle.urlpattern_compare.specs.declared.search.Found.TheVariants.{Text, Nothing, TooMany}
 use Rattle.urlpattern_compare.specs.declared.text_search.Place.{Place}
@@ -39,7 +40,7 @@ HasManySets conditions most =
 -- states.
 abbrev pub IsFoundText : List Condition → (most : ℕ) → Found → Type 0
 IsFoundText conditions most (Text text) =
-    Meets conditions text.items × IsTrue (lacks line_feed text.items)
+    Meets conditions text.items × IsLine text.items
 IsFoundText conditions most Nothing = (text : List ℕ) → IsLine text → ¬ Meets conditions text
 IsFoundText conditions most TooMany = HasManySets conditions most
 
@@ -54,15 +55,69 @@ abbrev pub with_cases : (ignore_case : Bool) → (marks : List ℕ) → (c : ℕ
 with_cases true marks c = with_mark (with_mark marks c) (to_ascii_uppercase c)
 with_cases false marks c = with_mark marks c
 
+-- The characters `marks`, with those of the text added, each once.
+unfoldable pub with_marks : (marks : List ℕ) → (text : List ℕ) → List ℕ
+with_marks marks [] = marks
+with_marks marks (c ∷ text) = with_marks (with_mark marks c) text
+
+-- The characters `marks`, with those added that the test names: in both cases if case is ignored.
+-- Of ranges, capital letters are named if case is ignored, so that no other character has a case.
+abbrev pub with_named : (ignore_case : Bool) → (marks : List ℕ) → Test → List ℕ
+with_named ignore_case marks (Only c) = with_cases ignore_case marks c
+with_named ignore_case marks (AnyBut c) = with_cases ignore_case marks c
+with_named true marks (Within first last) = with_marks marks (codes "ABCDEFGHIJKLMNOPQRSTUVWXYZ")
+with_named false marks (Within first last) = marks
+
 -- The characters `marks`, with those added that the tests of those edges name that leave a state of
--- the set `from`, in both cases if case is ignored, each once.
+-- the set `from`, each once.
 abbrev pub with_named_from : (ignore_case : Bool) → (marks : List ℕ) → (from : List Bool)
     → List Edge → List ℕ
 with_named_from ignore_case marks from [] = marks
 with_named_from ignore_case marks from (edge ∷ edges) =
     with_named_from ignore_case
-    (if is_in from edge.from then with_cases ignore_case marks (named edge.test) else marks)
+    (if is_in from edge.from then with_named ignore_case marks edge.test else marks)
     from edges
+
+-- The characters `marks`, with those added that the tests of those edges of all automata name that
+-- leave a state of the sets.
+abbrev pub named_at : (marks : List ℕ) → List Condition → (flags : List Bool) → List ℕ
+named_at marks [] flags = marks
+named_at marks (it ∷ others) flags =
+    named_at
+    (with_named_from it.automaton.now.ignore_case marks (take it.automaton.now.states flags)
+    it.automaton.now.edges.items)
+    others (drop it.automaton.now.states flags)
+
+-- The code after `last`, or 0 if no character has one.
+abbrev pub code_after : (last : ℕ) → ℕ
+code_after last = if nat_lt last 0x10_FFFF then last + 1 else 0
+
+-- The codes at which the characters begin that pass a test of ranges, or that do not pass it.
+abbrev pub breaks_of : Test → List ℕ
+breaks_of (Within first last) = 0 ∷ first ∷ code_after last ∷ []
+breaks_of test = []
+
+-- The codes `breaks`, with those of the tests added of edges that leave a state of the set `from`.
+abbrev pub with_breaks_from : (breaks : List ℕ) → (from : List Bool) → List Edge → List ℕ
+with_breaks_from breaks from [] = breaks
+with_breaks_from breaks from (edge ∷ edges) =
+    with_breaks_from (if is_in from edge.from then (breaks ++ breaks_of edge.test) else breaks)
+    from edges
+
+-- The codes `breaks`, with those of all automata added.
+abbrev pub breaks_at : (breaks : List ℕ) → List Condition → (flags : List Bool) → List ℕ
+breaks_at breaks [] flags = breaks
+breaks_at breaks (it ∷ others) flags =
+    breaks_at
+    (with_breaks_from breaks (take it.automaton.now.states flags) it.automaton.now.edges.items)
+    others (drop it.automaton.now.states flags)
+
+-- Where a character from `code` on is not among `named`, one of `classes` is at most that
+-- character, at least `code` and not among `named`.
+abbrev pub HasFree : (named classes : List ℕ) → (code : ℕ) → Type 0
+HasFree named classes code = (c : ℕ) → IsScalar c → is_among named c ≡ false → code ≤ c →
+    (free : ℕ) × Contains classes free
+    × (is_among named free ≡ false) × (code ≤ free) × (free ≤ c)
 
 -- Each character other than a line feed leads from the sets `flags` to the same sets as one of
 -- `classes` does that is no line feed.
@@ -79,7 +134,7 @@ IsPlaceOf flags text place = (place.flags.items ≡ flags) × (place.text.items 
 -- The text of the place, which has no line feed, leads to its sets.
 pub record IsPlaced (conditions : List Condition) (place : Place) : Type 0 where
   pub flags : place.flags.items ≡ joint_after conditions place.text.items
-  pub line : IsTrue (lacks line_feed place.text.items)
+  pub line : IsLine place.text.items
 
 -- The text of each place leads to its sets, and no two places have the same sets.
 pub record ArePlaces (conditions : List Condition) (places : List Place) : Type 0 where

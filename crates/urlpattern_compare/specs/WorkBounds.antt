@@ -3,6 +3,7 @@ use Rattle.std.specs.Prelude.{◌+◌, ◌≤◌, ℕ, List, [], ◌∷◌, leng
 use Rattle.urlpattern_compare.specs.Comparing.{IsReasonFor, IsReasonToShare}
 use Rattle.urlpattern_compare.specs.declared.coverage.Reason.TheVariants.{TooMany}
 use Rattle.urlpattern_compare.specs.declared.search.TheConstants.{FEW_STATES}
+use Rattle.urlpattern_meaning.specs.PartMeaning.{AreGenerated}
 use Rattle.urlpattern_syntax.specs.Parts.{PartView, parts_view}
 use Rattle.urlpattern_syntax.specs.declared.parser.PartType.{PartType}
 use Rattle.urlpattern_syntax.specs.declared.parts.ComponentParts.{ComponentParts}
@@ -28,9 +29,11 @@ abbrev pub component_size : ComponentParts → ℕ
 component_size component = parts_size (parts_view component.parts.items)
 
 -- To find whether a component covers another, or whether the two overlap, does not take too much
--- work if the sizes of both are at most `FEW_STATES` together.
+-- work if no part is custom, and the sizes of both are at most `FEW_STATES` together.
 abbrev pub SmallAreCompared : Type 0
 SmallAreCompared =
     (component other : ComponentParts)
+    → AreGenerated (parts_view component.parts.items)
+    → AreGenerated (parts_view other.parts.items)
     → component_size component + component_size other ≤ FEW_STATES
     → (¬ IsReasonFor component other TooMany) × ¬ IsReasonToShare component other TooMany

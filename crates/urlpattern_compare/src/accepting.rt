@@ -13,7 +13,11 @@ use std::alloc::{AllocError, Global};
 use urlpattern_components::{ComponentName, Eight};
 
 /// Whether the automaton accepts the text.
-fn accepts(alloc: Global, automaton: &PartsAutomaton, text: &[char]) -> Result<bool, AllocError>
+pub(crate) fn accepts(
+    alloc: Global,
+    automaton: &PartsAutomaton,
+    text: &[char],
+) -> Result<bool, AllocError>
     ensures { IfOk result (λ found. found ≡ accepts automaton.now text.now) }
 {
     let mut flags = set_of(alloc, &automaton.starts, automaton.states)?;

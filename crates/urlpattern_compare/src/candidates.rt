@@ -1,7 +1,7 @@
 //! Candidates: conditions on eight texts, with texts that meet them.
 
 ghost use Rattle.std.specs.Prelude.{◌≡◌, ◌++◌, ◌∷◌, [], Err, IfErr, IfOk, IfSome, IsSome, Ok, OnOk};
-ghost use Rattle.urlpattern_compare.specs.Candidates.{AreCandidates, AreFirstTexts, HasManySetsAt, IsFirstText, IsFoundAt, IsFoundTexts, IsSplit, IsTextWith, IsWithText, LackLines, MeetsEach, negated, text_at};
+ghost use Rattle.urlpattern_compare.specs.Candidates.{AreCandidates, AreFirstTexts, HasManySetsAt, IsFirstText, IsFoundAt, IsFoundTexts, IsSplit, IsTextWith, IsWithText, AreLines, MeetsEach, negated, text_at};
 ghost use Rattle.urlpattern_components.specs.Eight.{at};
 
 use crate::accepting::{conditions_at, first_met};
@@ -158,7 +158,7 @@ fn divide<'a>(
     refused: &[Vec<Condition<'a>>],
     limits: Limits,
 ) -> Result<FoundTexts, AllocError>
-    requires lines { LackLines (text_at first.texts) }
+    requires lines { AreLines (text_at first.texts) }
     requires met { MeetsEach first.conditions.items (text_at first.texts) }
     ensures { IfOk result (IsFoundTexts first.entry.conditions.items refused.now limits) }
 {
@@ -203,7 +203,7 @@ fn split<'a>(
     most: usize,
     candidates: &mut Vec<Candidate<'a>>,
 ) -> Result<Option<ComponentName>, AllocError>
-    requires lines { LackLines (text_at parent.now.texts) }
+    requires lines { AreLines (text_at parent.now.texts) }
     requires met { MeetsEach parent.now.conditions.items (text_at parent.now.texts) }
     requires refused { MeetsEach refused.now (text_at parent.now.texts) }
     ensures candidates { OnOk result
@@ -243,7 +243,7 @@ fn reject<'a>(
     most: usize,
     candidates: &mut Vec<Candidate<'a>>,
 ) -> Result<Option<ComponentName>, AllocError>
-    requires lines { LackLines (text_at texts.now) }
+    requires lines { AreLines (text_at texts.now) }
     requires met { MeetsEach conditions.now (text_at texts.now) }
     ensures candidates { OnOk result
         (AreCandidates conditions.now (condition.entry ∷ []) candidates.old.items

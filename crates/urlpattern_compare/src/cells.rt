@@ -82,7 +82,7 @@ fn add_wildcard(cells: &mut Vec<Cell>, options: &Options, kind: &PartType) -> Re
 }
 
 /// Returns the delimiter, in lower case if case is ignored, or a line feed if there is none.
-fn delimiter(options: &Options) -> char
+pub(crate) fn delimiter(options: &Options) -> char
     ensures { result ≡ unwrap_or (folded_options (options_view options.now)).delimiter line_feed }
 {
     match options.delimiter_code_point {

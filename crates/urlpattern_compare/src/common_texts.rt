@@ -2,7 +2,7 @@
 
 ghost use Rattle.std.specs.Prelude.{◌≡◌, ◌↔◌, ◌++◌, ◌∷◌, [], All, Contains, IfOk, IsTrue, List, OnOk, map, true};
 ghost use Rattle.urlpattern_components.specs.Eight.{at};
-ghost use Rattle.urlpattern_compare.specs.Candidates.{AreLines, LackLines, MeetsEach, TextAt, text_at};
+ghost use Rattle.urlpattern_compare.specs.Candidates.{AreLines, MeetsEach, TextAt, text_at};
 ghost use Rattle.urlpattern_compare.specs.CommonTexts.{AreAdded, AreAutomata, AreLists, AreTaken, DependsIfUnknown, HasAutomata, IsAutomatonOrLacks, IsCommonAnswer, IsConditionOf, IsFoundTaken, IsLack, IsSure, SomeAreTaken, TakesAll, TakesEach, TakesIn, string_at};
 ghost use Rattle.urlpattern_compare.specs.EqualParts.{AreEqualParts};
 ghost use Rattle.urlpattern_syntax.specs.Text.{text_of};
@@ -13,6 +13,7 @@ use crate::condition::Condition;
 use crate::copies::copy_of;
 use crate::coverage::Reason;
 use crate::lacks::{first_lack, is_same_in, is_sure_of};
+use crate::parted::are_parted;
 use crate::parts_automaton::{PartsAutomaton, make};
 use crate::pattern_parts::{PatternParts, string_of};
 use std::alloc::{AllocError, Global};
@@ -109,7 +110,7 @@ fn automaton_of(
 ) -> Result<Option<PartsAutomaton>, AllocError>
     ensures { IfOk result (IsAutomatonOrLacks component.now) }
 {
-    match unknown(component) {
+    match unknown(alloc, component)? {
         None => make(alloc, &component.options, &component.parts),
         Some(_) => Ok(None),
     }
@@ -156,7 +157,7 @@ fn texts_or_doubt<'a>(
 ) -> Result<Common, AllocError>
     requires all_of { All AreAutomata (map (λ it. it.now) all_of.now) }
     requires none_of { All AreAutomata (map (λ it. it.now) none_of.now) }
-    requires lines { LackLines (text_at texts.now) }
+    requires lines { AreLines (text_at texts.now) }
     requires taken { AreTaken (map (λ it. it.now) all_of.now) (map (λ it. it.now) none_of.now)
         true (text_at texts.now) }
     ensures answer { IfOk result
@@ -165,7 +166,7 @@ fn texts_or_doubt<'a>(
         (DependsIfUnknown (map (λ it. it.now) all_of.now) (map (λ it. it.now) none_of.now)) }
 {
     let strings = strings_of(alloc, texts)?;
-    match first_lack(&[], all_of) {
+    match first_lack(alloc, &[], all_of)? {
         Some(lack) => {
             drop(strings);
             Ok(Common::Unknown(Doubt::AllOf(lack)))
@@ -194,7 +195,7 @@ fn texts_if_known<'a>(
     ensures depends { IfOk result
         (DependsIfUnknown (map (λ it. it.now) all_of.now) (map (λ it. it.now) none_of.now)) }
 {
-    match first_lack(all_of, none_of) {
+    match first_lack(alloc, all_of, none_of)? {
         Some(lack) => {
             drop(texts);
             certain_or(alloc, all_of, none_of, limits, lack)
@@ -253,10 +254,14 @@ fn find_taken<'a>(
     limits: Limits,
     is_sure: bool,
 ) -> Result<FoundTexts, AllocError>
+    requires { All AreAutomata (map (λ it. it.now) all_of.now) }
     ensures { IfOk result
         (IsFoundTaken (map (λ it. it.now) all_of.now) (map (λ it. it.now) none_of.now) is_sure
         limits) }
 {
+    if are_parted(all_of) {
+        return Ok(FoundTexts::Nothing);
+    }
     let first = accepting(alloc, all_of)?;
     let lists = lists_of(alloc, all_of, none_of, is_sure)?;
     find_texts(alloc, first, &lists, limits)

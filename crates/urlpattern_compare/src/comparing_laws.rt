@@ -18,9 +18,9 @@ pub fn decided_comparisons_are_known()
     ensures apart { ApartAreKnown }
 {}
 
-/// To compare two components does not take too much work if the numbers of characters and wildcards
-/// of both, a segment wildcard counted twice, with 1 added to each, are at most
-/// [`FEW_STATES`](crate::FEW_STATES) together.
+/// To compare two components does not take too much work if no part is a custom regular expression,
+/// and the numbers of characters and wildcards of both, a segment wildcard counted twice, with 1
+/// added to each, are at most [`FEW_STATES`](crate::FEW_STATES) together.
 ///
 /// Few components are that small: two with at most eight characters and wildcards are. `FEW_STATES`
 /// is 19; [`MOST_SETS`](crate::MOST_SETS) and [`MOST_STATES`](crate::MOST_STATES) are 10,000.

@@ -8,6 +8,7 @@ ghost use Rattle.urlpattern_syntax.specs.Parts.{parts_view};
 ghost use Rattle.urlpattern_syntax.specs.Text.{text_of};
 
 use crate::coverage::{Covering, Overlap, Reason, covers, has_custom, overlaps, untold};
+use crate::examples::example_of;
 use std::alloc::{AllocError, Global};
 use urlpattern_syntax::ComponentParts;
 use urlpattern_syntax::parser::{Options, Part, PartModifier, PartType};
@@ -34,18 +35,22 @@ fn anything(alloc: Global) -> Result<ComponentParts, AllocError>
     })
 }
 
-/// Returns why the parts of `component` do not tell which texts it matches: a part is a custom
-/// regular expression, or an engine keeps case where it is to be ignored. `None`: the parts tell.
-pub(crate) fn unknown(component: &ComponentParts) -> Option<Reason>
-    ensures known { IfNone result (IsKnown component.now) }
-    ensures reason { IfSome result (IsUnknownBy component.now) }
+/// Returns why the parts of `component` do not tell which texts it matches: a custom regular
+/// expression is not simple, or case is ignored, and a part is custom, or an engine keeps case.
+/// `None`: the parts tell.
+pub(crate) fn unknown(
+    alloc: Global,
+    component: &ComponentParts,
+) -> Result<Option<Reason>, AllocError>
+    ensures known { IfOk result (λ found. IfNone found (IsKnown component.now)) }
+    ensures reason { IfOk result (λ found. IfSome found (IsUnknownBy component.now)) }
 {
     if misses_case(component) {
-        return Some(Reason::IgnoredCase);
+        return Ok(Some(Reason::IgnoredCase));
     }
-    match untold(&component.options, &component.parts) {
-        Some(reason) => Some(reason),
-        None => None,
+    match untold(alloc, &component.options, &component.parts)? {
+        Some(reason) => Ok(Some(reason)),
+        None => Ok(None),
     }
 }
 
@@ -59,14 +64,20 @@ fn misses_case(component: &ComponentParts) -> bool
 
 /// Returns why the parts of two components do not tell which texts each matches. `None`: the parts
 /// tell.
-fn unknown_with(component: &ComponentParts, other: &ComponentParts) -> Option<Reason>
-    ensures known { IfNone result (IsKnown component.now × IsKnown other.now) }
-    ensures reason { IfSome result (IsReasonFor component.now other.now) }
-    ensures shared { IfSome result (IsReasonToShare component.now other.now) }
+fn unknown_with(
+    alloc: Global,
+    component: &ComponentParts,
+    other: &ComponentParts,
+) -> Result<Option<Reason>, AllocError>
+    ensures known { IfOk result (λ found.
+        IfNone found (IsKnown component.now × IsKnown other.now)) }
+    ensures reason { IfOk result (λ found. IfSome found (IsReasonFor component.now other.now)) }
+    ensures shared { IfOk result (λ found.
+        IfSome found (IsReasonToShare component.now other.now)) }
 {
-    match unknown(component) {
-        Some(reason) => Some(reason),
-        None => unknown(other),
+    match unknown(alloc, component)? {
+        Some(reason) => Ok(Some(reason)),
+        None => unknown(alloc, other),
     }
 }
 
@@ -75,7 +86,7 @@ fn unknown_with(component: &ComponentParts, other: &ComponentParts) -> Option<Re
 fn matches_every_line(alloc: Global, component: &ComponentParts) -> Result<bool, AllocError>
     ensures { IfOk result (DecidesEveryLine component.now) }
 {
-    match unknown(component) {
+    match unknown(alloc, component)? {
         Some(_) => Ok(false),
         None => covers_anything(alloc, component),
     }
@@ -158,7 +169,7 @@ fn covers_by_meaning(
 ) -> Result<Covering, AllocError>
     ensures { IfOk result (IsCoveringByMeaning component.now asked.now) }
 {
-    match unknown_with(component, asked) {
+    match unknown_with(alloc, component, asked)? {
         None => covers(
             alloc,
             &component.options,
@@ -178,7 +189,7 @@ pub(crate) fn component_overlaps(
 ) -> Result<Overlap, AllocError>
     ensures { IfOk result (IsComponentOverlap component.now other.now) }
 {
-    match unknown_with(component, other) {
+    match unknown_with(alloc, component, other)? {
         None => overlaps(
             alloc,
             &component.options,
@@ -198,7 +209,7 @@ pub(crate) fn component_example(
 ) -> Result<Overlap, AllocError>
     ensures { IfOk result (IsExample component.now) }
 {
-    match unknown(component) {
+    match unknown(alloc, component)? {
         None => common_with_anything(alloc, component),
         Some(reason) => Ok(Overlap::Unknown(reason)),
     }
@@ -210,6 +221,9 @@ fn common_with_anything(alloc: Global, component: &ComponentParts) -> Result<Ove
     requires { IsKnown component.now }
     ensures { IfOk result (IsExample component.now) }
 {
+    if let Some(text) = example_of(alloc, &component.options, &component.parts)? {
+        return Ok(Overlap::Common(text));
+    }
     let anything = anything(alloc)?;
     overlaps(
         alloc,

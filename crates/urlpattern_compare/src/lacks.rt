@@ -1,11 +1,12 @@
 //! Which components of patterns have an automaton, or are the same in another pattern.
 
-ghost use Rattle.std.specs.Prelude.{◌↔◌, All, IfNone, IfSome, IsTrue, map};
+ghost use Rattle.std.specs.Prelude.{◌↔◌, All, IfNone, IfOk, IfSome, IsTrue, map};
 ghost use Rattle.urlpattern_compare.specs.CommonTexts.{AreAutomata, IsLack, IsLackOf, IsSameIn, IsSure, IsSureIn, LacksBy};
 
 use crate::common_texts::{Lack, PatternAutomata};
 use crate::component_coverage::{is_same, unknown};
 use crate::coverage::Reason;
+use std::alloc::{AllocError, Global};
 use urlpattern_components::ComponentName;
 use urlpattern_syntax::ComponentParts;
 
@@ -54,48 +55,59 @@ pub(crate) fn is_same_in(
 
 /// Returns the first component of `patterns` that has no automaton, and is not the same in a
 /// pattern of `all_of`. `None`: there is none.
-pub(crate) fn first_lack(all_of: &[&PatternAutomata], patterns: &[&PatternAutomata]) -> Option<Lack>
+pub(crate) fn first_lack(
+    alloc: Global,
+    all_of: &[&PatternAutomata],
+    patterns: &[&PatternAutomata],
+) -> Result<Option<Lack>, AllocError>
     requires { All AreAutomata (map (λ it. it.now) patterns.now) }
-    ensures none { IfNone result (All (IsSure (map (λ it. it.now) all_of.now))
-        (map (λ it. it.now) patterns.now)) }
-    ensures some { IfSome result (IsLack (map (λ it. it.now) patterns.now)) }
+    ensures none { IfOk result (λ found. IfNone found
+        (All (IsSure (map (λ it. it.now) all_of.now)) (map (λ it. it.now) patterns.now))) }
+    ensures some { IfOk result (λ found. IfSome found
+        (IsLack (map (λ it. it.now) patterns.now))) }
 {
     for index in 0..patterns.len() {
-        match lack_of(all_of, patterns[index], index) {
-            Some(lack) => return Some(lack),
+        match lack_of(alloc, all_of, patterns[index], index)? {
+            Some(lack) => return Ok(Some(lack)),
             None => {}
         }
     }
-    None
+    Ok(None)
 }
 
 /// Returns the first component of the pattern that has no automaton, and is not the same in a
 /// pattern of `all_of`; `index` is that of the pattern. `None`: there is none.
-fn lack_of(all_of: &[&PatternAutomata], pattern: &PatternAutomata, index: usize) -> Option<Lack>
+fn lack_of(
+    alloc: Global,
+    all_of: &[&PatternAutomata],
+    pattern: &PatternAutomata,
+    index: usize,
+) -> Result<Option<Lack>, AllocError>
     requires { AreAutomata pattern.now }
-    ensures none { IfNone result (IsSure (map (λ it. it.now) all_of.now) pattern.now) }
-    ensures some { IfSome result (IsLackOf pattern.now index) }
+    ensures none { IfOk result (λ found.
+        IfNone found (IsSure (map (λ it. it.now) all_of.now) pattern.now)) }
+    ensures some { IfOk result (λ found. IfSome found (IsLackOf pattern.now index)) }
 {
     for component in ComponentName::all() {
         if !is_sure_in(all_of, pattern, component) {
-            let reason = reason_of(pattern.parts.components.get(component));
-            return Some(Lack {
+            let reason = reason_of(alloc, pattern.parts.components.get(component))?;
+            return Ok(Some(Lack {
                 pattern: index,
                 component,
                 reason,
-            });
+            }));
         }
     }
-    None
+    Ok(None)
 }
 
 /// Returns why the component has no automaton.
-fn reason_of(component: &ComponentParts) -> Reason
+fn reason_of(alloc: Global, component: &ComponentParts) -> Result<Reason, AllocError>
     requires { (reason : Reason) × LacksBy component.now reason }
-    ensures { LacksBy component.now result }
+    ensures { IfOk result (LacksBy component.now) }
 {
-    match unknown(component) {
-        Some(reason) => reason,
-        None => Reason::TooMany,
+    match unknown(alloc, component)? {
+        Some(reason) => Ok(reason),
+        None => Ok(Reason::TooMany),
     }
 }

@@ -1,18 +1,25 @@
 //! Automata that read texts character by character: made of parts, from the last part to the first.
 
-ghost use Rattle.std.specs.Prelude.{◌≡◌, ◌≤◌, ◌<◌, ◌+◌, ◌++◌, [], IfNone, IfOk, OnOk, length};
-ghost use Rattle.urlpattern_compare.specs.{Answers.AcceptsMeaning, Answers.IfMade};
-ghost use Rattle.urlpattern_compare.specs.Automata.{IsWithin, named, passes};
-ghost use Rattle.urlpattern_compare.specs.Making.{HasManyStates, IsMadeOf, edges_to, made_view, may_miss, new_starts, repeats, with_cell, with_cells, with_copies, with_repeat_starts};
-ghost use Rattle.urlpattern_meaning.specs.PartMeaning.{AreGenerated};
-ghost use Rattle.urlpattern_syntax.specs.{Options.options_view, Parts.parts_view};
+ghost use Rattle.std.specs.Prelude.{◌≡◌, ◌≢◌, ◌⊎◌, ◌≤◌, ◌<◌, ◌+◌, ◌++◌, [], IfNone, IfOk, IsTrue, None, OnOk, false, length};
+ghost use Rattle.urlpattern_compare.specs.{Answers.AcceptsMeaning, Answers.IfMade, Answers.IsByCase};
+ghost use Rattle.urlpattern_compare.specs.Automata.{IsWithin, passes};
+ghost use Rattle.urlpattern_compare.specs.Making.{HasManyStates, IsMadeOf, IsPartAdded, IsPartLarge, edges_to, made_view, may_miss, new_starts, repeats, with_cell, with_cells, with_copies, with_part, with_repeat_starts, with_shape};
+ghost use Rattle.urlpattern_compare.specs.MeantTexts.{folded_options, folded_part};
+ghost use Rattle.urlpattern_expressions.specs.Shapes.{IsShapeOfPart, Shape, shape};
+ghost use Rattle.urlpattern_syntax.specs.{Options.options_view, Parts.part_view, Parts.parts_view};
+ghost use Rattle.urlpattern_syntax.specs.declared.parser.PartType.{PartType};
 
 use crate::cells::{Cell, cells_of, has_one};
+use crate::coverage::is_custom;
+use crate::shapes::{add_tree, begins, size_of};
 use std::alloc::{AllocError, Global};
+use urlpattern_expressions::{Tree, part_tree};
+use urlpattern_syntax::error::OutOfMemory;
 use urlpattern_syntax::parser::{Options, Part, PartModifier};
 
 /// The number of states beyond which no further part is added to an automaton. An automaton has a
-/// state for each character and each full wildcard, two for each segment wildcard, and one more.
+/// state for each character and each full wildcard, two for each segment wildcard, one for each
+/// character or class of a custom expression, whose repetitions are written out, and one more.
 /// The part that exceeds the number is still added if it alone has no more states, so an automaton
 /// may have up to twice as many.
 pub const MOST_STATES: usize = 10_000;
@@ -24,6 +31,8 @@ pub enum Test {
     Only(char),
     /// Every character but this passes.
     AnyBut(char),
+    /// Every character passes whose code is in this range, with both its ends.
+    Within(u32, u32),
 }
 
 impl Test {
@@ -34,15 +43,7 @@ impl Test {
         match self {
             Self::Only(only) => c == only,
             Self::AnyBut(but) => c != but,
-        }
-    }
-
-    /// Returns the character that the test names.
-    pub(crate) fn character(self) -> char
-        ensures { result ≡ named self }
-    {
-        match self {
-            Self::Only(c) | Self::AnyBut(c) => c,
+            Self::Within(first, last) => first <= u32::from(c) && u32::from(c) <= last,
         }
     }
 }
@@ -75,10 +76,11 @@ pub struct PartsAutomaton {
 
 impl PartsAutomaton {
     /// Makes the automaton of `parts`. `None`: the automaton would have more than [`MOST_STATES`]
-    /// states. Automata with up to twice as many states may be made.
+    /// states, or a custom expression has no tree. Automata with up to twice as many states may be
+    /// made.
     ///
-    /// The automaton accepts the texts that the parts match, if no part is a custom regular
-    /// expression.
+    /// The automaton accepts the texts that the parts match, if case is kept or no part is a custom
+    /// regular expression.
     pub fn of_parts(
         alloc: Global,
         options: &Options,
@@ -87,10 +89,85 @@ impl PartsAutomaton {
         ensures within { IfMade result IsWithin }
         ensures many { IfOk result (λ found.
             IfNone found (HasManyStates (options_view options.now) (parts_view parts.now))) }
-        ensures accepts { AreGenerated (parts_view parts.now)
+        ensures accepts { IsByCase (options_view options.now) (parts_view parts.now)
             → IfMade result (AcceptsMeaning (options_view options.now) (parts_view parts.now)) }
     {
         make(alloc, options, parts)
+    }
+
+    /// Prepends a part. `false`: a custom part has no tree, or there are too many cells or states.
+    fn add_part(
+        &mut self,
+        alloc: Global,
+        options: &Options,
+        part: &Part,
+    ) -> Result<bool, AllocError>
+        ensures added { IfOk result (λ added. IsTrue added
+            → IsPartAdded (options_view options.now) (part_view part.now) (made_view self.old)
+            (made_view self.new)) }
+        ensures many { IfOk result (λ added. added ≡ false
+            → (part.now.kind ≡ PartType.Regexp)
+            ⊎ IsPartLarge (folded_options (options_view options.now))
+            (folded_part options.now.ignore_case (part_view part.now)) (made_view self.old)) }
+    {
+        if is_custom(part) {
+            self.add_custom(alloc, part)
+        } else {
+            self.add_plain(alloc, options, part)
+        }
+    }
+
+    /// Prepends a part that is not custom. `false`: there are too many cells or states.
+    fn add_plain(
+        &mut self,
+        alloc: Global,
+        options: &Options,
+        part: &Part,
+    ) -> Result<bool, AllocError>
+        requires { part.now.kind ≢ PartType.Regexp }
+        ensures added { IfOk result (λ added. IsTrue added
+            → made_view self.new ≡ with_part (folded_options (options_view options.now))
+            (made_view self.old) (folded_part options.now.ignore_case (part_view part.now)) None) }
+        ensures many { IfOk result (λ added. added ≡ false
+            → IsPartLarge (folded_options (options_view options.now))
+            (folded_part options.now.ignore_case (part_view part.now)) (made_view self.old)) }
+    {
+        let cells = cells_of(alloc, options, part)?;
+        if cells.len() > MOST_STATES || self.states > MOST_STATES {
+            return Ok(false);
+        }
+        self.add_copies(alloc, part.modifier, &cells)?;
+        Ok(true)
+    }
+
+    /// Prepends a custom part. `false`: the part has no tree, or there are too many states.
+    fn add_custom(&mut self, alloc: Global, part: &Part) -> Result<bool, AllocError>
+        requires { part.now.kind ≡ PartType.Regexp }
+        ensures { IfOk result (λ added. IsTrue added
+            → (shape : Shape) × IsShapeOfPart (part_view part.now) shape
+            × (made_view self.new ≡ with_shape (made_view self.old) shape)) }
+    {
+        match part_tree(alloc, part) {
+            Err(OutOfMemory) => Err(AllocError),
+            Ok(None) => Ok(false),
+            Ok(Some(tree)) => self.add_shape(alloc, &tree),
+        }
+    }
+
+    /// Prepends a tree. `false`: there are too many states.
+    fn add_shape(&mut self, alloc: Global, tree: &Tree) -> Result<bool, AllocError>
+        ensures { IfOk result (λ added. IsTrue added
+            → made_view self.new ≡ with_shape (made_view self.old) (shape tree.now)) }
+    {
+        let size = size_of(tree);
+        if size > MOST_STATES || self.states > MOST_STATES {
+            return Ok(false);
+        }
+        add_tree(alloc, &mut self.edges, tree, self.states, &self.starts)?;
+        let starts = begins(alloc, tree, self.states, &self.starts)?;
+        self.starts = starts;
+        self.states += size;
+        Ok(true)
     }
 
     /// Prepends `cells`, which are in reverse order, so that they are read as many times as
@@ -207,11 +284,9 @@ pub(crate) fn make(
     };
     let mut left = parts;
     while let Some((part, before)) = left.split_last() {
-        let cells = cells_of(alloc, options, part)?;
-        if cells.len() > MOST_STATES || automaton.states > MOST_STATES {
+        if !automaton.add_part(alloc, options, part)? {
             return Ok(None);
         }
-        automaton.add_copies(alloc, part.modifier, &cells)?;
         left = before;
     }
     automaton.ignore_case = options.ignore_case;
@@ -219,7 +294,7 @@ pub(crate) fn make(
 }
 
 /// Adds an edge from `from` to each of `others`, by characters that pass `test`.
-fn add_edges(
+pub(crate) fn add_edges(
     edges: &mut Vec<Edge>,
     from: usize,
     test: Test,
@@ -263,7 +338,7 @@ fn repeats(modifier: PartModifier) -> bool
 }
 
 /// Whether a part with this modifier may be left out.
-fn may_miss(modifier: PartModifier) -> bool
+pub(crate) fn may_miss(modifier: PartModifier) -> bool
     ensures { result ≡ may_miss modifier }
 {
     matches!(modifier, PartModifier::Optional | PartModifier::ZeroOrMore)

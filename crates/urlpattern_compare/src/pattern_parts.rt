@@ -151,14 +151,17 @@ impl PatternParts {
     /// with a line feed are left out.
     ///
     /// Components are compared one by one, with case ignored in some and kept in others; where it
-    /// is ignored, ASCII letters are compared in lower case. A component that matches each text,
-    /// without custom regular expressions, covers any other. A component covers equal parts under
-    /// equal options, whatever the names, also with custom regular expressions, unless case is
-    /// ignored too. Nothing is known of other components with custom regular expressions, nor of
-    /// those that ignore case and that an engine matches which does not honour the flag `i`
-    /// (`Reason::IgnoredCase`), nor where the work is too much (`Reason::TooMany`). `Unknown` is
-    /// returned only if no other component decides. Each text of `NotCovered` is one of the
-    /// shortest for its component, though no clause promises that.
+    /// is ignored, ASCII letters are compared in lower case. A component with custom regular
+    /// expressions is compared if each is simple (`urlpattern_expressions::is_simple`), such as
+    /// `\d+`, and case is kept; an expression means what the crate `regex` reads in it. A component
+    /// that matches each text, as its parts tell, covers any other. A component covers equal parts
+    /// under equal options, whatever the names, also with other custom expressions, unless case is
+    /// ignored too. Nothing else is known of a component with a custom expression that is not
+    /// simple, or with one where case is ignored, nor of one that ignores case and that an engine
+    /// matches which does not honour the flag `i` (`Reason::IgnoredCase`), nor where the work is
+    /// too much (`Reason::TooMany`). `Unknown` is returned only if no other component decides. Each
+    /// text of `NotCovered` is one of the shortest for its component, though no clause promises
+    /// that.
     pub fn covers(&self, alloc: Global, asked: &Self) -> Result<PatternCovering, AllocError>
         ensures { IfOk result (IsPatternCovering self.now asked.now) }
     {

@@ -1,19 +1,21 @@
 -- What a pattern matches of which one component is written.
 use Rattle.std.proofs.Common.{◌≡◌, ◌≢◌, ◌∙◌, ◌++◌, ℕ, List, [], ◌∷◌, append-nil, inl, inr, refl, subst, sym}
 use Rattle.std.proofs.lemmas.List.Elements.{All-cons, All-nil}
-use Rattle.std.specs.Prelude.{IsTrue, Some}
+use Rattle.std.specs.Prelude.{IsTrue}
+use Rattle.urlpattern_compare.proofs.AnswerLemmas.{generated_told}
 use Rattle.urlpattern_compare.proofs.CandidateLemmas.{name_cases}
 use Rattle.urlpattern_compare.proofs.ComponentLemmas.{none_missed, wildcard_means}
-use Rattle.urlpattern_compare.proofs.KeptCase.{kept_means}
+use Rattle.urlpattern_compare.proofs.KeptCase.{kept_matches}
 use Rattle.urlpattern_compare.specs.Comparing.{IsKnown, MeansIn}
 use Rattle.urlpattern_compare.specs.MeantTexts.{MeansText}
 use Rattle.urlpattern_components.specs.Eight.{at}
 use Rattle.urlpattern_components.specs.declared.eight.ComponentName.{ComponentName}
 use Rattle.urlpattern_differences.specs.Credentials.{IsWildcard, WrittenMatch, wildcard_part}
-use Rattle.urlpattern_meaning.specs.PartMeaning.{AreCopies, AreGenerated}
-use Rattle.urlpattern_syntax.specs.Options.{OptionsView, default_options}
+use Rattle.urlpattern_expressions.specs.MatchedPartTexts.{IsMatchedCopy}
+use Rattle.urlpattern_meaning.specs.PartMeaning.{AreGenerated}
+use Rattle.urlpattern_syntax.specs.Options.{OptionsView, default_options, options_view}
 use Rattle.urlpattern_syntax.specs.Parts.{PartView, parts_view}
-use Rattle.urlpattern_syntax.specs.Text.{lacks, line_feed}
+use Rattle.urlpattern_syntax.specs.Text.{IsRepeated, lacks, line_feed}
 use Rattle.urlpattern_syntax.specs.declared.parser.PartType.{PartType}
 use Rattle.urlpattern_syntax.specs.declared.parts.ComponentParts.{ComponentParts}
 
@@ -22,47 +24,30 @@ use Rattle.urlpattern_syntax.specs.declared.parts.ComponentParts.{ComponentParts
 pub segment_means : (text : List ℕ) → text ≢ [] → IsTrue (lacks line_feed text) → MeansText default_options (wildcard_part PartType.SegmentWildcard ∷ []) text
 segment_means text some line =
     let whole : text ≡ text ++ [] = sym (append-nil text) in
-    (kept_means default_options (wildcard_part PartType.SegmentWildcard ∷ []) text refl).1 (
-      Some text ∷ [],
-      (
-        text,
-        [],
-        Some text ∷ [],
-        [],
-        whole,
-        refl,
-        record {
-          count = 1;
-          allowed = refl;
-          are_copies = (text, [], whole, (text, whole, (some, line)), refl);
-          are_captures = (Some text, (text, whole, refl), refl);
-        },
-        (refl, refl),
-      ),
-    )
+    (kept_matches default_options (wildcard_part PartType.SegmentWildcard ∷ []) text refl).1
+    (text, [], whole, (1, refl, (text, [], whole, (text, whole, (some, line)), refl)), refl)
 
 empty_first : (first rest : List ℕ) → [] ≡ first ++ rest → first ≡ []
 empty_first [] rest e = refl
 empty_first (c ∷ first) rest e = absurd cc
 
 abbrev Copies : ℕ → List ℕ → Type 0
-Copies n text = AreCopies default_options (wildcard_part PartType.SegmentWildcard) n text
+Copies n text = IsRepeated (IsMatchedCopy default_options PartType.SegmentWildcard (wildcard_part PartType.SegmentWildcard)) n text
 
 copy_some : Copies 1 [] → ⊥
 copy_some (first, rest, cut, (piece, is, (some, line)), end) = some (empty_first piece [] (sym (empty_first first rest cut) ∙ is))
 
 pub segment_some : MeansText default_options (wildcard_part PartType.SegmentWildcard ∷ []) [] → ⊥
-segment_some (captures, (first, rest, own, others, cut, joined, means, end)) =
-    copy_some (subst (λ (text : List ℕ). Copies 1 text) (empty_first first rest cut) (subst (λ (n : ℕ). Copies n first) means.allowed means.are_copies))
+segment_some (first, rest, cut, (count, allowed, copies), end) =
+    copy_some (subst (λ (text : List ℕ). Copies 1 text) (empty_first first rest cut) (subst (λ (n : ℕ). Copies n first) allowed copies))
 
 -- ---- a component
 
 module _ (kind : PartType) (component : ComponentParts) (is : IsWildcard kind component) where
   pub known_wildcard : kind ≢ PartType.Regexp → IsKnown component
-  known_wildcard generated = record {
-    generated = subst AreGenerated (sym is.parts) (All-cons (λ (part : PartView). part.kind ≢ PartType.Regexp) (wildcard_part kind) [] generated (All-nil (λ (part : PartView). part.kind ≢ PartType.Regexp)));
-    case = none_missed component is.case;
-  }
+  known_wildcard other =
+      let generated = subst AreGenerated (sym is.parts) (All-cons (λ (part : PartView). part.kind ≢ PartType.Regexp) (wildcard_part kind) [] other (All-nil (λ (part : PartView). part.kind ≢ PartType.Regexp))) in
+      record { told = generated_told (options_view component.options) (parts_view component.parts.items) generated; case = none_missed component is.case }
 
   pub means_in : (text : List ℕ) → MeansText default_options (wildcard_part kind ∷ []) text → MeansIn component text
   means_in text means =

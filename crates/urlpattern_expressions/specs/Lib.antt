@@ -4,3 +4,4 @@ pub mod MatchedPartTexts
 pub mod PartCaptures
 pub mod PartWays
 pub mod PartsFirst
+pub mod Shapes

@@ -101,7 +101,9 @@ fn is_ascii(text: &str) -> bool
 }
 
 /// Whether each custom expression of `parts` is simple, with case ignored or kept.
-fn are_simple(alloc: Global, parts: &[Part], ignore_case: bool) -> Result<bool, OutOfMemory>
+///
+/// The only error is that memory ran out.
+pub fn are_simple(alloc: Global, parts: &[Part], ignore_case: bool) -> Result<bool, OutOfMemory>
     ensures { IfOk result (λ are_simple.
         IsTrue are_simple ↔ AreSimpleBy ignore_case (parts_view parts.now)) }
 {

@@ -112,8 +112,8 @@ module _ (router : Router) (method : List ℕ) (texts : Texts) (old_index new_in
       (found_groups found, subst (λ at. AreGroupsOfRoute router method texts at (found_groups found)) (sym is) (record { value = value; found = found; is_served = served; are_groups = refl }), written)
   routed_written (Found index value found) statuses.TooSmall served (is, written) =
       (found_groups found, subst (λ at. AreGroupsOfRoute router method texts at (found_groups found)) (sym is) (record { value = value; found = found; is_served = served; are_groups = refl }), written)
-  routed_written (Found index value found) statuses.OutOfMemory served written =
-      inr (index, found_groups found, record { value = value; found = found; is_served = served; are_groups = refl }, written.1)
+  routed_written (Found index value found) statuses.OutOfMemory served (is, written) =
+      inr (found_groups found, subst (λ at. AreGroupsOfRoute router method texts at (found_groups found)) (sym is) (record { value = value; found = found; is_served = served; are_groups = refl }), written)
   routed_written (Found index value found) status served written = absurd written.1
   routed_written (MethodNotAllowed allowed) status (none, some, left) (is, at, bytes, spans) =
       subst (λ status. AreRouteCaptures router method texts old_index new_index old new old_spans new_spans needed status) (sym is) (none, some, at, bytes, spans)

@@ -36,19 +36,12 @@ pub record AreGroupsOfRoute (router : Router) (method : List ℕ) (texts : Texts
   pub is_served : IsServed pattern_result router method texts (Some (index, value, found))
   pub are_groups : groups ≡ found_groups found
 
--- Memory may run out for a request with this method and these texts: an engine is called, or a
--- route serves the request, whose groups need more room than a size can say.
-abbrev pub MayRunOut : Router → (method : List ℕ) → Texts → Type 0
-MayRunOut router method texts =
-    CallsEngineOfRequest pattern_result router method texts
-    ⊎ ((index : ℕ) × (groups : List NumberedGroup)
-    × AreGroupsOfRoute router method texts index groups
-    × ExceedSizes no_sizes groups)
-
 -- The outcome of writing the index and the groups of the route that serves a request with this
 -- method and these texts. `Done`, `TooSmall`: `new_index` is the index, and the groups are as in
 -- `AreSpansWritten`. `NotAllowed`: some route matches, but none serves the request. `NoMatch`: no
--- route matches. In the last two cases index and buffers are unchanged.
+-- route matches. `OutOfMemory`: an engine is called. In the last three cases index and buffers are
+-- unchanged; or it is `OutOfMemory`, and the groups of the route at `new_index` need more room than
+-- a size can say.
 abbrev pub AreRouteCaptures : Router → (method : List ℕ) → Texts → (old_index new_index : ℕ)
     → (old new : List ℕ) → (old_spans new_spans : List GroupSpan) → (needed : Sizes) → Status
     → Type 0
@@ -70,7 +63,11 @@ AreRouteCaptures router method texts old_index new_index old new old_spans new_s
     IsRouted pattern_result router method texts NotFound
     × (new_index ≡ old_index) × (new ≡ old) × (new_spans ≡ old_spans)
 AreRouteCaptures router method texts old_index new_index old new old_spans new_spans needed
-    statuses.OutOfMemory = MayRunOut router method texts
+    statuses.OutOfMemory =
+    (CallsEngineOfRequest pattern_result router method texts
+    × (new_index ≡ old_index) × (new ≡ old) × (new_spans ≡ old_spans))
+    ⊎ ((groups : List NumberedGroup) × AreGroupsOfRoute router method texts new_index groups
+    × ExceedSizes no_sizes groups)
 AreRouteCaptures router method texts old_index new_index old new old_spans new_spans needed status =
     ⊥
 

@@ -11,25 +11,24 @@ use Rattle.urlpattern_compile.specs.Compiled.{settings_of}
 use Rattle.urlpattern_matcher.specs.Components.{IsEngineOf, engine_flags}
 use Rattle.urlpattern_pattern.proofs.ByTextLemmas.{component_by, pattern_by}
 use Rattle.urlpattern_pattern.specs.ByTextLaws.{PatternsReturnByText}
-use Rattle.urlpattern_laws.proofs.SimpleMatchers.{generated_first, matcher_of_middle}
+use Rattle.urlpattern_laws.proofs.SimpleMatchers.{matcher_of_middle, pattern_makes_first_ways, regex_makes_first_ways}
 use Rattle.urlpattern_laws.specs.PartReadings.{DoesHonourCase, OwnPartsMean, OwnPartsMeanWithCase}
-use Rattle.urlpattern_engine.proofs.RegexMatchers as regex
 
 pub parts_mean_by_first_ways : {E : Type 0} (engine : Engine E) → MakesFirstWays engine → OwnPartsMeanWithCase engine
-parts_mean_by_first_ways engine firsts = own_parts_mean engine AcceptedAlone (generated_first engine firsts) (λ options inner took. (flags_agree options, took))
+parts_mean_by_first_ways engine firsts = own_parts_mean engine AcceptedAlone firsts (λ options inner took. (flags_agree options, took))
 
 pub parts_mean_by_flags : {E : Type 0} (engine : Engine E) → MakesFirstWays engine → DoesHonourCase engine → OwnPartsMean engine
 parts_mean_by_flags engine firsts honours = by engine.case_honoured refl
   where
     by : (honoured : Bool) → engine.case_honoured ≡ honoured → OwnPartsMean engine
-    by true e = all_parts_mean engine AcceptedAlone (generated_first engine firsts) (honours e) (λ options inner took. (flags_agree options, took))
-    by false e = keeping_parts_mean engine AcceptedAlone (generated_first engine firsts) e (λ options inner took. (flags_agree options, took))
+    by true e = all_parts_mean engine AcceptedAlone firsts (honours e) (λ options inner took. (flags_agree options, took))
+    by false e = keeping_parts_mean engine AcceptedAlone firsts e (λ options inner took. (flags_agree options, took))
 
 pub pattern_parts_mean : OwnPartsMean pattern_engine
-pattern_parts_mean = all_parts_mean pattern_engine _ own.taken_first own.values_by_flags (λ options inner took. flags_agree options)
+pattern_parts_mean = all_parts_mean pattern_engine AcceptedAlone pattern_makes_first_ways own.values_by_flags (λ options inner took. (flags_agree options, took))
 
 pub regex_parts_mean : OwnPartsMean regex_engine
-regex_parts_mean = keeping_parts_mean regex_engine _ regex.taken_first refl (λ options inner took. took)
+regex_parts_mean = keeping_parts_mean regex_engine AcceptedAlone regex_makes_first_ways refl (λ options inner took. (flags_agree options, took))
 
 -- The values of the engine that are called return first ways.
 pub pattern_by_engines : {E : Type 0} (engine : Engine E) → PatternsReturnByText engine

@@ -4,7 +4,9 @@ use Rattle.std.proofs.lemmas.Bool.{false≢true}
 use Rattle.std.proofs.lemmas.List.Elements.{All-map}
 use Rattle.std.specs.Option.{is_some}
 use Rattle.std.specs.Prelude.{⊤, ◌&&◌, IsTrue, if◌then◌else◌}
+use Rattle.urlpattern_compare.proofs.PartTexts.{generated_match}
 use Rattle.urlpattern_compare.specs.MeantTexts.{MeansText, folded_part}
+use Rattle.urlpattern_expressions.specs.MatchedPartTexts.{PartsMatch}
 use Rattle.urlpattern_expressions.specs.PartWays.{parts_first_way_by}
 use Rattle.urlpattern_init.specs.UrlTexts.{IsLine}
 use Rattle.urlpattern_laws.proofs.ByCase.{generated_first}
@@ -155,9 +157,10 @@ ignored_means options parts text generated ignored =
     ap (option_map folded_captures) (first_of_tree true options parts tree text generated (is_tree_of options parts generated)) ∙ first_way_folded tree other (parts_fold options parts) text in
     let found = some_means (lowered options) folded_parts read (first_way other read) (all_generated parts generated) refl in
     let same : is_some first ≡ is_some (first_way other read) = sym (some_mapped folded_captures first) ∙ ap is_some folds in
-    let Means : Bool → Type 0 = λ b. (captures : Captures) × PartsMean (record options { delimiter = option_map (folded_character b) options.delimiter }) (map (folded_part b) parts) (map (folded_character b) text) captures in (
-      λ some. subst Means (sym ignored) (found.0 (sym same ∙ some)),
-      λ means. same ∙ found.1 (subst Means ignored means),
+    let meant = generated_match (lowered options) folded_parts (all_generated parts generated) read in
+    let Means : Bool → Type 0 = λ b. PartsMatch (record options { delimiter = option_map (folded_character b) options.delimiter }) (map (folded_part b) parts) (map (folded_character b) text) in (
+      λ some. subst Means (sym ignored) (meant.1 (found.0 (sym same ∙ some))),
+      λ means. same ∙ found.1 (meant.0 (subst Means ignored means)),
     )
 
 -- ---- matchers

@@ -127,7 +127,7 @@ writable engine Accepted firsts taken reading kept compiled settings text captur
     let own = kept_parts kept in
     let ways = firsts options (engine_flags options) own compiled.matcher (record {
       is_made = made.is_component.has_matcher;
-      generated = it.known.generated;
+      generated = it.generated;
       case_kept = it.case_kept;
       took = taken options compiled.matcher.inner made.has_engine.of_matcher;
     }) in

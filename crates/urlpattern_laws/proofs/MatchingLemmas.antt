@@ -1,21 +1,23 @@
 -- The texts that patterns match, by their parts.
-use Rattle.std.proofs.Common.{◌≡◌, ◌∙◌, ◌↔◌, ◌⊎◌, ℕ, Bool, true, false, List, inl, inr, refl, sym, subst}
+use Rattle.std.proofs.Common.{◌≡◌, ◌∙◌, ◌↔◌, ◌⊎◌, ℕ, Bool, true, false, List, [], ◌∷◌, inl, inr, refl, sym, subst}
 use Rattle.std.proofs.lemmas.Bool.{false≢true}
 use Rattle.std.proofs.lemmas.Str.{scalars-chars, IsUtf8-string_bytes}
 use Rattle.std.specs.Prelude.{⊤, ◌&&◌, not, IsSomeAnd, MatchOption, Option, Some, None, String, string_bytes}
 use Rattle.std.specs.declared.alloc.Global.{Global}
 use Rattle.urlpattern_compare.specs.MeantTexts.{MeansText}
 use Rattle.urlpattern_matcher.specs.Components.{IsEngineOf, engine_flags, honours_case}
-use Rattle.urlpattern_matcher.specs.FirstWays.{Acceptance, EachReturnsFirst, IsAcceptedBy, ValuesReturnByFlags}
+use Rattle.urlpattern_matcher.specs.FirstWays.{Acceptance, ValuesReturnByFlags}
 use Rattle.urlpattern_matcher.specs.declared.regexp.RegExp.{Ghosts as Engine}
 use Rattle.urlpattern_init.specs.UrlTexts.{EachIsLine, IsLine}
 use Rattle.urlpattern_meaning.specs.FirstResults.{AcceptedText}
-use Rattle.urlpattern_meaning.specs.Matching.{Agrees, InnerView, IsMadeOf, IsMatched, Literal, MatcherView, RegExp, Returns, SingleCapture}
-use Rattle.urlpattern_meaning.specs.PartMeaning.{AreGenerated, Captures, PartsMean}
+use Rattle.urlpattern_meaning.specs.Matching.{InnerView, IsMadeOf, IsMatched, Literal, MatcherView, RegExp, Returns, SingleCapture}
+use Rattle.urlpattern_meaning.specs.PartMeaning.{AreGenerated, Captures}
+use Rattle.urlpattern_expressions.specs.{MatchedPartTexts.PartsMatch, PartCaptures.IsCapturedByParts, PartCaptures.PartsCapture, SimpleExpressions.HaveMeaning}
 use Rattle.urlpattern_pattern.proofs.MatchersDecide.{answered}
-use Rattle.urlpattern_pattern.specs.{Match.AreMatched, Patterns.PatternView, UrlPatterns.AreMadeOfParts}
+use Rattle.urlpattern_pattern.specs.{ByText.EachReturnsFirstOfParts, Match.AreMatched, Patterns.PatternView, UrlPatterns.AreMadeOfParts}
 use Rattle.urlpattern_laws.specs.PartReadings.{ApartMatchNothing, AreItsParts, CommonAreMatched, CoveredAreMatched, CoveredByEngineAreMatched, CoveredByMeaningAreMatched, IsCoveredByMeaning, KnownAreCoveredByMeaning, OwnPartsMean, OwnPartsMeanWithCase, PartingsAreMatched, SameAreMatched}
-use Rattle.urlpattern_compare.proofs.KeptCase.{kept_means}
+use Rattle.urlpattern_compare.proofs.AnswerLemmas.{told_generated}
+use Rattle.urlpattern_compare.proofs.KeptCase.{kept_matches}
 use Rattle.urlpattern_laws.proofs.FoldedMeaning.{fast_matches, ignored_matches, made_case}
 use Rattle.urlpattern_meaning.proofs.MatchingLaws.{IsFast}
 use Rattle.urlpattern_compare.proofs.SameParts.{known_or_not, same_flips, same_within}
@@ -30,41 +32,50 @@ use Rattle.urlpattern_syntax.specs.Text.{text_of}
 
 -- ---- a single component
 
--- A result that agrees with the parts says whether they mean the text.
-pub by_answer : {E : Type 0} (answer : E → List ℕ → Option Captures) (matcher : MatcherView E) (options : OptionsView) (parts : List PartView) (text : List ℕ) (found : Option Captures) →
-    Returns answer matcher text found → Agrees options parts text found → ((captures : Captures) × PartsMean options parts text captures) → IsMatched answer matcher text
-by_answer answer matcher options parts text (Some captures) answers agrees means = (captures, answers)
-by_answer answer matcher options parts text None answers agrees means = absurd (agrees means.0 means.1)
+-- Parts that have captures in a text match it.
+captures_match : (options : OptionsView) (parts : List PartView) (text : List ℕ) (captures : Captures) → PartsCapture options parts text captures → PartsMatch options parts text
+captures_match options [] text captures is = is.0
+captures_match options (part ∷ parts) text captures (first, rest, own, others, cut, all, one, more) =
+    (first, rest, cut, (one.count, one.allowed, one.are_copies), captures_match options parts rest others more)
+
+-- A result that is captured by the parts says whether they match the text.
+by_answer : {E : Type 0} (answer : E → List ℕ → Option Captures) (matcher : MatcherView E) (options : OptionsView) (parts : List PartView) (text : List ℕ) (found : Option Captures) →
+    Returns answer matcher text found → IsCapturedByParts options parts text found → PartsMatch options parts text → IsMatched answer matcher text
+by_answer answer matcher options parts text (Some captures) answers captured matches = (captures, answers)
+by_answer answer matcher options parts text None answers captured matches = absurd (captured matches)
+
+-- Where case is kept, a matcher whose results are captured by the parts matches what they mean.
+pub captured_matches : {E : Type 0} (answer : E → List ℕ → Option Captures) (matcher : MatcherView E) (options : OptionsView) (parts : List PartView) (text : List ℕ) → options.ignore_case ≡ false →
+    ((found : Option Captures) → Returns answer matcher text found → IsCapturedByParts options parts text found) → IsMatched answer matcher text ↔ MeansText options parts text
+captured_matches answer matcher options parts text kept captured =
+    let whole = answered answer matcher text in
+    let same = kept_matches options parts text kept in (
+      λ matched. same.1 (captures_match options parts text matched.0 (captured (Some matched.0) matched.1)),
+      λ means. by_answer answer matcher options parts text whole.0 whole.1 (captured whole.0 whole.1) (same.0 means),
+    )
 
 -- ---- a whole pattern
 
 -- Where case is kept, a matcher of parts matches what they mean, if the engine returns first ways.
-pub kept_matches : {E : Type 0} (engine : Engine E) (Accepted : Acceptance E) → EachReturnsFirst engine Accepted → (options : OptionsView) (parts : List PartView) (matcher : MatcherView E) →
-    IsAcceptedBy engine Accepted options (engine_flags options) parts matcher → (text : List ℕ) → IsLine text → IsMatched engine.answer matcher text ↔ MeansText options parts text
-kept_matches engine Accepted firsts options parts matcher accepted text line =
-    let answers = firsts options (engine_flags options) parts matcher accepted in
-    let agrees : (found : Option Captures) → Returns engine.answer matcher text found → Agrees options parts text found =
-    λ found is_answer. (answers text found line.no_line_feed line.characters is_answer).1 in
-    let whole = answered engine.answer matcher text in
-    let kept = kept_means options parts text accepted.case_kept in (
-      λ matched. kept.1 (matched.0, agrees (Some matched.0) matched.1),
-      λ means. by_answer engine.answer matcher options parts text whole.0 whole.1 (agrees whole.0 whole.1) (kept.0 means),
-    )
+first_matches : {E : Type 0} (engine : Engine E) (Accepted : Acceptance E) → EachReturnsFirstOfParts engine Accepted → (options : OptionsView) (parts : List PartView) (matcher : MatcherView E) →
+    IsMadeOf (IsEngineOf engine false (engine_flags options)) options parts matcher → HaveMeaning options parts → Accepted options (engine_flags options) matcher.inner →
+    (text : List ℕ) → IsLine text → IsMatched engine.answer matcher text ↔ MeansText options parts text
+first_matches engine Accepted firsts options parts matcher made have took text line =
+    let answers = firsts options (engine_flags options) parts matcher made have took in
+    captured_matches engine.answer matcher options parts text have.case_kept
+    (λ found is_answer. (answers text found line.no_line_feed line.characters is_answer).is_captured)
 
 -- A component that keeps case matches what its parts mean, if the engine returns first ways.
-pub own_parts_mean : {E : Type 0} (engine : Engine E) (Accepted : Acceptance E) → EachReturnsFirst engine Accepted →
+pub own_parts_mean : {E : Type 0} (engine : Engine E) (Accepted : Acceptance E) → EachReturnsFirstOfParts engine Accepted →
     ((options : OptionsView) (inner : InnerView E) → AcceptedText (λ value. ⊤) inner → Accepted options (engine_flags options) inner) → OwnPartsMeanWithCase engine
 own_parts_mean engine Accepted firsts taken pattern parts made name keeps known text line =
     let kept = at parts.components name in
     let options = options_view kept.options in
     let matcher = (pattern name).matcher in
     let is = made name in
-    kept_matches engine Accepted firsts options (parts_view kept.parts.items) matcher (record {
-      is_made = is.is_component.has_matcher;
-      generated = known.generated;
-      case_kept = sym (made_case (IsEngineOf engine false (engine_flags options)) options (parts_view kept.parts.items) matcher is.is_component.has_matcher) ∙ keeps;
-      took = taken options matcher.inner is.has_engine.of_matcher;
-    }) text line
+    let made_of = is.is_component.has_matcher in
+    let case = sym (made_case (IsEngineOf engine false (engine_flags options)) options (parts_view kept.parts.items) matcher made_of) ∙ keeps in
+    first_matches engine Accepted firsts options (parts_view kept.parts.items) matcher made_of (record { simple = known.told.simple; case_kept = case }) (taken options matcher.inner is.has_engine.of_matcher) text line
 
 -- Where case is ignored, the matchers that honour case match what their parts mean.
 abbrev IgnoredMatch : {E : Type 0} → Engine E → Type 0
@@ -81,26 +92,22 @@ honoured_if false honours e f = absurd (false≢true e)
 
 -- A pattern made of parts matches what they mean, if the engine returns first ways where case is
 -- kept.
-any_parts_mean : {E : Type 0} (engine : Engine E) (Accepted : Acceptance E) → EachReturnsFirst engine Accepted → IgnoredMatch engine →
+any_parts_mean : {E : Type 0} (engine : Engine E) (Accepted : Acceptance E) → EachReturnsFirstOfParts engine Accepted → IgnoredMatch engine →
     ((options : OptionsView) (inner : InnerView E) → AcceptedText (λ value. ⊤) inner → Accepted options (engine_flags options) inner) → OwnPartsMean engine
 any_parts_mean engine Accepted firsts match_ignored taken pattern parts made name known text line = by (at parts.components name).options.ignore_case refl
   where
     by : (ignores : Bool) → (at parts.components name).options.ignore_case ≡ ignores → IsMatched engine.answer (pattern name).matcher text ↔ MeansIn (at parts.components name) text
     by false kept =
         let component = at parts.components name in
-        kept_matches engine Accepted firsts (options_view component.options) (parts_view component.parts.items) (pattern name).matcher (record {
-          is_made = (made name).is_component.has_matcher;
-          generated = known.generated;
-          case_kept = kept;
-          took = taken (options_view component.options) (pattern name).matcher.inner (made name).has_engine.of_matcher;
-        }) text line
+        first_matches engine Accepted firsts (options_view component.options) (parts_view component.parts.items) (pattern name).matcher (made name).is_component.has_matcher
+        (record { simple = known.told.simple; case_kept = kept }) (taken (options_view component.options) (pattern name).matcher.inner (made name).has_engine.of_matcher) text line
     by true ignored =
         let component = at parts.components name in
         match_ignored (options_view component.options) (parts_view component.parts.items) (pattern name).matcher (made name).is_component.has_matcher
-        (made name).has_engine.of_matcher (sym (made name).case ∙ honoured_if component.options.ignore_case component.honours_case ignored known.case) known.generated ignored text line
+        (made name).has_engine.of_matcher (sym (made name).case ∙ honoured_if component.options.ignore_case component.honours_case ignored known.case) (told_generated (options_view component.options) (parts_view component.parts.items) known.told ignored) ignored text line
 
 -- A pattern over an engine that honours the flag `i` matches what its parts mean.
-pub all_parts_mean : {E : Type 0} (engine : Engine E) (Accepted : Acceptance E) → EachReturnsFirst engine Accepted → ValuesReturnByFlags engine →
+pub all_parts_mean : {E : Type 0} (engine : Engine E) (Accepted : Acceptance E) → EachReturnsFirstOfParts engine Accepted → ValuesReturnByFlags engine →
     ((options : OptionsView) (inner : InnerView E) → AcceptedText (λ value. ⊤) inner → Accepted options (engine_flags options) inner) → OwnPartsMean engine
 all_parts_mean engine Accepted firsts by_flags taken =
     any_parts_mean engine Accepted firsts (λ options parts matcher made took honours. ignored_matches engine by_flags options parts matcher made took) taken
@@ -113,7 +120,7 @@ fast_if engine (RegExp regexp) keeps honours = absurd (false≢true (sym keeps �
 
 -- A pattern over an engine that does not honour the flag `i` matches what its parts mean, as far as
 -- they tell.
-pub keeping_parts_mean : {E : Type 0} (engine : Engine E) (Accepted : Acceptance E) → EachReturnsFirst engine Accepted → engine.case_honoured ≡ false →
+pub keeping_parts_mean : {E : Type 0} (engine : Engine E) (Accepted : Acceptance E) → EachReturnsFirstOfParts engine Accepted → engine.case_honoured ≡ false →
     ((options : OptionsView) (inner : InnerView E) → AcceptedText (λ value. ⊤) inner → Accepted options (engine_flags options) inner) → OwnPartsMean engine
 keeping_parts_mean engine Accepted firsts keeps taken =
     any_parts_mean engine Accepted firsts (λ options parts matcher made took honours. fast_matches engine options parts matcher made (fast_if engine matcher.inner keeps honours)) taken

@@ -7,7 +7,7 @@ use Rattle.urlpattern_matcher.specs.Components.{ComponentView}
 use Rattle.urlpattern_compile.specs.Compiled.{AreCompiled}
 use Rattle.urlpattern_matcher.specs.declared.regexp.RegExp.{Ghosts as Engine}
 use Rattle.urlpattern_generate.specs.WriteSettings.{GivenView, WriteSettings, given_groups, text_given}
-use Rattle.urlpattern_compare.specs.Comparing.{IsKnown}
+use Rattle.urlpattern_meaning.specs.PartMeaning.{AreGenerated}
 use Rattle.urlpattern_init.specs.Inheritance.{texts_of_url}
 use Rattle.urlpattern_init.specs.UrlTexts.{IsLine}
 use Rattle.urlpattern_init.specs.declared.init.UrlPatternInit.{UrlPatternInit}
@@ -121,12 +121,12 @@ LinksOfMatchesAreTheTexts {E} answer =
 
 -- ---- links of compiled patterns
 
--- The premises for a component of a compiled pattern: the meaning of its parts is known, case is
--- kept, no fixed text of them has a modifier, the text is a line, and each captured text is its own
--- canonical form.
+-- The premises for a component of a compiled pattern: no part is custom, case is kept, no fixed
+-- text of the parts has a modifier, the text is a line, and each captured text is its own canonical
+-- form.
 pub record IsWritableFromParts (component : ComponentParts)
     (canonical : List ℕ → Parsed (List ℕ)) (text : List ℕ) (captures : Captures) : Type 0 where
-  pub known : IsKnown component
+  pub generated : AreGenerated (kept_parts component)
   pub case_kept : (kept_options component).ignore_case ≡ false
   pub plain : HavePlainTexts (kept_parts component)
   pub line : IsLine text

@@ -1,9 +1,9 @@
 //! Laws of patterns and their parts.
 //!
-//! Parts *mean* a text if they match it by the definition `PartsMean`, without an engine; where
+//! Parts *mean* a text if they match it by the definition `PartsMatch`, without an engine; where
 //! case is ignored, ASCII letters of both are compared in lower case. Their meaning is *known* if
-//! no part is custom, and case is kept, or no engine is needed that does not honour the flag `i`,
-//! such as `regex::Regex`.
+//! custom regular expressions are simple, case is kept if there is one, and case is kept or no
+//! engine is needed that does not honour the flag `i`, such as `regex::Regex`.
 //!
 //! Each function has an empty body; its contract is a theorem.
 
@@ -53,7 +53,7 @@ pub fn covered_patterns_match<R: RegExp>()
 /// matches what its parts mean, where their meaning is known.
 ///
 /// A pattern that covers another covers it by meaning, if the meaning of any two components with
-/// equal parts is known: if no part is custom.
+/// equal parts is known.
 pub fn patterns_covered_by_meaning_match<R: RegExp>()
     ensures covered { CoveredByMeaningAreMatched R.answer }
     ensures known { KnownAreCoveredByMeaning }

@@ -1,8 +1,10 @@
--- Worked examples of what parts capture in a path.
-use Rattle.std.proofs.Common.{◌≡◌, List, [], ◌∷◌, refl, false, true, Some, None}
+-- Worked examples of what parts and templates capture in a path.
+use Rattle.std.proofs.Common.{◌≡◌, ℕ, List, [], ◌∷◌, refl, false, true, Option, Some, None}
 use Rattle.std.specs.Prelude.{codes}
 use Rattle.urlpattern_meaning.proofs.PrintingExamples.{plain}
+use Rattle.urlpattern_meaning.specs.PartMeaning.{Captures}
 use Rattle.urlpattern_paths.specs.PathCaptures.{are_read_once, captured}
+use Rattle.urlpattern_paths.specs.Templates.{captured_by, captured_last}
 use Rattle.urlpattern_syntax.proofs.RegexpTextExamples.{group}
 use Rattle.urlpattern_syntax.specs.Parts.{PartView}
 use Rattle.urlpattern_syntax.specs.declared.parser.PartModifier.TheVariants as modifiers
@@ -35,3 +37,14 @@ range =
 
 pub range_not_once : are_read_once range ≡ false
 range_not_once = refl
+
+-- The template of `/users/:id/files/*` captures what its parts do.
+abbrev pub by_template : (path : List ℕ) → Option Captures
+by_template = captured_by (captured_last true) (codes "/users/\n/files/")
+
+pub captured_by_template : by_template (codes "/users/7/files/a/b") ≡ captured files (codes "/users/7/files/a/b")
+captured_by_template = refl
+
+-- Without a wildcard, nothing may be left after the last segment.
+pub rest_not_taken : captured_by (captured_last false) (codes "/\n") (codes "/a/b") ≡ None
+rest_not_taken = refl

@@ -10,11 +10,11 @@ use urlpattern_syntax::parser::{Part, PartType};
 /// The character of a template that stands for a segment.
 pub(crate) const SEGMENT: char = '\n';
 
-/// The parts of a path as one text of at most 48 bytes: fixed texts as they are, and a line feed
+/// The parts of a path as one text of at most 104 bytes: fixed texts as they are, and a line feed
 /// for each segment.
 #[derive(Clone, Copy, Debug)]
 pub struct PathTemplate {
-    pub(crate) text: ArrayString<48>,
+    pub(crate) text: ArrayString<104>,
     /// Whether a wildcard follows the text.
     pub(crate) takes_rest: bool,
 }

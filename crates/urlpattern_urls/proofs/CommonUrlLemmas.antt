@@ -1,5 +1,5 @@
 -- What is common to URLs, by what is common to any texts.
-use Rattle.std.proofs.Common.{◌≡◌, ◌≢◌, ◌∙◌, ◌↔◌, ◌≤◌, ◌++◌, ◌⊎◌, ℕ, Bool, true, false, List, [], ◌∷◌, None, Some, Option, ap, codes, inl, inr, length, lit≤, map, Ok, refl, subst, sym, get_or}
+use Rattle.std.proofs.Common.{◌≡◌, ◌∙◌, ◌↔◌, ◌≤◌, ◌++◌, ◌⊎◌, ℕ, Bool, true, false, List, [], ◌∷◌, None, Some, Option, ap, inl, inr, length, lit≤, map, Ok, refl, subst, sym, get_or}
 use Rattle.std.proofs.lemmas.Bool.{cases_lt, false≢true}
 use Rattle.std.proofs.lemmas.List.Elements.{All-append, All-cons, All-contains, All-contains_itself, All-head, All-map, All-nil, All-tail, All-weaker, Contains-append_left, Contains-append_right}
 use Rattle.std.proofs.lemmas.List.{get_or_append_left, map-append}
@@ -9,11 +9,13 @@ use Rattle.std.specs.Option.{IsSome}
 use Rattle.std.specs.Prelude.{IsTrue, Result, String}
 use Rattle.std.specs.declared.alloc.Global.{Global}
 use Rattle.url.specs.Parts.{IsValid, Parts}
+use Rattle.urlpattern_compare.proofs.AnswerLemmas.{generated_told}
 use Rattle.urlpattern_compare.proofs.CandidateLemmas.{all_back, all_front, name_cases}
 use Rattle.urlpattern_compare.proofs.BoundLemmas.{small_automata}
 use Rattle.urlpattern_compare.proofs.ComponentLemmas.{anything_generated, none_missed}
 use Rattle.urlpattern_compare.proofs.SameParts.{same_flips, same_within}
 use Rattle.urlpattern_compare.specs.Candidates.{TextAt}
+use Rattle.urlpattern_compare.specs.CommonLaws.{IsSmall}
 use Rattle.urlpattern_compare.specs.CommonTexts.{AreAutomata, AreCommon, AreMeanings, IsAutomatonOrLacks, IsDoubt, IsLack, LacksBy, MeanAlike, MeansByParts, MeansEach, PatternMeaning, parts_of, string_at}
 use Rattle.urlpattern_compare.specs.Comparing.{AreSame, IsKnown, MeansIn, anything_part}
 use Rattle.urlpattern_compare.specs.Conditions.{accepts}
@@ -37,13 +39,12 @@ use Rattle.urlpattern_syntax.specs.Text.{text_of}
 use Rattle.urlpattern_components.specs.declared.eight.ComponentName.{ComponentName}
 use Rattle.urlpattern_components.specs.declared.eight.ComponentName.TheVariants.{Protocol}
 use Rattle.urlpattern_meaning.specs.PartMeaning.{AreGenerated}
-use Rattle.urlpattern_syntax.specs.Options.{OptionsView}
-use Rattle.urlpattern_syntax.specs.Parts.{PartView}
-use Rattle.urlpattern_syntax.specs.declared.parser.{PartModifier.PartModifier, PartType.PartType}
+use Rattle.urlpattern_syntax.specs.Options.{options_view}
+use Rattle.urlpattern_syntax.specs.Parts.{PartView, parts_view}
 use Rattle.urlpattern_syntax.specs.declared.parts.ComponentParts.{ComponentParts}
-use Rattle.urlpattern_urls.proofs.UnlikeLemmas.{no_url_is_unlike}
+use Rattle.urlpattern_urls.proofs.UnlikeLemmas.{no_url_is_unlike, own_generated, web_generated}
 use Rattle.urlpattern_urls.specs.CommonUrls.{AreCommonOf, IsOwnDoubt, IsRead, NoUrlIsCommon, string_texts, url_at}
-use Rattle.urlpattern_urls.specs.Unlike.{AreUnlike, IsMadeOf, IsUnlike, IsUnlikeIn, own_component, own_parts, part_of, web_parts}
+use Rattle.urlpattern_urls.specs.Unlike.{AreUnlike, IsMadeOf, IsUnlike, IsUnlikeIn, own_component, own_parts, web_parts}
 use Rattle.urlpattern_urls.specs.declared.unlike.Unlike.{Unlike}
 use Rattle.urlpattern_urls.specs.declared.unlike.Unlike.TheVariants.{NoHostname, NoPathname, NoProtocol, NoSlash}
 
@@ -54,28 +55,11 @@ record AreFew (parts : List PartView) : Type 0 where
   pub generated : AreGenerated parts
   pub size : parts_size parts ≤ MOST_STATES
 
-abbrev Generated : PartView → Type 0
-Generated part = part.kind ≢ PartType.Regexp
-
-abbrev fixed_s : PartView
-fixed_s = part_of PartType.FixedText (codes "s") PartModifier.Optional
-
-web_generated : AreGenerated web_parts
-web_generated =
-    All-cons Generated (part_of PartType.FixedText (codes "http") PartModifier.None) (fixed_s ∷ []) (λ e. absurd (cc e))
-    (All-cons Generated fixed_s [] (λ e. absurd (cc e)) (All-nil Generated))
-
-no_parts : AreFew []
-no_parts = record { generated = All-nil Generated; size = lit≤ tt }
-
 own_few : (way : Unlike) → AreFew (own_parts way)
-own_few NoProtocol = no_parts
-own_few NoHostname = no_parts
-own_few NoPathname = no_parts
-own_few NoSlash = record {
-  generated = All-cons Generated (part_of PartType.SegmentWildcard [] PartModifier.None) (anything_part ∷ []) (λ e. absurd (cc e)) anything_generated;
-  size = lit≤ tt;
-}
+own_few NoProtocol = record { generated = own_generated NoProtocol; size = lit≤ tt }
+own_few NoHostname = record { generated = own_generated NoHostname; size = lit≤ tt }
+own_few NoPathname = record { generated = own_generated NoPathname; size = lit≤ tt }
+own_few NoSlash = record { generated = own_generated NoSlash; size = lit≤ tt }
 
 -- The component has such parts.
 abbrev HasFew : ComponentParts → Type 0
@@ -91,7 +75,10 @@ has_few way name component is = elim (name_cases name (own_component way)) [
 ]
 
 few_known : (component : ComponentParts) → HasFew component → IsKnown component
-few_known component (parts, few, is) = record { generated = subst AreGenerated (sym is.are) few.generated; case = none_missed component is.case }
+few_known component (parts, few, is) = record {
+  told = generated_told (options_view component.options) (parts_view component.parts.items) (subst AreGenerated (sym is.are) few.generated);
+  case = none_missed component is.case;
+}
 
 -- A pattern of the four, with its automata.
 pub record IsOne (it : PatternAutomata) : Type 0 where
@@ -128,8 +115,9 @@ few_states it name (parts, few, is) none many =
     let component = at it.parts.components name in
     let lack : Lack = record { pattern = 0; component = name; reason = reasons.TooMany } in
     let small : component_size component ≤ MOST_STATES = subst (λ (own : List PartView). parts_size own ≤ MOST_STATES) (sym is.are) few.size in
-    let Small : PatternAutomata → Type 0 = λ one. component_size (at one.parts.components name) ≤ MOST_STATES in
-    small_automata (it ∷ []) lack (All-cons Small it [] small (All-nil Small)) (it, refl, (none, many)) refl
+    let Small : PatternAutomata → Type 0 = λ one. IsSmall (at one.parts.components name) in
+    let is_small : Small it = record { generated = subst AreGenerated (sym is.are) few.generated; small = small } in
+    small_automata (it ∷ []) lack (All-cons Small it [] is_small (All-nil Small)) (it, refl, (none, many)) refl
 
 some_own : (component : ComponentParts) (found : Option PartsAutomaton) → IsAutomatonOrLacks component found → IsKnown component → ((¬ IsSome found) → ¬ LacksBy component reasons.TooMany) → IsSome found
 some_own component None (reasons.CustomExpression, lacks) known few = absurd (lacks.0 known)
@@ -137,9 +125,9 @@ some_own component None (reasons.IgnoredCase, lacks) known few = absurd (lacks.0
 some_own component None (reasons.TooMany, lacks) known few = absurd (few (λ some. false≢true some) lacks)
 some_own component (Some automaton) made known few = refl
 
-accepts_own : (component : ComponentParts) (found : Option PartsAutomaton) → IsAutomatonOrLacks component found → IsSome found → (text : List ℕ) → IsTrue (accepted found text) ↔ MeansIn component text
-accepts_own component None made some text = absurd (false≢true some)
-accepts_own component (Some automaton) made some text = made.means text
+accepts_own : (component : ComponentParts) (found : Option PartsAutomaton) → IsAutomatonOrLacks component found → IsSome found → (text : List ℕ) → IsLine text → IsTrue (accepted found text) ↔ MeansIn component text
+accepts_own component None made some text line = absurd (false≢true some)
+accepts_own component (Some automaton) made some text line = made.means text line.scalars
 
 module _ (it : PatternAutomata) (one : IsOne it) where
   few_in : (name : ComponentName) → HasFew (at it.parts.components name)
@@ -151,8 +139,8 @@ module _ (it : PatternAutomata) (one : IsOne it) where
   some_in : (name : ComponentName) → IsSome (at it.automata name)
   some_in name = some_own (at it.parts.components name) (at it.automata name) (one.made name) (known_in name) (few_states it name (few_in name))
 
-  own_means : (name : ComponentName) (text : List ℕ) → IsTrue (accepted (at it.automata name) text) ↔ MeansIn (at it.parts.components name) text
-  own_means name text = accepts_own (at it.parts.components name) (at it.automata name) (one.made name) (some_in name) text
+  own_means : (name : ComponentName) (text : List ℕ) → IsLine text → IsTrue (accepted (at it.automata name) text) ↔ MeansIn (at it.parts.components name) text
+  own_means name text line = accepts_own (at it.parts.components name) (at it.automata name) (one.made name) (some_in name) text line
 
 -- A meaning that the parts tell in each component.
 record IsByParts (it : PatternMeaning) : Type 0 where
@@ -162,7 +150,7 @@ record IsByParts (it : PatternMeaning) : Type 0 where
 one_by_parts : (it : PatternAutomata) → IsOne it → IsByParts (meaning_of it)
 one_by_parts it one = record {
   known = known_in it one;
-  by_parts = λ name known text line. own_means it one name text;
+  by_parts = λ name known text line. own_means it one name text line;
 }
 
 both_ways : (a b : Bool) → (IsTrue a → IsTrue b) → (IsTrue b → IsTrue a) → a ≡ b
@@ -277,7 +265,7 @@ module _ (all_of none_of facts : List PatternAutomata) (are_facts : All IsOne fa
 
   module _ (url : Parts) (valid : IsValid url) (common : AreCommon all none (url_at url)) where
     no_fact : (it : PatternAutomata) → IsOne it → ¬ MeansEach (meaning_of it) (url_at url)
-    no_fact it one each = no_url_is_unlike one.way it.parts one.unlike url valid (λ name. (own_means it one name (url_at url name)).0 (each name))
+    no_fact it one each = no_url_is_unlike one.way it.parts one.unlike url valid (λ name. (own_means it one name (url_at url name) (common.lines name)).0 (each name))
 
     no_facts : All (λ it. ¬ MeansEach it (url_at url)) more
     no_facts = All-map (λ it. ¬ MeansEach it (url_at url)) meaning_of facts (All-weaker IsOne (λ it. ¬ MeansEach (meaning_of it) (url_at url)) no_fact facts are_facts)

@@ -1,6 +1,7 @@
 -- No URL has texts that the patterns for texts unlike those of a URL match.
 use Rattle.std.proofs.Common.{◌≡◌, ◌≢◌, ◌∙◌, ◌⊎◌, ◌<◌, ◌≤◌, ◌++◌, ℕ, zero, suc, true, false, not, List, [], ◌∷◌, None, Some, Option, Ok, Err, ap, append-nil, arith, codes, inl, inr, length, refl, subst, sym}
 use Rattle.std.proofs.lemmas.Bool.{and_parts, false≢true}
+use Rattle.std.proofs.lemmas.List.Elements.{All-cons, All-nil}
 use Rattle.std.proofs.lemmas.Str.{chars-IsAscii}
 use Rattle.std.specs.Prelude.{IsTrue, MatchOption, get_or, is_some, unwrap_or}
 use Rattle.std.specs.Str.{chars}
@@ -16,8 +17,9 @@ use Rattle.url.specs.declared.error.ParseError.TheVariants.{EmptyHost}
 use Rattle.url.specs.declared.host.Host.{Host}
 use Rattle.url.specs.declared.host.Host.TheVariants.{Domain}
 use Rattle.url.specs.declared.scheme.SchemeType.TheVariants.{SpecialNotFile}
+use Rattle.urlpattern_compare.proofs.ComponentLemmas.{anything_generated}
 use Rattle.urlpattern_compare.proofs.KeptCase.{kept_means}
-use Rattle.urlpattern_compare.specs.Comparing.{MeansIn}
+use Rattle.urlpattern_compare.specs.Comparing.{MeansIn, anything_part}
 use Rattle.urlpattern_compare.specs.MeantTexts.{MeansText}
 use Rattle.urlpattern_compare.specs.declared.pattern_parts.PatternParts.{PatternParts}
 use Rattle.urlpattern_components.specs.Eight.{at}
@@ -25,13 +27,14 @@ use Rattle.urlpattern_components.specs.declared.eight.ComponentName.{ComponentNa
 use Rattle.urlpattern_components.specs.declared.eight.ComponentName.TheVariants.{Hostname, Pathname, Protocol}
 use Rattle.urlpattern_init.proofs.UrlTexts.{chars-path, chars-scheme}
 use Rattle.urlpattern_init.specs.Inheritance.{url_text}
-use Rattle.urlpattern_meaning.specs.PartMeaning.{AreCopies, Captures, PartsMean}
+use Rattle.urlpattern_meaning.specs.PartMeaning.{AreCopies, AreGenerated, Captures, PartsMean}
 use Rattle.urlpattern_syntax.specs.Options.{OptionsView, standard_options}
 use Rattle.urlpattern_syntax.specs.Parts.{PartView, parts_view}
 use Rattle.urlpattern_syntax.specs.Text.{lacks}
 use Rattle.urlpattern_syntax.specs.declared.parser.{PartModifier.PartModifier, PartType.PartType}
 use Rattle.urlpattern_syntax.specs.declared.parts.ComponentParts.{ComponentParts}
 use Rattle.urlpattern_urls.specs.Unlike.{IsMadeOf, NoUrlIsUnlike, own_parts, part_of, web_parts}
+use Rattle.urlpattern_urls.specs.declared.unlike.Unlike.{Unlike}
 use Rattle.urlpattern_urls.specs.declared.unlike.Unlike.TheVariants.{NoHostname, NoPathname, NoProtocol, NoSlash}
 
 -- ---- what the parts mean
@@ -85,12 +88,31 @@ web_means text (captures, (first, rest, own, others, cut, joined, means, (second
       | inr s ↦ inr (whole ∙ ap (λ (l : List ℕ). codes "http" ++ l) s)
     ]
 
+-- ---- no part is custom
+
+abbrev Generated : PartView → Type 0
+Generated part = part.kind ≢ PartType.Regexp
+
+abbrev fixed_s : PartView
+fixed_s = part_of PartType.FixedText (codes "s") PartModifier.Optional
+
+pub web_generated : AreGenerated web_parts
+web_generated =
+    All-cons Generated (part_of PartType.FixedText (codes "http") PartModifier.None) (fixed_s ∷ []) (λ e. absurd (cc e))
+    (All-cons Generated fixed_s [] (λ e. absurd (cc e)) (All-nil Generated))
+
+pub own_generated : (way : Unlike) → AreGenerated (own_parts way)
+own_generated NoProtocol = All-nil Generated
+own_generated NoHostname = All-nil Generated
+own_generated NoPathname = All-nil Generated
+own_generated NoSlash = All-cons Generated (part_of PartType.SegmentWildcard [] PartModifier.None) (anything_part ∷ []) (λ e. absurd (cc e)) anything_generated
+
 -- ---- a component
 
-module _ (parts : List PartView) (component : ComponentParts) (is : IsMadeOf parts component) where
+module _ (parts : List PartView) (component : ComponentParts) (is : IsMadeOf parts component) (generated : AreGenerated parts) where
   means_of : (text : List ℕ) → MeansIn component text → Means parts text
   means_of text means =
-      (kept_means options parts text refl).0
+      (kept_means options parts text refl generated).0
       (subst (λ (own : List PartView). MeansText options own text) is.are
       (subst (λ (own : OptionsView). MeansText own (parts_view component.parts.items) text) is.options means))
 
@@ -153,27 +175,30 @@ some_scheme url valid e =
 -- ---- the law
 
 module _ (pattern : PatternParts) (url : Parts) (valid : IsValid url) (each : (name : ComponentName) → MeansIn (at pattern.components name) (url_text name url)) where
-  text_means : (name : ComponentName) (parts : List PartView) → IsMadeOf parts (at pattern.components name) → Means parts (url_text name url)
-  text_means name parts is = means_of parts (at pattern.components name) is (url_text name url) (each name)
+  text_means : (name : ComponentName) (parts : List PartView) → IsMadeOf parts (at pattern.components name) → AreGenerated parts → Means parts (url_text name url)
+  text_means name parts is generated = means_of parts (at pattern.components name) is generated (url_text name url) (each name)
+
+  own_means : (way : Unlike) (name : ComponentName) → IsMadeOf (own_parts way) (at pattern.components name) → Means (own_parts way) (url_text name url)
+  own_means way name is = text_means name (own_parts way) is (own_generated way)
 
   web_url : IsMadeOf web_parts (at pattern.components Protocol) → kind_of url ≡ SpecialNotFile
-  web_url is = web_kind url valid (web_means (chars url.scheme) (text_means Protocol web_parts is))
+  web_url is = web_kind url valid (web_means (chars url.scheme) (text_means Protocol web_parts is web_generated))
 
   path_url : kind_of url ≡ SpecialNotFile → (more : List ℕ) × (url_text Pathname url ≡ slash ∷ more)
   path_url kind = let (more, is) = some_path url valid kind in (more, chars-path url valid ∙ is)
 
 pub no_url_is_unlike : NoUrlIsUnlike
 no_url_is_unlike NoProtocol pattern is url valid each =
-    some_scheme url valid (nothing_means (chars url.scheme) (text_means pattern url valid each Protocol [] ((is Protocol).own refl)))
+    some_scheme url valid (nothing_means (chars url.scheme) (own_means pattern url valid each NoProtocol Protocol ((is Protocol).own refl)))
 no_url_is_unlike NoHostname pattern is url valid each =
     let kind = web_url pattern url valid each ((is Protocol).web (λ e. absurd (cc e)) refl) in
-    some_host url.host (rw kind at valid.head.host) (nothing_means (url_text Hostname url) (text_means pattern url valid each Hostname [] ((is Hostname).own refl)))
+    some_host url.host (rw kind at valid.head.host) (nothing_means (url_text Hostname url) (own_means pattern url valid each NoHostname Hostname ((is Hostname).own refl)))
 no_url_is_unlike NoPathname pattern is url valid each =
     let kind = web_url pattern url valid each ((is Protocol).web (λ e. absurd (cc e)) refl) in
     let (more, slashed) = path_url pattern url valid each kind in
-    let empty = nothing_means (url_text Pathname url) (text_means pattern url valid each Pathname [] ((is Pathname).own refl)) in
+    let empty = nothing_means (url_text Pathname url) (own_means pattern url valid each NoPathname Pathname ((is Pathname).own refl)) in
     absurd (cc (sym slashed ∙ empty))
 no_url_is_unlike NoSlash pattern is url valid each =
     let kind = web_url pattern url valid each ((is Protocol).web (λ e. absurd (cc e)) refl) in
     let (more, slashed) = path_url pattern url valid each kind in
-    no_slash_means (url_text Pathname url) more (text_means pattern url valid each Pathname (own_parts NoSlash) ((is Pathname).own refl)) slashed
+    no_slash_means (url_text Pathname url) more (own_means pattern url valid each NoSlash Pathname ((is Pathname).own refl)) slashed

@@ -1,5 +1,5 @@
-//! Times comparisons of routes with each other: whether each covers each, whether they overlap, and
-//! which are never reached.
+//! Times comparisons of routes with each other: whether each covers each, whether they overlap,
+//! which are never reached, and which contend.
 
 use std::alloc::Global;
 use std::borrow::CowStr;
@@ -10,7 +10,7 @@ use urlpattern::quirks::{StringOrInit, process_construct_pattern_input};
 use urlpattern::regexp::PatternRegexp;
 use urlpattern::rules::{
     PatternAutomata, PatternCovering, PatternOverlap, PatternParts, Reach, USUAL_LIMITS,
-    reach_of_each,
+    contending, reach_of_each,
 };
 use urlpattern::{Error, UrlPattern, UrlPatternOptions};
 
@@ -68,7 +68,7 @@ fn parts_of_lines(alloc: Global, text: &str) -> Result<Vec<PatternParts>, Error>
 
 /// Prints the times of comparing the routes in the lines of a text: the comparison, the number of
 /// pairs, the number for which it holds, and the mean and the slowest in nanoseconds. Also prints
-/// the time of finding the routes that are never reached.
+/// the times of finding the routes that are never reached, and those that contend.
 pub fn run<R: AllocGlobal + Clock, O: Write>(rt: &R, text: &str, out: &mut O) -> io::Result<()> {
     writeln!(out, "comparison\tpairs\tfound\tmean\tslowest")?;
     match parts_of_lines(rt.alloc(), text) {
@@ -101,22 +101,43 @@ fn compare<R: AllocGlobal + Clock, O: Write>(
     }
     covers.print(out, "covers")?;
     overlaps.print(out, "overlaps")?;
-    let start = Instant::now(rt)?;
-    let (known, never) = reach(rt.alloc(), all)?;
-    let taken = start.elapsed(rt)?.as_nanos();
-    writeln!(out, "reach_of_each\t{known}\t{never}\t{taken}\t{taken}")
+    let automata = automata_of_each(rt.alloc(), all)?;
+    let patterns: Vec<&PatternAutomata> = automata.iter().collect(rt.alloc())?;
+    let timed = compare_table(rt, &patterns, out);
+    drop(patterns);
+    drop(automata);
+    timed
 }
 
-/// The number of routes of which it is known whether they are reached, and of those that never are.
-fn reach(alloc: Global, all: &[PatternParts]) -> io::Result<(usize, usize)> {
+/// The automata of all routes.
+fn automata_of_each(alloc: Global, all: &[PatternParts]) -> io::Result<Vec<PatternAutomata>> {
     let mut automata = Vec::new(alloc);
     for parts in all {
         automata.push(PatternAutomata::of(alloc, parts)?)?;
     }
-    let patterns: Vec<&PatternAutomata> = automata.iter().collect(alloc)?;
-    let found = reach_of_each(alloc, &patterns, USUAL_LIMITS)?;
-    drop(patterns);
-    drop(automata);
+    Ok(automata)
+}
+
+/// Finds the routes that are never reached, and those that contend.
+fn compare_table<R: AllocGlobal + Clock, O: Write>(
+    rt: &R,
+    patterns: &[&PatternAutomata],
+    out: &mut O,
+) -> io::Result<()> {
+    let start = Instant::now(rt)?;
+    let (known, never) = reach(rt.alloc(), patterns)?;
+    let taken = start.elapsed(rt)?.as_nanos();
+    writeln!(out, "reach_of_each\t{known}\t{never}\t{taken}\t{taken}")?;
+    let start = Instant::now(rt)?;
+    let pairs = contending(rt.alloc(), patterns, USUAL_LIMITS)?;
+    let taken = start.elapsed(rt)?.as_nanos();
+    let found = pairs.len();
+    writeln!(out, "contending\t{known}\t{found}\t{taken}\t{taken}")
+}
+
+/// The number of routes of which it is known whether they are reached, and of those that never are.
+fn reach(alloc: Global, patterns: &[&PatternAutomata]) -> io::Result<(usize, usize)> {
+    let found = reach_of_each(alloc, patterns, USUAL_LIMITS)?;
     let mut known = 0usize;
     let mut never = 0usize;
     for one in &found {

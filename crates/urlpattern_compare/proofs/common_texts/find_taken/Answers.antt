@@ -4,6 +4,10 @@ use Rattle.urlpattern_compare.proofs.TakenLemmas.{found_taken}
 use Rattle.urlpattern_compare.specs.CommonTexts.{AreLists}
 use Rattle.urlpattern_compare.proofs.common_texts.find_taken.Goals as goal
 
+pub returns-then-are_parted : goal.returns-then-are_parted
+returns-then-are_parted c = λ texts lines taken.
+    c.are_parted.ensures c.if-are_parted.true texts lines taken.taken
+
 pub returns : goal.returns
 returns c =
     let all_of = map (λ it. it.now) c.args.all_of.now in

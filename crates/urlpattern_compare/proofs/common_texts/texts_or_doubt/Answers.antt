@@ -1,10 +1,12 @@
 use Rattle.std.proofs.Common.{[], map, refl, true}
 use Rattle.std.proofs.lemmas.List.Elements.{All-weaker}
+use Rattle.std.specs.List.{All}
+use Rattle.urlpattern_compare.proofs.AnswerLemmas.{in_none, in_some}
 use Rattle.urlpattern_compare.proofs.CommonLemmas.{string_lines, string_taken}
 use Rattle.urlpattern_compare.proofs.DependsLemmas.{depends_all}
 use Rattle.urlpattern_compare.proofs.TakenLemmas.{sure_alone}
 use Rattle.urlpattern_compare.specs.Candidates.{text_at}
-use Rattle.urlpattern_compare.specs.CommonTexts.{HasAutomata, IsSure, string_at}
+use Rattle.urlpattern_compare.specs.CommonTexts.{HasAutomata, IsLack, IsSure, string_at}
 use Rattle.urlpattern_compare.specs.declared.common_texts.PatternAutomata.{PatternAutomata}
 use Rattle.urlpattern_compare.proofs.common_texts.texts_or_doubt.Goals as goal
 
@@ -18,7 +20,8 @@ texts_if_known-requires-clause-taken c =
 
 pub texts_if_known-requires-clause-known : goal.texts_if_known-requires-clause-known
 texts_if_known-requires-clause-known c =
-    All-weaker (IsSure []) HasAutomata (λ (pattern : PatternAutomata) sure. sure_alone [] pattern refl sure) (map (λ it. it.now) c.args.all_of.now) c.in-None.ensures.none
+    All-weaker (IsSure []) HasAutomata (λ (pattern : PatternAutomata) sure. sure_alone [] pattern refl sure) (map (λ it. it.now) c.args.all_of.now)
+    (in_none (All (IsSure []) (map (λ it. it.now) c.args.all_of.now)) c.in_ok-lack.field-0 c.in-None.is c.in_ok-lack.ensures.none)
 
 pub returns-in-Some-clause-depends : goal.returns-in-Some-clause-depends
 returns-in-Some-clause-depends c =
@@ -28,4 +31,8 @@ returns-in-Some-clause-depends c =
     let strings = c.in_ok-strings.strings in
     let same = c.in_ok-strings.ensures in
     depends_all all_of none_of c.in-Some.lack c.requires.all_of c.requires.none_of
-    (string_at strings, string_lines all_of none_of true texts strings same c.requires.lines, string_taken all_of none_of true texts strings same c.requires.taken) c.in-Some.ensures.some
+    (string_at strings, string_lines all_of none_of true texts strings same c.requires.lines, string_taken all_of none_of true texts strings same c.requires.taken)
+    (in_some (IsLack all_of) c.in_ok-lack.field-0 c.in-Some.lack c.in-Some.is c.in_ok-lack.ensures.some)
+
+pub returns-in-Some-clause-answer : goal.returns-in-Some-clause-answer
+returns-in-Some-clause-answer c = in_some (IsLack (map (λ it. it.now) c.args.all_of.now)) c.in_ok-lack.field-0 c.in-Some.lack c.in-Some.is c.in_ok-lack.ensures.some

@@ -1,23 +1,7 @@
-use Rattle.std.proofs.Common.{◌≡◌, subst, IfSome, List, Option, Some}
-use Rattle.urlpattern_compare.specs.Making.{IsMadeOf}
-use Rattle.urlpattern_compare.specs.declared.parts_automaton.PartsAutomaton.{PartsAutomaton}
-use Rattle.urlpattern_compare.proofs.CoverageLemmas.{first_untold, found_parts, other_untold}
+use Rattle.urlpattern_compare.proofs.AnswerLemmas.{in_some}
 use Rattle.urlpattern_compare.proofs.coverage.find_meant.Goals as goal
-use Rattle.urlpattern_syntax.specs.{Options.OptionsView, Options.options_view, Parts.PartView, Parts.parts_view}
+use Rattle.urlpattern_compare.specs.Answers.{IsSoughtOf}
 
--- The automaton that was made is that of the parts.
-that_made : (options : OptionsView) (parts : List PartView) (found : Option PartsAutomaton) (automaton : PartsAutomaton) → found ≡ Some automaton →
-    IfSome found (IsMadeOf options parts) → IsMadeOf options parts automaton
-that_made options parts found automaton e is = subst (λ o. IfSome o (IsMadeOf options parts)) e is
-
-pub returns : goal.returns
-returns c =
-    let options = options_view c.args.options.now in
-    let parts = parts_view c.args.parts.now in
-    let other_options = options_view c.args.other_options.now in
-    let others = parts_view c.args.others.now in
-    found_parts options parts other_options others c.args.is_meant c.in-Some-2.one c.in-Some-3.other c.in_ok-found.found c.answer_of.result c.answer_of.ensures
-    c.in_default.ensures.told c.in_default-untold.ensures.told
-    (that_made options parts c.in_ok-one.field-0 c.in-Some-2.one c.in-Some-2.is c.in_ok-one.ensures.made)
-    (that_made other_options others c.in_ok-other.field-0 c.in-Some-3.other c.in-Some-3.is c.in_ok-other.ensures.made)
-    c.in_ok-found.ensures
+pub returns-in-Some : goal.returns-in-Some
+returns-in-Some c =
+    in_some (IsSoughtOf c.args.options.now c.args.parts.now c.args.other_options.now c.args.others.now c.args.is_meant) c.in_ok-answer.field-0 c.in-Some.answer c.in-Some.is c.in_ok-answer.ensures

@@ -1,4 +1,4 @@
-use Rattle.std.proofs.Common.{◌≡◌, ◌∙◌, ◌<◌, ◌≤◌, ap, arith, get_or, inr, length, map, refl, subst, sym, take, take_all}
+use Rattle.std.proofs.Common.{◌≡◌, ◌∙◌, ◌<◌, ◌≤◌, ap, arith, get_or, inr, length, map, refl, subst, sym, take_all}
 use Rattle.std.proofs.lemmas.Bool.{false≢true}
 use Rattle.std.proofs.lemmas.List.Elements.{All-more}
 use Rattle.std.specs.List.{All}
@@ -21,8 +21,8 @@ loop-component-preserved c =
     let lt : i < length names = omega (arith, ap length c.all-component-items.ensures) in
     All-more P names i Protocol lt c.loop-component.invariant (c.is_sure_in.ensures.0 c.if-not-is_sure_in.false)
 
-pub reason_of-reason-requires : goal.reason_of-reason-requires
-reason_of-reason-requires c =
+pub reason_of-requires : goal.reason_of-requires
+reason_of-requires c =
     let pattern = c.args.pattern.now in
     let name = get_or c.all-component-items.result c.loop-component.component-index Protocol in
     let lacks = lacks_if (at pattern.parts.components name) (at pattern.automata name) (c.requires name)
@@ -34,7 +34,7 @@ returns-then-not-is_sure_in-clause-some c = (
   refl,
   (
     λ some. false≢true (sym c.if-not-is_sure_in.true ∙ c.is_sure_in.ensures.1 (inr some)),
-    subst (λ o. LacksBy o c.reason_of-reason.result) c.get.ensures c.reason_of-reason.ensures,
+    subst (λ o. LacksBy o c.in_ok-reason.reason) c.get.ensures c.in_ok-reason.ensures,
   ),
 )
 

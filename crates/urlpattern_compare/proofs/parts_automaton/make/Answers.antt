@@ -1,28 +1,33 @@
-use Rattle.std.proofs.Common.{◌≡◌, ◌∙◌, ◌++◌, ◌∷◌, [], ap, arith, inl, inr, length}
+use Rattle.std.proofs.Common.{◌≡◌, ◌++◌, ◌∷◌, [], arith, refl, rules, subst}
 use Rattle.std.proofs.lemmas.Grind.{common_steps}
-use Rattle.std.proofs.lemmas.List.{map-append}
-use Rattle.urlpattern_compare.specs.Making.{Made}
-use Rattle.urlpattern_compare.specs.MeantTexts.{folded_options, folded_part, folded_parts}
-use Rattle.urlpattern_compare.proofs.PartsRead.{many_states}
-use Rattle.urlpattern_compare.proofs.WorkLemmas.{many_folded}
+use Rattle.urlpattern_compare.proofs.MakingLemmas.{IsMadeSoFar, all_made, none_made, not_added, part_added}
+use Rattle.urlpattern_compare.specs.Making.{made_view}
 use Rattle.urlpattern_syntax.specs.{Options.options_view, Parts.part_view, Parts.parts_view}
 use Rattle.urlpattern_compare.proofs.parts_automaton.make.Goals as goal
-use Rattle.urlpattern_compare.proofs.parts_automaton.make.Goals.{then-len-gt-MOST_STATES-via-then-len-gt-MOST_STATES, then-len-gt-MOST_STATES-via-else-len-gt-MOST_STATES+then-automaton-gt-MOST_STATES}
 
-pub returns-then-len-gt-MOST_STATES-clause-many : goal.returns-then-len-gt-MOST_STATES-clause-many
-returns-then-len-gt-MOST_STATES-clause-many c =
-    let (rest, parts_are, made_is) = c.loop-part.invariant in
-    let options = options_view c.args.options.now in
+pub loop-part-init : goal.loop-part-init
+loop-part-init c = none_made (options_view c.args.options.now) (parts_view c.args.parts.now) _ (first_of (search rules, grind (arith, common_steps)))
+
+pub loop-part-preserved : goal.loop-part-preserved
+loop-part-preserved c =
     let before = parts_view c.in-Some.before.now in
     let part = part_view c.in-Some.part.now in
-    let cut : parts_view c.args.parts.now ≡ (before ++ part ∷ []) ++ rest = grind (arith, common_steps, c.in-Some.ensures.cases) in
-    let cells = ap (λ l. length l) c.in_ok-cells.ensures in
-    let count = ap (λ (it : Made). it.count) made_is in
-    let all = parts_view c.args.parts.now in
-    let folds = folded_parts options in
-    let folded_cut : folds all ≡ (folds before ++ folded_part options.ignore_case part ∷ []) ++ folds rest =
-    ap folds cut ∙ map-append (folded_part options.ignore_case) (before ++ part ∷ []) rest ∙ ap (λ l. l ++ folds rest) (map-append (folded_part options.ignore_case) before (part ∷ [])) in
-    many_folded options all (many_states (folded_options options) (folds all) (folds before) (folds rest) (folded_part options.ignore_case part) folded_cut (elim c.then-len-gt-MOST_STATES.branch [
-      | then-len-gt-MOST_STATES-via-then-len-gt-MOST_STATES w ↦ inl (omega arith)
-      | then-len-gt-MOST_STATES-via-else-len-gt-MOST_STATES+then-automaton-gt-MOST_STATES w ↦ inr (omega arith)
-    ]))
+    let left = parts_view c.loop-part.left.now in
+    let cut : left ≡ before ++ part ∷ [] = grind (arith, common_steps, c.in-Some.ensures.cases) in
+    part_added (options_view c.args.options.now) (parts_view c.args.parts.now) left before part _ _ c.loop-part.invariant cut (c.in_ok-add_part.ensures.added c.if-not-branch.false)
+
+pub returns-then-not-branch-clause-many : goal.returns-then-not-branch-clause-many
+returns-then-not-branch-clause-many c =
+    let before = parts_view c.in-Some.before.now in
+    let part = part_view c.in-Some.part.now in
+    let left = parts_view c.loop-part.left.now in
+    let cut : left ≡ before ++ part ∷ [] = grind (arith, common_steps, c.in-Some.ensures.cases) in
+    not_added (options_view c.args.options.now) (parts_view c.args.parts.now) left before part _ c.loop-part.invariant cut (c.in_ok-add_part.ensures.many c.if-not-branch.true)
+
+pub returns-clause-made : goal.returns-clause-made
+returns-clause-made c =
+    let options = options_view c.args.options.now in
+    let parts = parts_view c.args.parts.now in
+    let so_far = made_view c.loop-part.automaton in
+    let none : parts_view c.loop-part.left.now ≡ [] = grind (arith, common_steps) in
+    all_made options parts so_far _ (subst (λ left. IsMadeSoFar options parts left so_far) none c.loop-part.invariant) refl refl

@@ -1,4 +1,4 @@
-use Rattle.std.proofs.Common.{◌≡◌, ◌∙◌, [], ◌∷◌, ◌++◌, ap, sym, subst, refl}
+use Rattle.std.proofs.Common.{◌≡◌, ◌∙◌, [], ◌∷◌, ◌++◌, ap, refl, rules, subst, sym}
 use Rattle.std.proofs.lemmas.Bool.{false≢true}
 use Rattle.std.proofs.lemmas.List.Elements.{Contains-push}
 use Rattle.std.specs.List.{Contains}
@@ -23,7 +23,7 @@ returns-clause-places c =
     let flags_are : next.flags.items ≡ joint_moved conditions place.flags.items c.args.c = c.in_ok-flags.ensures ∙ ap (λ f. joint_moved conditions f c.args.c) c.deref.ensures.value in
     let text_is : next.text.items ≡ place.text.items ++ c.args.c ∷ [] = c.in_ok-push.ensures.items ∙ ap (λ t. t ++ c.args.c ∷ []) (c.in_ok-text.ensures.items ∙ c.deref-5.ensures.value) in
     subst (ArePlaces conditions) (sym pushed)
-    (places_more conditions old next c.requires.places (step_placed conditions place next c.args.c c.if-c-eq10.false c.requires.place (flags_are, text_is))
+    (places_more conditions old next c.requires.places (step_placed conditions place next c.args.c (search (rules, c.ranges.c)) c.if-c-eq10.false c.requires.place (flags_are, text_is))
     (λ seen. false≢true (sym c.if-is_seen.false ∙ c.is_seen.ensures.1
     (subst (λ l. IsPlaceSeen l c.deref-4.result.now) (sym c.deref-3.ensures.value) (subst (IsPlaceSeen old) (sym c.deref-4.ensures.value) seen)))))
 

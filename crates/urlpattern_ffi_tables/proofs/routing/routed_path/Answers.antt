@@ -28,4 +28,4 @@ returns-in-Err-OutOfMemory c =
     let method = c.in-Ok.method.now in
     let (is_path, calls) = rw c.in-Err-OutOfMemory.field-0-is at c.in-Err-OutOfMemory.ensures.refused in
     request_of (AreTextsOfPath c.args.path.now) (IsNoPath c.args.path.now) router router method c.args.method.now c.args.index.now c.args.index.now c.args.buffer.now c.args.buffer.now c.args.spans.now c.args.spans.now c.args.needed.now OutOfMemory refl c.in-Ok.ensures.cases.0
-    (inl (pathname_alone (chars c.in-Ok-from_utf8.path.now), path_texts c.in-Ok-from_utf8.path.now c.args.path.now c.in-Ok-from_utf8.ensures.cases.0 is_path, inl calls))
+    (inl (pathname_alone (chars c.in-Ok-from_utf8.path.now), path_texts c.in-Ok-from_utf8.path.now c.args.path.now c.in-Ok-from_utf8.ensures.cases.0 is_path, inl (calls, refl, refl, refl)))

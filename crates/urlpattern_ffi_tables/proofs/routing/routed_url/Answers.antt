@@ -26,4 +26,4 @@ returns c =
     let router = c.args.router.now in
     let method = c.in-Ok.method.now in
     request_of (AreTextsOfUrl c.args.url.now c.args.base.now) (IsNoUrl c.args.url.now c.args.base.now) router router method c.args.method.now c.args.index.now c.args.index.now c.args.buffer.now c.args.buffer.now c.args.spans.now c.args.spans.now c.args.needed.now OutOfMemory refl c.in-Ok.ensures.cases.0
-    (inl (texts_of_url c.in-Ok-url_of.url, (c.in-Ok-url_of.url, c.in-Ok-url_of.ensures.found, refl), inl c.in-Err-at_url.ensures.asked))
+    (inl (texts_of_url c.in-Ok-url_of.url, (c.in-Ok-url_of.url, c.in-Ok-url_of.ensures.found, refl), inl (c.in-Err-at_url.ensures.asked, refl, refl, refl)))

@@ -6,4 +6,4 @@ pub returns-clause-within : goal.returns-clause-within
 returns-clause-within c = all_within (options_view c.args.options.now) (parts_view c.args.parts.now) c.make.result c.make.ensures.made
 
 pub returns-clause-accepts : goal.returns-clause-accepts
-returns-clause-accepts c = λ generated. made_accepts (options_view c.args.options.now) (parts_view c.args.parts.now) c.make.result generated c.make.ensures.made
+returns-clause-accepts c = λ by. made_accepts (options_view c.args.options.now) (parts_view c.args.parts.now) c.make.result by c.make.ensures.made
