@@ -1,0 +1,13 @@
+pub mod RowLemmas
+pub mod TableRuleLemmas
+pub mod UnreachedLemmas
+pub mod FirstRuleLemmas
+mod TableExamples
+pub mod EndlessLemmas
+pub mod CheckLemmas
+pub mod FilterPatternLemmas
+pub mod ListLemmas
+pub mod FieldLemmas
+pub mod NeededLemmas
+pub mod SummaryLemmas
+pub mod AutomataLemmas
