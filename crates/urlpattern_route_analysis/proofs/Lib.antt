@@ -1,0 +1,13 @@
+pub mod CaseExamples
+pub mod CaseLemmas
+pub mod CasePatternLemmas
+pub mod CaseSteps
+pub mod DecisionLemmas
+pub mod FilterLemmas
+pub mod FormulaLemmas
+pub mod LawLemmas
+pub mod LeftLemmas
+pub mod MeaningLemmas
+pub mod NamingLemmas
+pub mod OrderLemmas
+pub mod WithinLemmas
