@@ -36,9 +36,9 @@ static inline urlpattern_status urlpattern_is_same(urlpattern_list *patterns, si
  * component, or URLPATTERN_NO_COMPONENT.
  * DONE (it covers it), NO_MATCH (it does not: it does not match a text of this component that
  * the asked one matches), UNKNOWN (because of this component, where no other one decides: it has
- * a custom regular expression that is not simple, or would take too many steps to compare),
- * OUT_OF_MEMORY, or NO_PATTERN (of one of the two indices). But for NO_MATCH and UNKNOWN
- * `component` is URLPATTERN_NO_COMPONENT. */
+ * a custom regular expression that is not simple, or that ignores case, or would take too many
+ * steps to compare), OUT_OF_MEMORY, or NO_PATTERN (of one of the two indices). But for NO_MATCH and
+ * UNKNOWN `component` is URLPATTERN_NO_COMPONENT. */
 urlpattern_status urlpattern_covers_within(urlpattern_list *patterns, size_t index, size_t asked,
                                            urlpattern_component_number *component);
 

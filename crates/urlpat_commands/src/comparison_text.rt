@@ -108,7 +108,7 @@ fn doubt_text(alloc: Global, entries: &[Entry<'_>], doubt: Doubt) -> Result<Stri
 /// the component.
 pub fn reason_text(reason: Reason) -> &'static str {
     match reason {
-        Reason::CustomExpression => "has a custom expression",
+        Reason::CustomExpression => "has a custom expression that is not simple",
         Reason::IgnoredCase => "has a custom expression, and ignores case",
         Reason::TooMany => "would take too many steps to compare",
     }

@@ -155,7 +155,7 @@ pub(crate) fn doubt_words(doubt: Doubt) -> &'static str {
 /// Returns why nothing is known of a component, in words.
 fn lack_words(reason: Reason) -> &'static str {
     match reason {
-        Reason::CustomExpression => "a custom expression",
+        Reason::CustomExpression => "a custom expression that is not simple",
         Reason::IgnoredCase => "ignored case",
         Reason::TooMany => "too many steps",
     }

@@ -73,8 +73,7 @@ NoneServesBefore {E} {T} answer routes Is texts end =
 abbrev pub Serves : {E T : Type 0} → (answer : E → List ℕ → Option Captures) → Routes E T
     → (Is : Route T → Type 0) → Texts → ℕ × Bor T × UrlPatternCaptures → Type 0
 Serves {E} {T} answer routes Is texts (index, value, captures) =
-    (entry : UrlPattern E × Route T) × (slice_get routes index ≡ Some entry)
-    × Is entry.1
+    (entry : UrlPattern E × Route T) × (slice_get routes index ≡ Some entry) × Is entry.1
     × (value.now ≡ entry.1.value)
     × IsMatchOf answer (pattern_view entry.0) texts (pattern_captures_view captures)
     × AreGroupsInOrder answer (pattern_view entry.0) texts (groups_view captures)
@@ -106,8 +105,7 @@ IsCandidate answer routes texts index =
 abbrev pub CallsEngineAt : {E T : Type 0} → (answer : E → List ℕ → Option Captures) → Routes E T
     → (Is : Route T → Type 0) → Texts → (index : ℕ) → Type 0
 CallsEngineAt {E} {T} answer routes Is texts index =
-    (entry : UrlPattern E × Route T) × (slice_get routes index ≡ Some entry)
-    × Is entry.1
+    (entry : UrlPattern E × Route T) × (slice_get routes index ≡ Some entry) × Is entry.1
     × CallsAnEngine answer (pattern_view entry.0) texts
 
 -- Some route for which `Is` holds calls an engine for the texts, and no such route before it
@@ -256,8 +254,7 @@ abbrev pub HasMethodBefore : {E T : Type 0} → (answer : E → List ℕ → Opt
     → RoutesLeft E T → (method : List ℕ) → (end : ℕ) → Type 0
 HasMethodBefore {E} {T} answer left method end =
     (index : ℕ) × (entry : UrlPattern E × Route T) × (index < end)
-    × (slice_get left.routes index ≡ Some entry)
-    × HasMethod method entry.1
+    × (slice_get left.routes index ≡ Some entry) × HasMethod method entry.1
     × AreMatched answer (pattern_view entry.0) left.texts
 
 -- The route has no method, or one that a route before the index `end` that matches has.
@@ -328,8 +325,7 @@ NoneIsNamedAt {E} {T} routes name index =
 abbrev pub IsFirstNamed : {E T : Type 0} → Routes E T → (name : List ℕ) → (index : ℕ)
     → UrlPattern E × Route T → Type 0
 IsFirstNamed routes name index entry =
-    (slice_get routes index ≡ Some entry)
-    × HasName entry.1 name
+    (slice_get routes index ≡ Some entry) × HasName entry.1 name
     × NoneIsNamedBefore routes name index
 
 -- `found` is the first route with this name: its index, its pattern, and the route. `None`: no
@@ -344,8 +340,7 @@ IsRouteNamed routes name None = NoneIsNamedBefore routes name (length routes)
 abbrev pub OfRouteNamed : {E T : Type 0} → Routes E T → (name : List ℕ) → (UrlPattern E → Type 0)
     → Type 0
 OfRouteNamed {E} {T} routes name Is =
-    (index : ℕ) × (entry : UrlPattern E × Route T)
-    × IsFirstNamed routes name index entry
+    (index : ℕ) × (entry : UrlPattern E × Route T) × IsFirstNamed routes name index entry
     × Is entry.0
 
 -- The URL is the link of the first route with this name for the values of `groups`, which are

@@ -131,6 +131,11 @@ none_replicate (suc n) = none_replicate n
 none_moved : (edges : List Edge) (from : List Bool) (c : ℕ) → list_any (λ flag. flag) from ≡ false → list_any (λ flag. flag) (moved edges from c) ≡ false
 none_moved edges from c h = ap (λ l. list_any (λ flag. flag) l) (none_moves (replicate (length from) false) from c edges h) ∙ none_replicate (length from)
 
+-- Without a state no text is accepted.
+pub none_after : (edges : List Edge) (from : List Bool) (text : List ℕ) → list_any (λ flag. flag) from ≡ false → is_in (states_by edges from text) 0 ≡ false
+none_after edges from [] h = none_is_in from 0 h
+none_after edges from (c ∷ text) h = none_after edges (moved edges from c) text (none_moved edges from c h)
+
 and_false : (b : Bool) → (b && false) ≡ false
 and_false true = refl
 and_false false = refl

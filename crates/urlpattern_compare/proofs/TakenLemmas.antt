@@ -11,7 +11,7 @@ use Rattle.urlpattern_compare.proofs.CandidateLemmas.{MeetsOne, all_back, all_fr
 use Rattle.urlpattern_compare.proofs.CommonLemmas.{all_unmap}
 use Rattle.urlpattern_compare.proofs.StateSets.{contains_cons, contains_head, contains_tail}
 use Rattle.urlpattern_compare.specs.Candidates.{AreLines, HasManySetsAt, HasManyTexts, IsAmong, IsAnswer, IsFoundTexts, MeetAlike, MeetsEach, TextAt, all_conditions, text_at}
-use Rattle.urlpattern_compare.specs.CommonTexts.{AcceptsAlike, AreAdded, AreConditionsOf, AreLists, AreTaken, HasAutomata, IsConditionOf, IsFoundTaken, IsSure, LeadsAlike, NeedsManySets, NeedsManyTexts, TakeAlike, TakesAll, TakesEach}
+use Rattle.urlpattern_compare.specs.CommonTexts.{AcceptsAlike, AreAdded, AreConditionsOf, AreLists, AreTaken, HasAutomata, IsConditionOf, IsFoundTaken, IsSure, LeadsAlike, NeedsManySets, NeedsManyTexts, TakeAlike, TakesAll, TakesEach, TakesNone}
 use Rattle.urlpattern_compare.specs.Conditions.{accepts, is_as, is_met, states_after}
 use Rattle.urlpattern_compare.specs.TextSearch.{LeadAlike}
 use Rattle.urlpattern_compare.specs.declared.candidates.FoundTexts.{FoundTexts}
@@ -134,19 +134,22 @@ IsListed all_of none_of is_sure list =
 
 abbrev pub HasList : (all_of : List PatternAutomata) → (is_sure : Bool) → List (Vec Condition Global) → PatternAutomata → Type 0
 HasList all_of is_sure lists pattern =
-    (IsTrue is_sure → IsSure all_of pattern) → (list : Vec Condition Global) × Contains lists list × AreConditionsOf all_of pattern list.items
+    (IsTrue is_sure → IsSure all_of pattern) → TakesNone all_of pattern ⊎ ((list : Vec Condition Global) × Contains lists list × AreConditionsOf all_of pattern list.items)
 
 listed_longer : (all_of front back : List PatternAutomata) (is_sure : Bool) (list : Vec Condition Global) → IsListed all_of front is_sure list → IsListed all_of (front ++ back) is_sure list
 listed_longer all_of front back is_sure list (pattern, has, are, sure) = (pattern, Contains-append_left front back pattern has, are, sure)
 
 list_longer : (all_of : List PatternAutomata) (is_sure : Bool) (lists more : List (Vec Condition Global)) (pattern : PatternAutomata) → HasList all_of is_sure lists pattern → HasList all_of is_sure (lists ++ more) pattern
-list_longer all_of is_sure lists more pattern has sure = let (list, there, are) = has sure in (list, Contains-append_left lists more list there, are)
+list_longer all_of is_sure lists more pattern has sure = elim (has sure) [
+  | inl none ↦ inl none
+  | inr (list, there, are) ↦ inr (list, Contains-append_left lists more list there, are)
+]
 
-pub lists_skipped : (all_of front : List PatternAutomata) (is_sure : Bool) (pattern : PatternAutomata) (lists : List (Vec Condition Global)) → ¬ (IsTrue is_sure → IsSure all_of pattern) →
+pub lists_skipped : (all_of front : List PatternAutomata) (is_sure : Bool) (pattern : PatternAutomata) (lists : List (Vec Condition Global)) → ((IsTrue is_sure → IsSure all_of pattern) → TakesNone all_of pattern) →
     AreLists all_of front is_sure lists → AreLists all_of (front ++ pattern ∷ []) is_sure lists
-lists_skipped all_of front is_sure pattern lists uncounted are = record {
+lists_skipped all_of front is_sure pattern lists none are = record {
   of_patterns = All-weaker (IsListed all_of front is_sure) (IsListed all_of (front ++ pattern ∷ []) is_sure) (listed_longer all_of front (pattern ∷ []) is_sure) lists are.of_patterns;
-  of_lists = All-push (HasList all_of is_sure lists) front pattern are.of_lists (λ sure. absurd (uncounted sure));
+  of_lists = All-push (HasList all_of is_sure lists) front pattern are.of_lists (λ sure. inl (none sure));
 }
 
 pub lists_more : (all_of front : List PatternAutomata) (is_sure : Bool) (pattern : PatternAutomata) (lists : List (Vec Condition Global)) (list : Vec Condition Global) → (IsTrue is_sure → IsSure all_of pattern) →
@@ -157,7 +160,7 @@ lists_more all_of front is_sure pattern lists list counted conditions are = reco
       (pattern, Contains-push front pattern, conditions, counted);
   of_lists = All-push (HasList all_of is_sure (lists ++ list ∷ [])) front pattern
       (All-weaker (HasList all_of is_sure lists) (HasList all_of is_sure (lists ++ list ∷ [])) (list_longer all_of is_sure lists (list ∷ [])) front are.of_lists)
-      (λ sure. (list, Contains-push lists list, conditions));
+      (λ sure. inr (list, Contains-push lists list, conditions));
 }
 
 -- ---- bounds
@@ -231,9 +234,11 @@ found_taken all_of none_of is_sure limits first lists (founds.Texts texts) on me
   lines,
   record {
     taken = (meant (text_at texts)).0 answer.met;
-    refused = λ k d lt sure takes.
-        let (list, has, conditions) = are.of_lists k d lt sure in
-        All-contains (λ (it : Vec Condition Global). ¬ MeetsEach it.items (text_at texts)) lists list answer.unmet has ((conditions.meant (text_at texts)).1 takes);
+    refused = λ k d lt sure takes. elim (are.of_lists k d lt sure) [
+      | inl none ↦ none (text_at texts) lines ((meant (text_at texts)).0 answer.met) takes
+      | inr (list, has, conditions) ↦
+          All-contains (λ (it : Vec Condition Global). ¬ MeetsEach it.items (text_at texts)) lists list answer.unmet has ((conditions.meant (text_at texts)).1 takes)
+    ];
   },
 )
 found_taken all_of none_of is_sure limits first lists founds.Nothing on meant are nothing = λ texts lines taken.

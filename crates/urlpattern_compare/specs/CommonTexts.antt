@@ -269,8 +269,15 @@ pub record AreConditionsOf (all_of : List PatternAutomata) (pattern : PatternAut
   pub on : All (IsConditionOf pattern) conditions
   pub meant : (texts : TextAt) → MeetsEach conditions texts ↔ TakesEach all_of pattern texts
 
+-- No texts that each pattern of `all_of` takes are taken by the pattern, too.
+abbrev pub TakesNone : (all_of : List PatternAutomata) → PatternAutomata → Type 0
+TakesNone all_of pattern =
+    (texts : TextAt) → AreLines texts → All (λ it. TakesAll it texts) all_of
+    → ¬ TakesEach all_of pattern texts
+
 -- What the lists of conditions `lists` say of the patterns `none_of`: each list is of a pattern,
--- which is sure if `is_sure`; and each pattern has a list, if it is sure or `is_sure` is false.
+-- which is sure if `is_sure`; and each pattern that is sure, or each if `is_sure` is false, has a
+-- list, or takes no texts that each pattern of `all_of` takes.
 pub record AreLists (all_of none_of : List PatternAutomata) (is_sure : Bool)
     (lists : List (Vec Condition Global)) : Type 0 where
   pub of_patterns : All
@@ -279,8 +286,9 @@ pub record AreLists (all_of none_of : List PatternAutomata) (is_sure : Bool)
       × (IsTrue is_sure → IsSure all_of pattern)) lists
   pub of_lists : All
       (λ pattern. (IsTrue is_sure → IsSure all_of pattern)
-      → (list : Vec Condition Global) × Contains lists list
-      × AreConditionsOf all_of pattern list.items) none_of
+      → TakesNone all_of pattern
+      ⊎ ((list : Vec Condition Global) × Contains lists list
+      × AreConditionsOf all_of pattern list.items)) none_of
 
 -- The eight texts are taken by each pattern of `all_of`, and by none of `none_of`; with `is_sure`
 -- patterns of `none_of` that are not sure do not count.

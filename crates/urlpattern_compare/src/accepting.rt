@@ -6,7 +6,7 @@ ghost use Rattle.urlpattern_compare.specs.Conditions.{Meets, accepts};
 
 use crate::condition::Condition;
 use crate::folding::folded_character;
-use crate::joint_states::is_as;
+use crate::joint_states::{has_state, is_as};
 use crate::parts_automaton::PartsAutomaton;
 use crate::states::{is_in, moved, set_of};
 use std::alloc::{AllocError, Global};
@@ -22,6 +22,9 @@ pub(crate) fn accepts(
 {
     let mut flags = set_of(alloc, &automaton.starts, automaton.states)?;
     for c in text {
+        if !has_state(&flags) {
+            return Ok(false);
+        }
         let c = folded_character(automaton.ignore_case, *c);
         flags = moved(alloc, &automaton.edges, &flags, c)?;
     }

@@ -14,7 +14,9 @@ use urlpattern_components::{ComponentName, Eight};
 /// How far a search goes.
 #[derive(Clone, Copy, Debug)]
 pub struct Limits {
-    /// How many sets of states the automata of a component may have.
+    /// How many sets of states the automata of a component may have. A search keeps those it
+    /// reaches in memory: each takes a byte for each state of these automata, and four bytes for
+    /// each character of a text that leads to it.
     pub sets: usize,
     /// How many times eight texts may be tried.
     pub texts: usize,

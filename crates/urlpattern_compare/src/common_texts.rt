@@ -13,7 +13,7 @@ use crate::condition::Condition;
 use crate::copies::copy_of;
 use crate::coverage::Reason;
 use crate::lacks::{first_lack, is_same_in, is_sure_of};
-use crate::parted::are_parted;
+use crate::parted::{are_parted, is_parted_from};
 use crate::parts_automaton::{PartsAutomaton, make};
 use crate::pattern_parts::{PatternParts, string_of};
 use std::alloc::{AllocError, Global};
@@ -254,7 +254,8 @@ fn find_taken<'a>(
     limits: Limits,
     is_sure: bool,
 ) -> Result<FoundTexts, AllocError>
-    requires { All AreAutomata (map (λ it. it.now) all_of.now) }
+    requires all_of { All AreAutomata (map (λ it. it.now) all_of.now) }
+    requires none_of { All AreAutomata (map (λ it. it.now) none_of.now) }
     ensures { IfOk result
         (IsFoundTaken (map (λ it. it.now) all_of.now) (map (λ it. it.now) none_of.now) is_sure
         limits) }
@@ -285,13 +286,15 @@ fn accepting<'a>(
     Ok(conditions)
 }
 
-/// Returns the conditions of each pattern of `none_of`; with `is_sure` only of those that are sure.
+/// Returns the conditions of the patterns of `none_of` that count, and may take texts of `all_of`.
 fn lists_of<'a>(
     alloc: Global,
     all_of: &[&PatternAutomata],
     none_of: &[&'a PatternAutomata],
     is_sure: bool,
 ) -> Result<Vec<Vec<Condition<'a>>>, AllocError>
+    requires all_of { All AreAutomata (map (λ it. it.now) all_of.now) }
+    requires none_of { All AreAutomata (map (λ it. it.now) none_of.now) }
     ensures { IfOk result (λ lists. AreLists (map (λ it. it.now) all_of.now)
         (map (λ it. it.now) none_of.now) is_sure lists.items) }
 {
@@ -302,7 +305,8 @@ fn lists_of<'a>(
     Ok(lists)
 }
 
-/// Appends the conditions of the pattern, if it counts.
+/// Appends the conditions of the pattern, if it counts, and may take texts that each pattern of
+/// `all_of` takes.
 fn push_list<'a>(
     alloc: Global,
     lists: &mut Vec<Vec<Condition<'a>>>,
@@ -310,12 +314,17 @@ fn push_list<'a>(
     pattern: &'a PatternAutomata,
     is_sure: bool,
 ) -> Result<(), AllocError>
+    requires all_of { All AreAutomata (map (λ it. it.now) all_of.now) }
+    requires pattern { AreAutomata pattern.now }
     ensures { OnOk result ((front : List PatternAutomata)
         → AreLists (map (λ it. it.now) all_of.now) front is_sure lists.old.items
         → AreLists (map (λ it. it.now) all_of.now) (front ++ pattern.now ∷ []) is_sure
         lists.new.items) }
 {
     if !is_counted(is_sure, all_of, pattern) {
+        return Ok(());
+    }
+    if is_parted_from(all_of, pattern) {
         return Ok(());
     }
     let mut conditions = Vec::new(alloc);

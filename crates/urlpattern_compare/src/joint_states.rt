@@ -88,7 +88,7 @@ pub(crate) fn is_as(asked: bool, found: bool) -> bool
 }
 
 /// Whether the set `flags` has a state.
-fn has_state(flags: &[bool]) -> bool
+pub(crate) fn has_state(flags: &[bool]) -> bool
     ensures { result ≡ list_any (λ flag. flag) flags.now }
 {
     flags.iter().any(|flag| *flag)

@@ -3,10 +3,11 @@
 
 ghost use Rattle.std.specs.Prelude.{ℕ, All, IsTrue, List, map};
 ghost use Rattle.urlpattern_components.specs.Eight.{at};
-ghost use Rattle.urlpattern_compare.specs.{Candidates.AreLines, Candidates.TextAt, CommonTexts.AreAutomata, CommonTexts.Takes, CommonTexts.TakesAll, TextSearch.IsLine};
+ghost use Rattle.urlpattern_compare.specs.{Candidates.AreLines, Candidates.TextAt, CommonTexts.AreAutomata, CommonTexts.Takes, CommonTexts.TakesAll, CommonTexts.TakesNone, TextSearch.IsLine};
 
 use crate::common_texts::PatternAutomata;
 use crate::coverage::are_apart;
+use crate::lacks::is_same_in;
 use urlpattern_components::ComponentName;
 
 /// Whether the fronts of paths or hosts tell that the first two patterns match no texts in common.
@@ -47,4 +48,38 @@ fn are_parted_in(one: &PatternAutomata, other: &PatternAutomata, name: Component
         &others.options,
         &others.parts,
     )
+}
+
+/// Whether the front of the path or of the host tells that `pattern` takes no texts that each of
+/// `patterns` takes.
+pub(crate) fn is_parted_from(patterns: &[&PatternAutomata], pattern: &PatternAutomata) -> bool
+    requires patterns { All AreAutomata (map (λ it. it.now) patterns.now) }
+    requires pattern { AreAutomata pattern.now }
+    ensures { IsTrue result → TakesNone (map (λ it. it.now) patterns.now) pattern.now }
+{
+    if is_parted_from_in(patterns, pattern, ComponentName::Pathname) {
+        return true;
+    }
+    is_parted_from_in(patterns, pattern, ComponentName::Hostname)
+}
+
+/// Whether the front of the component tells that `pattern` takes no texts that each of `patterns`
+/// takes.
+fn is_parted_from_in(
+    patterns: &[&PatternAutomata],
+    pattern: &PatternAutomata,
+    name: ComponentName,
+) -> bool
+    requires patterns { All AreAutomata (map (λ it. it.now) patterns.now) }
+    requires pattern { AreAutomata pattern.now }
+    ensures { IsTrue result → TakesNone (map (λ it. it.now) patterns.now) pattern.now }
+{
+    if patterns.is_empty() {
+        return false;
+    }
+    if is_same_in(patterns, pattern, name) {
+        return false;
+    }
+    let first = patterns[0];
+    are_parted_in(first, pattern, name)
 }

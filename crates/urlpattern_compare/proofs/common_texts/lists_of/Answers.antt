@@ -1,7 +1,9 @@
-use Rattle.std.proofs.Common.{◌≡◌, ◌∙◌, ◌+◌, ◌++◌, ◌∷◌, [], map, subst, sym, take}
+use Rattle.std.proofs.Common.{◌≡◌, ◌∙◌, ◌+◌, ◌++◌, ◌∷◌, [], length, map, refl, subst, sym, take}
 use Rattle.std.proofs.lemmas.List.Elements.{All-nil}
+use Rattle.std.proofs.lemmas.Option.{slice_get_read}
+use Rattle.urlpattern_compare.proofs.PartedLemmas.{of_one}
 use Rattle.urlpattern_compare.proofs.TakenLemmas.{HasList, IsListed, map_more, map_whole}
-use Rattle.urlpattern_compare.specs.CommonTexts.{AreLists}
+use Rattle.urlpattern_compare.specs.CommonTexts.{AreAutomata, AreLists}
 use Rattle.urlpattern_compare.proofs.common_texts.lists_of.Goals as goal
 
 pub loop-pattern-init : goal.loop-pattern-init
@@ -9,6 +11,13 @@ loop-pattern-init c =
     let all_of = map (λ it. it.now) c.args.all_of.now in
     subst (λ l. AreLists all_of [] c.args.is_sure l) (sym c.new-lists.ensures.items)
     (record { of_patterns = All-nil (IsListed all_of [] c.args.is_sure); of_lists = All-nil (HasList all_of c.args.is_sure []) })
+
+pub push_list-requires-clause-pattern : goal.push_list-requires-clause-pattern
+push_list-requires-clause-pattern c =
+    let none_of = c.args.none_of.now in
+    let i = c.loop-pattern.pattern-index in
+    let one = c.pattern-item.result in
+    of_one AreAutomata none_of i one (slice_get_read none_of (length none_of) i one refl c.loop-pattern-test.true c.pattern-item.is) c.requires.none_of
 
 pub loop-pattern-preserved : goal.loop-pattern-preserved
 loop-pattern-preserved c =

@@ -6,7 +6,11 @@ use Rattle.urlpattern_compare.proofs.common_texts.push_list.Goals as goal
 
 pub returns-then-not-is_counted : goal.returns-then-not-is_counted
 returns-then-not-is_counted c = λ front are.
-    lists_skipped (map (λ it. it.now) c.args.all_of.now) front c.args.is_sure c.args.pattern.now c.args.lists.now.items (λ counted. false≢true (sym c.if-not-is_counted.true ∙ c.is_counted.ensures.1 counted)) are
+    lists_skipped (map (λ it. it.now) c.args.all_of.now) front c.args.is_sure c.args.pattern.now c.args.lists.now.items (λ counted. absurd (false≢true (sym c.if-not-is_counted.true ∙ c.is_counted.ensures.1 counted))) are
+
+pub returns-then-is_parted_from : goal.returns-then-is_parted_from
+returns-then-is_parted_from c = λ front are.
+    lists_skipped (map (λ it. it.now) c.args.all_of.now) front c.args.is_sure c.args.pattern.now c.args.lists.now.items (λ counted. c.is_parted_from.ensures c.if-is_parted_from.true) are
 
 pub returns : goal.returns
 returns c = λ front are.
