@@ -7,27 +7,32 @@
 ghost use Rattle.std.specs.Prelude.{⊤};
 
 mod forms;
+mod init_options;
+mod line_operands;
 mod operands;
+mod options;
 mod output;
 mod parsing;
 mod printer;
 mod running;
 
-use operands::{STANDARD_INPUT, of_file};
+use init_options::given_init;
+use line_operands::of_file;
+use operands::STANDARD_INPUT;
 use output::{Output, report_output};
 use parsing::{
-    Asked, COMPONENT_USAGE, FIRST_USAGE, MATCH_USAGE, asked_of, given_init, has_fixed_usage,
-    misused, name_fixed, parse,
+    Asked, COMPONENT_USAGE, FIRST_USAGE, MATCH_USAGE, asked_of, has_fixed_usage, misused,
+    name_fixed, parse,
 };
 use printer::Printer;
 use running::{run, status_of_both};
 use std::alloc::AllocError;
 use std::fs::File;
-use std::io::{BufRead, BufReader, BufWriter, IsTerminal, Write};
+use std::io::{BufRead, BufReader, BufWriter, IsTerminal, Read, Write};
 use std::process::ExitCode;
 use std::{env, fs, io};
 use urlpat_commands::Tables;
-use urlpat_matching::{Arguments, DONE, FAILED, NO_MATCH, fail};
+use urlpat_matching::{Arguments, Command, DONE, FAILED, NO_MATCH, RouteShape, fail};
 use urlpat_policies::run_on_policies;
 use urlpattern::Error;
 use urlpattern::regexp::PatternRegexp;
@@ -43,7 +48,12 @@ impl Tables for HostFiles<'_> {
     ghost Has = { λ files name table. ⊤ };
 
     fn read(&self, name: &str) -> io::Result<Vec<u8>> {
-        fs::read(self.rt, name)
+        if name != STANDARD_INPUT {
+            return fs::read(self.rt, name);
+        }
+        let mut bytes = Vec::new(self.rt.alloc());
+        self.rt.stdin().read_to_end(&mut bytes)?;
+        Ok(bytes)
     }
 }
 
@@ -121,7 +131,10 @@ fn run_buffered(rt: &HostRuntime, asked: Asked<'_, '_>) -> io::Result<u8> {
     let mut out = Output::new(BufWriter::new(rt.alloc(), rt.stdout())?);
     let mut err = rt.stderr();
     // At a terminal a person reads the errors.
-    let asked = explained(asked, err.is_terminal());
+    let asked = with_bars(
+        explained(asked, err.is_terminal()),
+        rt.stdout().is_terminal(),
+    );
     let status = match asked {
         Asked::Command(arguments) => run_on_lines(rt, arguments, &mut out, &mut err)?,
         Asked::Policy(command, json) => {
@@ -150,7 +163,7 @@ fn run_buffered(rt: &HostRuntime, asked: Asked<'_, '_>) -> io::Result<u8> {
 fn run_on_lines<Out: Write, Err: Write>(
     rt: &HostRuntime,
     arguments: Arguments<'_, '_>,
-    out: &mut Out,
+    out: &mut Output<Out>,
     err: &mut Err,
 ) -> io::Result<u8> {
     if arguments.files.is_empty() {
@@ -171,23 +184,29 @@ fn run_on_input<Out: Write, Err: Write>(
     Ok(run_with(rt, arguments, &mut input, out, err))
 }
 
-/// Runs a command on the lines of each of its files, until a run fails. A file that cannot be
-/// opened is reported, and the others are read. Returns the exit status.
+/// Runs a command on the lines of each of its files, until a run fails. The output for each begins
+/// with a line of its own, and a header is printed once. A file that cannot be opened is reported,
+/// and the others are read. Returns the exit status.
 fn run_on_files<Out: Write, Err: Write>(
     rt: &HostRuntime,
     arguments: Arguments<'_, '_>,
-    out: &mut Out,
+    out: &mut Output<Out>,
     err: &mut Err,
 ) -> io::Result<u8> {
     let mut status = NO_MATCH;
+    let mut headed = true;
     for file in arguments.files {
+        let Ok(()) = out.end_line() else {
+            return Ok(FAILED);
+        };
         let last = if *file == STANDARD_INPUT {
-            run_on_input(rt, arguments, out, err)?
+            run_on_input(rt, of_file(arguments, None, headed), out, err)?
         } else {
             match File::open(rt, *file) {
                 Ok(opened) => {
                     let mut input = BufReader::new(rt.alloc(), opened)?;
-                    run_with(rt, of_file(arguments, *file), &mut input, out, err)
+                    let asked = of_file(arguments, Some(*file), headed);
+                    run_with(rt, asked, &mut input, out, err)
                 }
                 Err(error) => {
                     let _ = writeln!(err, "urlpat: the file `{file}` cannot be read: {error}");
@@ -196,6 +215,7 @@ fn run_on_files<Out: Write, Err: Write>(
                 }
             }
         };
+        headed = false;
         status = status_of_both(status, last);
         if last == FAILED {
             break;
@@ -221,6 +241,22 @@ fn explained<'m, 'w>(asked: Asked<'m, 'w>, is_read: bool) -> Asked<'m, 'w> {
     match asked {
         Asked::Command(mut arguments) => {
             arguments.flags.explain_errors |= is_read;
+            Asked::Command(arguments)
+        }
+        Asked::Policy(_, _) => asked,
+    }
+}
+
+/// What is asked for, with bars in a summary if it is read by a person.
+fn with_bars<'m, 'w>(asked: Asked<'m, 'w>, is_read: bool) -> Asked<'m, 'w> {
+    match asked {
+        Asked::Command(mut arguments) => {
+            if let Command::Route(mut route) = arguments.command {
+                if let RouteShape::Summary(_) = route.shape {
+                    route.shape = RouteShape::Summary(is_read);
+                }
+                arguments.command = Command::Route(route);
+            }
             Asked::Command(arguments)
         }
         Asked::Policy(_, _) => asked,

@@ -3,8 +3,7 @@
 ghost use Rattle.std.specs.Prelude.{◌≡◌, ◌≢◌, ◌⊎◌, option_copied, IfSome};
 ghost use Rattle.urlpat_commands.specs.Coverings.{ComparesWith, PrintsDecided, PrintsWhether, PrintsWhich, parting_status};
 
-use crate::comparison_lines::covering_shown;
-use crate::comparison_text::reason_text;
+use crate::comparison_text::{covering_shown, reason_text};
 use crate::text_parts::parts_or_report;
 use std::alloc::Global;
 use std::io::Write;

@@ -1,5 +1,5 @@
 //! Writes the output of a rule for the lines of a reader.
-ghost use Rattle.std.specs.Prelude.{◌≡◌, ◌+◌, ◌<◌, ◌^◌, ℕ, List, IfOk, OnOk};
+ghost use Rattle.std.specs.Prelude.{◌≡◌, ◌+◌, ◌<◌, ◌^◌, ℕ, List, Option, IfOk, OnOk, option_copied};
 ghost use Rattle.std.specs.Io.KnownBytes.{Appends, Keeps};
 ghost use Rattle.urlpat_matching.specs.LineAnswers.{AppendsAnswer, AppendsAnswerTo, WritesInput, selected_by};
 ghost use Rattle.urlpat_matching.specs.LineLabels.{labelled};
@@ -24,6 +24,8 @@ pub enum Verdict {
     NoUrl,
     /// The line is selected, and not a URL.
     SelectedNoUrl,
+    /// The line is a URL, and not selected: the rule has no URL to write for it.
+    NoLink,
     /// The line is not UTF-8, or too long.
     Rejected,
 }
@@ -32,13 +34,21 @@ pub enum Verdict {
 /// of `filter` and `route`.
 pub trait Rule {
     // The verdict on a line, and what is written for it. `text` is the line without its end.
-    ghost Answers: { Self → (text line : List ℕ) → Verdict → (written : List ℕ) → Type 0 };
+    // `None`: the line is too long or not UTF-8, and `line` is empty in its place.
+    ghost Answers: { Self → (text : Option (List ℕ)) → (line : List ℕ) → Verdict
+        → (written : List ℕ) → Type 0 };
 
     /// Returns the verdict on a line, and appends what is written for it. `text` is the line
-    /// without its end.
-    fn answer(&self, text: &str, line: &[u8], written: &mut Vec<u8>) -> Result<Verdict, AllocError>
-        ensures { IfOk result (AppendsAnswer (Answers self.now) text.now line.now written.old.items
-            written.new.items) };
+    /// without its end. `None`: the line is too long or not UTF-8, and `line` is empty in its
+    /// place.
+    fn answer(
+        &self,
+        text: Option<&str>,
+        line: &[u8],
+        written: &mut Vec<u8>,
+    ) -> Result<Verdict, AllocError>
+        ensures { IfOk result (AppendsAnswer (Answers self.now) (option_copied text.entry) line.now
+            written.old.items written.new.items) };
 }
 
 /// How many lines there are of each kind. A selected line that is not a URL is of two kinds.
@@ -48,6 +58,8 @@ pub struct Tally {
     pub selected: u64,
     /// The number of lines that are not URLs.
     pub no_url: u64,
+    /// The number of lines for which the rule has no URL to write.
+    pub no_link: u64,
     /// The number of lines that are not UTF-8, or too long.
     pub rejected: u64,
 }
@@ -95,6 +107,7 @@ pub fn answer_lines<In: BufRead, Out: Write, Err: Write, R: Rule>(
     let mut tally = Tally {
         selected: 0,
         no_url: 0,
+        no_link: 0,
         rejected: 0,
     };
     let mut line = Vec::new(alloc);
@@ -153,22 +166,30 @@ fn write_piece<Out: Write>(out: &mut Out, piece: &[u8]) -> Result<(), LinesError
 {
     match out.write_all(piece) {
         Ok(()) => Ok(()),
-        Err(_) => Err(LinesError::Write),
+        Err(error) => Err(fault_of(error)),
     }
 }
 
-/// Returns the verdict of a rule on a line, and appends what is written for it. A line that is too
-/// long or not UTF-8 is rejected, and nothing is written for it.
+/// Why something is not written: memory ran out, or the output failed.
+pub(crate) fn fault_of(error: io::Error) -> LinesError {
+    match error.kind() {
+        io::ErrorKind::OutOfMemory => LinesError::OutOfMemory,
+        _ => LinesError::Write,
+    }
+}
+
+/// Returns the verdict of a rule on a line, and appends what is written for it. The rule sees
+/// neither the bytes nor the text of a line that is too long or not UTF-8.
 fn answer_line<R: Rule>(rule: &R, line: &[u8], written: &mut Vec<u8>) -> Result<Verdict, AllocError>
     ensures { IfOk result
         (AppendsAnswerTo (R.Answers rule.now) line.now written.old.items written.new.items) }
 {
     if line.len() > LONGEST {
-        return Ok(Verdict::Rejected);
+        return rule.answer(None, &[], written);
     }
     match str::from_utf8(without_end(line)) {
-        Ok(text) => rule.answer(text, line, written),
-        Err(_) => Ok(Verdict::Rejected),
+        Ok(text) => rule.answer(Some(text), line, written),
+        Err(_) => rule.answer(None, &[], written),
     }
 }
 
@@ -213,6 +234,10 @@ fn counted(tally: Tally, verdict: Verdict) -> Tally
         Verdict::SelectedNoUrl => Tally {
             selected: tally.selected + 1,
             no_url: tally.no_url.saturating_add(1),
+            ..tally
+        },
+        Verdict::NoLink => Tally {
+            no_link: tally.no_link.saturating_add(1),
             ..tally
         },
         Verdict::Rejected => Tally {

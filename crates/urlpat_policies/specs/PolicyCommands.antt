@@ -7,7 +7,7 @@ use Rattle.std.specs.Prelude.{◌≡◌, ◌==◌, ◌⊎◌, ◌||◌, ℕ, Boo
 use Rattle.urlpat_matching.specs.LineAnswers.{WritesAnswers}
 use Rattle.urlpat_matching.specs.Status.{status_of}
 use Rattle.urlpat_matching.specs.declared.answers.Verdict.{Verdict}
-use Rattle.urlpat_matching.specs.declared.answers.Verdict.TheVariants.{Passed, Selected}
+use Rattle.urlpat_matching.specs.declared.answers.Verdict.TheVariants.{Passed, Rejected, Selected}
 use Rattle.urlpat_matching.specs.declared.command.LineStyle.{LineStyle}
 use Rattle.urlpattern_compare.specs.declared.candidates.TheConstants.{USUAL_LIMITS}
 use Rattle.urlpattern_matcher.specs.declared.regexp.RegExp.{Ghosts as Engine}
@@ -40,11 +40,13 @@ abbrev pub verdict_of : Decision → Verdict
 verdict_of (Allow rule) = Passed
 verdict_of (Deny reason) = Selected
 
--- The decision about the line's text is printed.
+-- The decision about the line's text is printed, or nothing if the line is rejected.
 abbrev pub IsLineDecided : {E : Type 0} → Engine E → UrlPolicy E
-    → (Prints : List Decision → List ℕ → Type 0) → (text line : List ℕ) → Verdict
-    → (written : List ℕ) → Type 0
-IsLineDecided engine policy Prints text line verdict written =
+    → (Prints : List Decision → List ℕ → Type 0) → (text : Option (List ℕ)) → (line : List ℕ)
+    → Verdict → (written : List ℕ) → Type 0
+IsLineDecided engine policy Prints None line verdict written =
+    (verdict ≡ Rejected) × (written ≡ [])
+IsLineDecided engine policy Prints (Some text) line verdict written =
     (decision : Decision) × IsDecided engine policy text decision
     × Prints (decision ∷ []) written × (verdict ≡ verdict_of decision)
 

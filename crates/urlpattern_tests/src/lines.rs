@@ -14,12 +14,14 @@ impl Rule for Short {
 
     fn answer(
         &self,
-        text: &str,
+        text: Option<&str>,
         line: &[u8],
         written: &mut Vec<u8>,
     ) -> Result<Verdict, AllocError> {
-        if text.len() > 3 {
-            return Ok(Verdict::Passed);
+        match text {
+            None => return Ok(Verdict::Rejected),
+            Some(text) if text.len() > 3 => return Ok(Verdict::Passed),
+            Some(_) => (),
         }
         written.extend_from_slice(line)?;
         Ok(Verdict::Selected)
