@@ -45,6 +45,19 @@ destinations =
 abbrev pub statuses : List (List ℕ)
 statuses = codes "running" ∷ codes "not-running" ∷ []
 
+-- Methods that are often used.
+abbrev pub methods : List (List ℕ)
+methods =
+    codes "GET" ∷ codes "POST" ∷ codes "PUT" ∷ codes "DELETE" ∷ codes "HEAD" ∷ codes "PATCH"
+    ∷ codes "OPTIONS" ∷ []
+
+-- Names of the attribute: some methods, or all names of another attribute.
+abbrev pub names_of : RouterAttribute → List (List ℕ)
+names_of Method = methods
+names_of Mode = modes
+names_of Destination = destinations
+names_of RunningStatus = statuses
+
 -- Why a text is no name that is known. None: it is known.
 abbrev pub unless_known : (is_known : Bool) → Option RouterReason
 unless_known is_known = if is_known then None else Some reasons.UnknownName
@@ -55,9 +68,8 @@ rejection Method text =
     if not (is_method text) then Some reasons.NotAMethod
     else if is_forbidden text then Some reasons.ForbiddenMethod
     else None
-rejection Mode text = unless_known (list_any (λ name. bytes_eq name text) modes)
-rejection Destination text = unless_known (list_any (λ name. bytes_eq name text) destinations)
-rejection RunningStatus text = unless_known (list_any (λ name. bytes_eq name text) statuses)
+rejection attribute text =
+    unless_known (list_any (λ name. bytes_eq name text) (names_of attribute))
 
 -- A name as it is kept: a method as a request has it, other names as they are.
 abbrev pub kept_name : RouterAttribute → List ℕ → List ℕ

@@ -1,9 +1,9 @@
 //! The attributes of a request that conditions name.
 ghost use Rattle.std.specs.List.{list_any};
-ghost use Rattle.std.specs.Prelude.{◌≡◌, IfOk, string_bytes};
+ghost use Rattle.std.specs.Prelude.{◌≡◌, IfOk, map, string_bytes};
 ghost use Rattle.std.specs.Str.{bytes_eq};
 ghost use Rattle.serde_json.specs.View.{view};
-ghost use Rattle.urlpattern_routes.specs.Names.{Reads, member_name, name_read, rejection, unless_known};
+ghost use Rattle.urlpattern_routes.specs.Names.{Reads, member_name, name_read, names_of, rejection, unless_known};
 
 use crate::Made;
 use crate::fault::RouterReason;
@@ -24,6 +24,9 @@ pub enum RouterAttribute {
     /// Whether the service worker is running.
     RunningStatus,
 }
+
+/// Methods that are often used.
+const METHODS: [&str; 7] = ["GET", "POST", "PUT", "DELETE", "HEAD", "PATCH", "OPTIONS"];
 
 /// The modes of a request.
 const MODES: [&str; 4] = ["cors", "navigate", "no-cors", "same-origin"];
@@ -75,6 +78,19 @@ impl RouterAttribute {
         }
     }
 
+    /// Returns names of the attribute: methods that are often used, or all names of another
+    /// attribute.
+    pub fn names(self) -> &'static [&'static str]
+        ensures { map (λ name. name.now) result.now ≡ names_of self }
+    {
+        match self {
+            Self::Method => &METHODS,
+            Self::Mode => &MODES,
+            Self::Destination => &DESTINATIONS,
+            Self::RunningStatus => &STATUSES,
+        }
+    }
+
     /// Reads a name of the attribute, or returns why the value is none.
     pub(crate) fn read(self, alloc: Global, value: &Value) -> Made<Result<String, RouterReason>>
         ensures { IfOk result (Reads string_bytes (name_read self (view value.now))) }
@@ -99,9 +115,7 @@ impl RouterAttribute {
             Self::Method if !is_method(text) => Some(RouterReason::NotAMethod),
             Self::Method if is_forbidden(text) => Some(RouterReason::ForbiddenMethod),
             Self::Method => None,
-            Self::Mode => unless_among(&MODES, text),
-            Self::Destination => unless_among(&DESTINATIONS, text),
-            Self::RunningStatus => unless_among(&STATUSES, text),
+            _ => unless_among(self.names(), text),
         }
     }
 }

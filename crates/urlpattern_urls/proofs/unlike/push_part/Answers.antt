@@ -5,7 +5,7 @@ use Rattle.urlpattern_syntax.proofs.StringTexts.{text-nil}
 use Rattle.urlpattern_syntax.specs.Parts.{part_view, parts_view}
 use Rattle.urlpattern_syntax.specs.Text.{text_of}
 use Rattle.urlpattern_syntax.specs.declared.parser.Part.{Part}
-use Rattle.urlpattern_urls.proofs.unlike.push.Goals as goal
+use Rattle.urlpattern_urls.proofs.unlike.push_part.Goals as goal
 
 pub returns : goal.returns
 returns c =
