@@ -1,0 +1,26 @@
+#!/bin/bash
+# Nice by place: the chain's crates first, those of no hurry later, then edits, then helpers.
+while sleep 3; do
+  for p in $(pgrep -f "rattle (build|check)"); do
+    case $(readlink /proc/$p/cwd 2>/dev/null) in
+      /work/A/*/urlpattern_urls|/work/A/*/urlpattern_conditions|/work/A/*/urlpattern_routes|/work/A/*/urlpattern_route_rules|/work/A/*/urlpattern_policy_json|/work/A/*/urlpattern_differences) w=-13;;
+      /work/A/*/urlpattern_index) w=-11;;
+      /work/A/*|/work/G/*|/work/C/*) w=-15;;
+      /tmp/rt-copy-*/repo/crates/urlpattern_compare) w=-19;;
+      /tmp/rt-copy-*) w=-15;;
+      /tmp/adversary*|/tmp/must-fail*) w=-6;;
+      /work/B/*) w=-17;;
+      /work/E/*/urlpattern_urls|/work/E/*/urlpattern_conditions|/work/E/*/urlpattern_routes|/work/E/*/urlpattern_route_rules|/work/E/*/urlpattern_differences) w=-14;;
+      /work/F/*) w=-14;;
+      /work/E/*) w=-18;;
+      /work/plants*) w=-10;;
+      /work/tables*) w=-3;;
+      /work/mend*) w=-10;;
+      /work/routes*) w=-3;;
+      /work/*) w=0;;
+      *) continue;;
+    esac
+    n=$(ps -o ni= -p $p | tr -d ' '); [ -n "$n" ] && [ "$n" != "$w" ] && for t in /proc/$p/task/*; do renice -n $w -p ${t##*/} >/dev/null 2>&1; done
+  done
+  for p in $(pgrep -f "unproved-|cachegrind"); do u=-14; n=$(ps -o ni= -p $p | tr -d " "); [ "$n" != "$u" ] && for t in /proc/$p/task/*; do renice -n $u -p ${t##*/} >/dev/null 2>&1; done; done
+done
