@@ -15,7 +15,7 @@ from asked_rows import COMPONENTS, ignores, is_init, lacking_by_case
 
 ROOT = os.path.dirname(os.path.dirname(os.path.abspath(__file__)))
 C, PYTHON = f"{ROOT}/bindings/c", f"{ROOT}/bindings/python"
-TESTS = ("test_urlpattern", "test_arguments", "test_copies", "test_threads", "test_router", "test_policy", "test_quick")
+TESTS = ("test_urlpattern", "test_arguments", "test_copies", "test_threads", "test_router", "test_policy", "test_static_routes", "test_quick")
 # What has parts of the package: the tests and what they share, and the package by other names.
 IMPORTED = ("urlpattern", "without_lock", "by_ctypes", "samples", *TESTS)
 WARNINGS = ("-Wall", "-Wextra", "-Werror", "-Wno-unused-parameter", "-Wno-missing-field-initializers")

@@ -11,6 +11,7 @@ static char text[ROOM];
 static urlpattern_list patterns = URLPATTERN_EMPTY, others = URLPATTERN_EMPTY;
 static urlpattern_router router = URLPATTERN_EMPTY, other_router = URLPATTERN_EMPTY;
 static urlpattern_policy policy = URLPATTERN_EMPTY, other_policy = URLPATTERN_EMPTY;
+static urlpattern_static_routes static_routes = URLPATTERN_EMPTY;
 static size_t appended, inserted;
 static int outcome = RIGHT;
 
@@ -189,6 +190,24 @@ static bool are_decided(void) {
         && is(urlpattern_policy_set_options(&policy, true, true, true), URLPATTERN_SHARED);
 }
 
+/* Whether static routes are read, or have their fault, and decide as they say. */
+static bool are_static_routes_read(void) {
+    static const char script[] = "https://example.com/sw.js", url[] = "https://example.com/x/a", faulty[] = "{\"condition\":{\"urlPattern\":\"/(\"}}";
+    static const char json[] = "[{\"condition\":{\"urlPattern\":{\"pathname\":\"/x/:a\"},\"requestMethod\":\"post\"},\"source\":{\"cacheName\":\"v1\"}}]";
+    urlpattern_route_fault fault;
+    uint32_t source = 0;
+    size_t rule = 9, needed = 0;
+    return is(urlpattern_static_routes_read(&static_routes, script, sizeof script - 1, faulty, sizeof faulty - 1, true), URLPATTERN_REFUSED)
+        && is(urlpattern_static_routes_fault(&static_routes, 1, text, ROOM, &needed, &fault), URLPATTERN_DONE)
+        && is(fault.reason, URLPATTERN_FAULT_REJECTED)
+        && is(urlpattern_static_routes_text_at_fault(&static_routes, 1, text, ROOM, &needed), URLPATTERN_DONE)
+        && is(urlpattern_static_routes_read(&static_routes, script, sizeof script - 1, json, sizeof json - 1, true), URLPATTERN_DONE)
+        && is(urlpattern_static_routes_decide(&static_routes, url, sizeof url - 1, "post", 4, "cors", 4, "", 0, true, &rule), URLPATTERN_DONE)
+        && is((uint32_t)rule, 0)
+        && is(urlpattern_static_routes_source(&static_routes, rule, &source, text, ROOM, &needed), URLPATTERN_DONE)
+        && is(source, URLPATTERN_SOURCE_NAMED_CACHE);
+}
+
 /* How many routes the handle has. Needs no memory. */
 static size_t count_routes(void) {
     size_t index = 0, needed = 0;
@@ -210,7 +229,7 @@ static size_t count(void) {
 int main(void) {
     (void)(is(urlpattern_version(), URLPATTERN_VERSION)
            && are_appended() && are_matched() && are_inits_matched() && are_linked() && are_compared() && are_diagnosed() && are_shared()
-           && are_inserted() && are_none_routed() && are_routed() && are_decided());
+           && are_inserted() && are_none_routed() && are_routed() && are_decided() && are_static_routes_read());
     if (count() != appended || count_routes() != inserted) {
         outcome = WRONG;
     }
@@ -220,5 +239,6 @@ int main(void) {
     urlpattern_router_free(&other_router);
     urlpattern_policy_free(&policy);
     urlpattern_policy_free(&other_policy);
+    urlpattern_static_routes_free(&static_routes);
     return outcome;
 }

@@ -23,13 +23,15 @@ static const char *const pieces[] = {
     "https://example.com/:id", "https://:host.com/:page/*", "/users/:id(\\d+)", "/a/b", "https://example.com/a/b?c#d", "{\"pathname\":\"/:id/:x?\"}",
     "{\"hostname\":\"*.com\",\"search\":\"a=(b|c)\"}", "{\"pathname\":\"/a\",\"baseURL\":\"https://example.com\"}", "GET", "POST", "http:", "://", "/",
     ":id", "*", "([^/]+)", "(a|b)", "(?", ")", "{", "}", "?", "+", "\\", ":", "#", "@", "[::1]", "..", "%61", "%", "\xc3\xa9", "\xff", "\xf0\x9f",
-    "{\"pathname\":\"/", "\",\"", "\"}", "data:", ":8080", "a", "Z", " ", "\n", "127.1", "\\u00e9", "id", "https", "example.com" };
+    "{\"pathname\":\"/", "\",\"", "\"}", "data:", ":8080", "a", "Z", " ", "\n", "127.1", "\\u00e9", "id", "https", "example.com",
+    "[{\"condition\":{\"urlPattern\":\"/a/*\"},\"source\":\"network\"}]", "{\"condition\":{\"requestMode\":\"x\",\"urlPattern\":\"/(\"},\"source\":\"cache\"}" };
 
 static struct { char *at; size_t length; } texts[TEXTS];
 static char *areas[AREAS];
 static urlpattern_list lists[HANDLES];
 static urlpattern_router routers[HANDLES];
 static urlpattern_policy policies[HANDLES];
+static urlpattern_static_routes static_routes[HANDLES];
 static urlpattern_sizes sizes;
 static unsigned long long state;
 static size_t room, span_room, needed;
@@ -125,6 +127,19 @@ static unsigned call_policy(urlpattern_policy *it, urlpattern_policy *other, boo
     }
 }
 
+static unsigned call_static_routes(urlpattern_static_routes *it, size_t at, bool flag) {
+    urlpattern_route_fault fault;
+    uint32_t source;
+    switch (below(9)) {
+    case 0: urlpattern_static_routes_free(it); return MAY(DONE, URLPATTERN_DONE);
+    case 1: return MAY(DONE | NONE | SMALL, urlpattern_static_routes_fault(it, at, OUT, &fault));
+    case 2: return MAY(DONE | NO | NONE | SMALL, urlpattern_static_routes_text_at_fault(it, at, OUT));
+    case 3: return MAY(DONE | NONE | SMALL, urlpattern_static_routes_source(it, at, &source, OUT));
+    case 4: case 5: return MAY(DONE | NO | NO_URL | NOT_UTF8, urlpattern_static_routes_decide(it, TEXT(0), TEXT(1), TEXT(2), TEXT(3), flag, &at));
+    default: return MAY(DONE | NO_URL | NOT_UTF8 | REFUSED, urlpattern_static_routes_read(it, TEXT(0), TEXT(1), flag));
+    }
+}
+
 static unsigned call_that_adds(urlpattern_list *list, urlpattern_router *router, urlpattern_policy *policy, bool flag) {
     switch (below(6)) {
     case 0: return MAY(ADDED, urlpattern_add(list, TEXT(0), TEXT(1), flag));
@@ -171,7 +186,8 @@ static unsigned call(size_t kind) {
     switch (kind) {
     case 0: return call_router(&routers[it], &routers[other], below(4), below(4));
     case 1: return call_policy(&policies[it], &policies[other], below(2));
-    case 2: return call_that_adds(&lists[it], &routers[it], &policies[it], below(2));
+    case 2: return call_static_routes(&static_routes[it], below(4), below(2));
+    case 3: return call_that_adds(&lists[it], &routers[it], &policies[it], below(2));
     default: return call_list(&lists[it], &lists[other], below(4), below(4), below(2));
     }
 }
@@ -185,7 +201,7 @@ int main(int count, char **words) {
     unsigned long calls = 0, done = 0;
     state = strtoul(words[2], NULL, 10);
     for (; calls % 256 || time(NULL) < end; calls++) {
-        size_t kind = below(6);
+        size_t kind = below(7);
         unsigned status = call(kind);
         done += status == URLPATTERN_DONE;
         if (!is_right(status)) {
@@ -197,6 +213,7 @@ int main(int count, char **words) {
         urlpattern_free(&lists[at]);
         urlpattern_router_free(&routers[at]);
         urlpattern_policy_free(&policies[at]);
+        urlpattern_static_routes_free(&static_routes[at]);
     }
     printf("fuzz: %lu calls, %lu of them done\n", calls, done);
     return 0;

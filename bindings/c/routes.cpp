@@ -59,6 +59,18 @@ int main() {
     expect(bool(policy.share()), "share of a policy");
     expect(policy.set_options(true, true, true) == urlpattern::status::done, "options");
     expect(policy.decide("https://me@a.b/").first == urlpattern::decision::deny_credentials, "credentials");
+    urlpattern::static_routes static_routes;
+    const char *script = "https://example.com/sw.js";
+    expect(static_routes.read(script, R"({"condition":{"urlPattern":"/(a"},"source":"x"})") == urlpattern::status::refused, "faults");
+    auto faults = static_routes.faults();
+    expect(faults.size() == 2 && faults[0].reason == "is none of its names" && !faults[0].text, "a source");
+    expect(faults[1].text == "/(a" && faults[1].place.place.start == 1, "a pattern");
+    expect(static_routes.read(script, R"({"condition":{"urlPattern":"/a"},"source":{"cacheName":"v1"}})") == urlpattern::status::done, "read");
+    urlpattern::static_routes moved_routes = std::move(static_routes);
+    expect(moved_routes.decide({"https://example.com/a"}).first == urlpattern::status::done, "a rule");
+    expect(moved_routes.decide({"https://example.com/b"}).first == urlpattern::status::no_match, "no rule");
+    auto source = moved_routes.source(0);
+    expect(source && source->first == URLPATTERN_SOURCE_NAMED_CACHE && source->second == "v1" && !moved_routes.source(1), "a source");
     std::printf("%d passed, %d failed\n", passed, failed);
     return failed != 0;
 }

@@ -78,9 +78,12 @@ typedef enum urlpattern_status {
     URLPATTERN_NOT_UTF8 = 5,      /* a text is not UTF-8 */
     URLPATTERN_REFUSED = 6,       /* a pattern is refused, or JSON is no init; of
                                    * `urlpattern_link` and `urlpattern_generate`: there is no
-                                   * text, and the reason is written */
-    URLPATTERN_OUT_OF_MEMORY = 7, /* memory ran out; the patterns are as they were */
-    URLPATTERN_NO_PATTERN = 8,    /* no pattern of this index, no component or group of a number;
+                                   * text, and the reason is written; or static routes have
+                                   * faults */
+    URLPATTERN_OUT_OF_MEMORY = 7, /* memory ran out; the patterns are as they were, static routes
+                                   * that were to be read are gone */
+    URLPATTERN_NO_PATTERN = 8,    /* no pattern, rule or fault of this index, no component or group
+                                   * of a number;
                                    * of `urlpattern_link` and `urlpattern_generate` also: a part
                                    * that is given is no text */
     URLPATTERN_TOO_SMALL = 9,     /* too little room; `needed` has the size that is needed */
@@ -369,6 +372,7 @@ urlpattern_status urlpattern_has_meaning(urlpattern_list *patterns, size_t index
 #include "urlpattern_diagnosing.h"
 #include "urlpattern_policy.h"
 #include "urlpattern_router.h"
+#include "urlpattern_static_routes.h"
 
 #include "urlpattern_nulls.h"
 #include "urlpattern_router_nulls.h"

@@ -305,5 +305,6 @@ class list {
 
 #include "urlpattern_policy.hpp"
 #include "urlpattern_router.hpp"
+#include "urlpattern_static_routes.hpp"
 
 #endif

@@ -29,15 +29,18 @@ from ._match import Match
 from ._pattern import URLPattern
 from ._policy import Decision, URLPolicy
 from ._router import MethodNotAllowed, RouteMatch, URLPatternRouter
+from ._static_routes import RouteDecision, RouteFault, StaticRoutes, StaticRoutesError
 from ._texts import Groups, Init, URLPatternError
 
 __all__ = [
-    *("Decision", "Groups", "Init", "Match", "MethodNotAllowed", "RouteMatch", "URLPattern"),
-    *("URLPatternError", "URLPatternList", "URLPatternRouter", "URLPolicy", "version"),
+    *("Decision", "Groups", "Init", "Match", "MethodNotAllowed", "RouteDecision", "RouteFault"),
+    *("RouteMatch", "StaticRoutes", "StaticRoutesError", "URLPattern", "URLPatternError"),
+    *("URLPatternList", "URLPatternRouter", "URLPolicy", "version"),
 ]
 
 _classes = Match, MethodNotAllowed, RouteMatch, URLPattern, URLPatternList, URLPatternRouter
-for _each in (*_classes, Decision, URLPatternError, URLPolicy):
+_routes = RouteDecision, RouteFault, StaticRoutes, StaticRoutesError
+for _each in (*_classes, *_routes, Decision, URLPatternError, URLPolicy):
     _each.__module__ = __name__
 
 

@@ -25,6 +25,9 @@ DECISIONS = {
     2: "not a URL", 4: "too long", 5: "not UTF-8", 7: "out of memory", 13: "credentials",
 }
 
+# The source of static routes that is a cache with a name.
+NAMED_CACHE = 4
+
 # What is written in place of an index where no rule decides.
 NO_RULE = ctypes.c_size_t(-1).value
 
@@ -138,6 +141,15 @@ class PolicyHandle(_Handle):
         free(address(self))
 
 
+class StaticRoutesHandle(_Handle):
+    """Static routes of the library. They are freed when nothing refers to this object any more."""
+
+    def __del__(
+        self, free: Call = _function("static_routes_free", result=None), address: Any = ctypes.byref
+    ) -> None:
+        free(address(self))
+
+
 def address(name: str) -> int:
     """The address of a function of the library."""
     function = getattr(_library, f"urlpattern_{name}")
@@ -154,6 +166,17 @@ class Place(ctypes.Structure):
     """The part of a text that is at fault."""
 
     _fields_ = [("subject", ctypes.c_uint32), ("start", ctypes.c_size_t), ("end", ctypes.c_size_t)]
+
+
+class RouteFaultPlace(ctypes.Structure):
+    """The rule and the member that are at fault, why, and the part of a pattern that is."""
+
+    _fields_ = [
+        ("rule", ctypes.c_size_t),
+        ("member", ctypes.c_uint32),
+        ("reason", ctypes.c_uint32),
+        ("place", Place),
+    ]
 
 
 class Given(ctypes.Structure):
@@ -190,11 +213,15 @@ def _declared() -> Any:
     router = [f"router_{name}" for name in routing]
     named = [ctypes.POINTER(RouterHandle), *init, *init]
     policy = ctypes.POINTER(PolicyHandle)
+    static = ("fault", "text_at_fault", "decide", "source")
+    routes = ctypes.POINTER(StaticRoutesHandle)
     pairs = ("covers", "covering_reason", "counterexample", "overlaps", "is_same")
     comparing = [f"{name}_{which}" for name in pairs for which in ("within", "between")]
     return SimpleNamespace(
         **{name: _function(name) for name in (*matching, *of_init, *writing, *telling, *comparing)},
         **{name: _function(name) for name in router},
+        **{f"static_routes_{name}": _function(f"static_routes_{name}") for name in static},
+        static_routes_read=_function("static_routes_read", [routes, *string, ignores]),
         add=_function("add", [handle, *string, ignores]),
         add_init=_function("add_init", [handle, *init, ignores]),
         policy_add=_function("policy_add", [policy, ignores, *string, ignores]),
@@ -314,14 +341,14 @@ def checked(status: int) -> bool:
     return False
 
 
-def written(function: Call, *arguments: Any) -> Tuple[int, str]:
-    """Calls what writes a text, with as much room as it needs. Returns the status and the text,
-    which is empty if none is written."""
+def written(function: Call, *arguments: Any, after: Tuple[Any, ...] = ()) -> Tuple[int, str]:
+    """Calls what writes a text, with as much room as it needs, and with arguments after that.
+    Returns the status and the text, which is empty if none is written."""
     room = memory()
-    status = function(*arguments, *room.for_text)
+    status = function(*arguments, *room.for_text, *after)
     while status == TOO_SMALL:
         room = Memory(room.number.value)
-        status = function(*arguments, *room.for_text)
+        status = function(*arguments, *room.for_text, *after)
     is_written = status == DONE or status == REFUSED
     text = room.bytes[: room.number.value].decode() if is_written else ""
     room.leave()

@@ -204,10 +204,10 @@ def refusal(source: Source) -> Exception:
         text = pattern.get("baseURL" if in_base else component or "")
     elif not in_base:
         text = pattern
-    return URLPatternError(reason, _indices(text, place), in_base, component)
+    return URLPatternError(reason, indices(text, place), in_base, component)
 
 
-def _indices(text: Optional[str], place: Any) -> Optional[Tuple[int, int]]:
+def indices(text: Optional[str], place: Any) -> Optional[Tuple[int, int]]:
     """A place as indices of its text, if there is one."""
     if text is None:
         return None

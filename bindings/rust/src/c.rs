@@ -20,6 +20,12 @@ pub const DENY: u32 = 0;
 pub const ALLOW: u32 = 1;
 pub const DENY_CREDENTIALS: u32 = 13;
 
+/// Where the response to a request comes from, apart from a race.
+pub const NETWORK: u32 = 1;
+pub const FETCH_EVENT: u32 = 2;
+pub const CACHE: u32 = 3;
+pub const NAMED_CACHE: u32 = 4;
+
 #[repr(C)]
 pub struct List {
     pub made_by: u32,
@@ -36,6 +42,21 @@ pub struct Router {
 pub struct Policy {
     pub made_by: u32,
     pub at: *mut c_void,
+}
+
+#[repr(C)]
+pub struct StaticRoutes {
+    pub made_by: u32,
+    pub at: *mut c_void,
+}
+
+#[repr(C)]
+#[derive(Default)]
+pub struct RouteFault {
+    pub rule: usize,
+    pub member: u32,
+    pub reason: u32,
+    pub place: Place,
 }
 
 #[repr(C)]
@@ -139,4 +160,10 @@ extern "C" {
     pub fn urlpattern_policy_free(policy: *mut Policy);
     pub fn urlpattern_policy_share(policy: *mut Policy, other: *mut Policy) -> u32;
     pub fn urlpattern_policy_decide(policy: *mut Policy, url: *const u8, length: usize, base: *const u8, base_length: usize, rule: *mut usize) -> u32;
+    pub fn urlpattern_static_routes_read(routes: *mut StaticRoutes, script: *const u8, script_length: usize, json: *const u8, length: usize, has_handler: bool) -> u32;
+    pub fn urlpattern_static_routes_fault(routes: *mut StaticRoutes, index: usize, buffer: *mut u8, room: usize, needed: *mut usize, fault: *mut RouteFault) -> u32;
+    pub fn urlpattern_static_routes_text_at_fault(routes: *mut StaticRoutes, index: usize, buffer: *mut u8, room: usize, needed: *mut usize) -> u32;
+    pub fn urlpattern_static_routes_decide(routes: *mut StaticRoutes, url: *const u8, length: usize, method: *const u8, method_length: usize, mode: *const u8, mode_length: usize, destination: *const u8, destination_length: usize, is_running: bool, rule: *mut usize) -> u32;
+    pub fn urlpattern_static_routes_source(routes: *mut StaticRoutes, index: usize, source: *mut u32, buffer: *mut u8, room: usize, needed: *mut usize) -> u32;
+    pub fn urlpattern_static_routes_free(routes: *mut StaticRoutes);
 }

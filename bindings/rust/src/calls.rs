@@ -138,11 +138,7 @@ pub(crate) fn pushed(
         start,
         end,
     } = place.into_inner();
-    let subject = match subject {
-        0 => Subject::Pattern,
-        1 => Subject::Base,
-        number => Subject::Component(ComponentName::of(number - 2).expect("a component")),
-    };
+    let subject = subject_of(subject);
     match status {
         c::DONE => Err(Error::Refused {
             reason,
@@ -152,6 +148,15 @@ pub(crate) fn pushed(
         }),
         c::NO_URL => Err(Error::RefusedBase),
         _ => Err(Error::OutOfMemory),
+    }
+}
+
+/// Which text a place lies in, by its number.
+pub(crate) fn subject_of(number: u32) -> Subject {
+    match number {
+        0 => Subject::Pattern,
+        1 => Subject::Base,
+        number => Subject::Component(ComponentName::of(number - 2).expect("a component")),
     }
 }
 

@@ -36,6 +36,7 @@ mod pattern;
 mod policy;
 mod result;
 mod router;
+mod static_routes;
 
 pub use error::{Error, Subject};
 pub use init::{ComponentName, UrlPatternInit, UrlPatternOptions};
@@ -45,6 +46,7 @@ pub use pattern::UrlPattern;
 pub use policy::{Decision, DenyReason, PolicyOptions, UrlPolicy};
 pub use result::{Captures, UrlPatternComponentResult, UrlPatternResult};
 pub use router::{PatternSource, Routed, UrlPatternRouter};
+pub use static_routes::{RouteFault, RouteRequest, RouteSource, StaticRoutes, StaticRoutesError};
 
 /// The version of the library: 1,000 times its first number, and its second.
 pub fn version() -> u32 {

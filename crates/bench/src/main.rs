@@ -26,6 +26,7 @@ mod policy_texts;
 mod recorded;
 mod replay;
 mod report;
+mod route_analysis;
 mod routes;
 mod rules;
 mod texts;

@@ -110,6 +110,10 @@ pub enum Operation {
     Dead,
     /// Adds static routes, and decides about requests.
     Routes,
+    /// Finds the rules of static routes that never decide, with those that take all.
+    RouteReach,
+    /// Finds the rules of two lists of static routes that decide about the same request.
+    RoutesDiff,
     /// Reads a policy from a text, and writes it.
     PolicyText,
     /// Reads a policy from JSON, and writes it.
@@ -154,6 +158,8 @@ pub const OPERATIONS: &[(&str, Operation)] = &[
     ("within", Operation::Within),
     ("dead", Operation::Dead),
     ("routes", Operation::Routes),
+    ("route_reach", Operation::RouteReach),
+    ("routes_diff", Operation::RoutesDiff),
     ("policy_text", Operation::PolicyText),
     ("policy_json", Operation::PolicyJson),
     ("meaning", Operation::Meaning),

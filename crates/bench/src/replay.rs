@@ -3,7 +3,7 @@
 mod first_match;
 
 use crate::{constructors, contending, diagnoses, differences, inputs, plain, policies, trees};
-use crate::{generated, links, patterns, policy_json, policy_texts, routes, rules};
+use crate::{generated, links, patterns, policy_json, policy_texts, route_analysis, routes, rules};
 use crate::recorded::{
     Answer, Fault, OPERATIONS, Operation, field, is_set, named, optional_text, text,
 };
@@ -121,6 +121,8 @@ fn is_same_over<R: RegExp>(operation: Operation, case: &Case<'_>) -> Result<bool
         Operation::Within => differences::is_same_within(case),
         Operation::Dead => differences::are_same_dead(case),
         Operation::Routes => routes::is_same(case),
+        Operation::RouteReach => route_analysis::is_same_reach(case),
+        Operation::RoutesDiff => route_analysis::is_same(case),
         Operation::PolicyText => policy_texts::is_same(case),
         Operation::PolicyJson => policy_json::is_same(case),
         Operation::Meaning => rules::is_same_meaning(case),

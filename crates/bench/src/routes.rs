@@ -28,7 +28,7 @@ pub fn is_same(case: &Case<'_>) -> Result<bool, Fault> {
         }
     }
     let kept = recorded.get("kept").and_then(Value::as_u64);
-    if kept != Some(rules.len() as u64) {
+    if kept != Some(rules.table.rules.len() as u64) {
         return Ok(false);
     }
     for request in list(recorded, "decisions")? {
@@ -40,7 +40,7 @@ pub fn is_same(case: &Case<'_>) -> Result<bool, Fault> {
 }
 
 /// The URL of a text.
-fn url(alloc: Global, text: &str) -> Result<Url, Fault> {
+pub fn url(alloc: Global, text: &str) -> Result<Url, Fault> {
     match given::url(alloc, text) {
         Ok(url) => Ok(url),
         Err(Error::OutOfMemory) => Err(Fault::OutOfMemory),

@@ -1,24 +1,25 @@
-//! The texts and options of each command, as `clap` has them.
+//! The texts and options of each command.
 
-use clap::{Arg, ArgAction, Command as Parser};
+use crate::options::{INIT, PATTERN_FILES, PATTERNS, with_operands, with_options};
+use clap::Command as Parser;
 use std::alloc::{AllocError, Global};
-
-/// The id of the operands.
-pub(crate) const OPERANDS: &str = "operands";
-
-/// The id of the option that gives a pattern as an init.
-pub(crate) const INIT: &str = "init";
-
-/// The names of the components, which the options for their patterns have too.
-const COMPONENTS: &[&str] = &[
-    "protocol", "username", "password", "hostname", "port", "pathname", "search", "hash",
-];
-
-/// The title of the options that give a pattern by component.
-const BY_COMPONENT: &str = "In place of PATTERN, by component (others match any text)";
 
 /// The version of this port, and that of the crate which it ports.
 const VERSION: &str = "2.0.0 (urlpattern 0.6.0)";
+
+/// What the help of the program says of patterns.
+const PATTERNS_HELP: &str = "\
+In a pattern:
+  :id          a segment, up to a slash in a path, a dot in a host
+  *            any text, with slashes and dots
+  (\\d+)        what a regular expression matches; :id(\\d+) names it
+  {..}?        may be left out; * and + stand for repeats, also after a group
+  \\?           the character; so a query begins after a group or *
+
+Without a port only the default one matches, without a query or hash any. The
+pattern https://{*.}?example.com/ also matches example.com itself.
+
+Example: urlpat 'https://example.com/users/:id' https://example.com/users/7";
 
 /// The texts and options of a command.
 #[derive(Clone, Copy)]
@@ -31,8 +32,8 @@ pub(crate) struct Form {
     pub about: &'static str,
     /// What help says after the options.
     pub more: &'static str,
-    /// The ids of the options.
-    pub options: &'static [&'static str],
+    /// The ids of the options, by groups.
+    pub options: &'static [&'static [&'static str]],
     /// The least number of operands.
     pub least: usize,
     /// The most operands. Ignored for the commands whose usage is fixed.
@@ -44,16 +45,32 @@ pub(crate) struct Form {
 impl Form {
     /// Whether options may give the pattern, by component, in place of the first operand.
     pub(crate) fn takes_init(&self) -> bool {
-        self.options.iter().any(|id| *id == INIT)
+        self.options
+            .iter()
+            .any(|ids| ids.iter().any(|id| *id == INIT))
     }
 }
 
+/// The options of most commands.
+const COMMON: &[&str] = &["base", "ignore-case", "json"];
+
+/// The options of commands that read lines.
+const LINES: &[&str] = &[
+    "line-number",
+    "with-filename",
+    "no-filename",
+    "line-buffered",
+];
+
+/// The options of lines that have fields.
+const FIELDS: &[&str] = &["field", "format"];
+
 /// The options of `match`, and of the program, which stand before a command or among the arguments
 /// of the short form.
-const MATCHING: &[&str] = &["base", "ignore-case", "json", "explain-errors", INIT];
+const MATCHING: &[&[&str]] = &[COMMON, &["explain-errors", INIT]];
 
 /// The commands, in the order of the help.
-pub(crate) const FORMS: [Form; 10] = [
+pub(crate) const FORMS: [Form; 12] = [
     Form {
         name: "match",
         usage: "urlpat match [OPTIONS] PATTERN BASE INPUT",
@@ -79,7 +96,7 @@ index of the pattern are printed, counted from 0, and then a line for each
 group. If none matches, `no match` is printed, and the status is 1.
 
 Example: urlpat first https://example.com/ /users/7 /about /users/:id",
-        options: &["base", "ignore-case", "json", "explain-errors"],
+        options: &[COMMON, &["explain-errors"]],
         least: 3,
         most: 3,
         is_fixed: true,
@@ -89,23 +106,18 @@ Example: urlpat first https://example.com/ /users/7 /about /users/:id",
         usage: "urlpat filter [OPTIONS] PATTERN [BASE] [FILE..]",
         about: "Print the lines whose URLs match",
         more: "\
-BASE is a URL for the pattern and the lines, or - for none. The lines are those
+BASE is a URL for the patterns and the lines, or - for none. The lines are those
 of the files, or of standard input, which is also the file -. A line that is no
-URL does not match. If no line is selected, the status is 1.
+URL does not match. If no line is selected, the status is 1. With -e or -f there
+is no PATTERN.
 
 Example: urlpat filter https://example.com/users/:id --group pathname.id",
         options: &[
-            "base",
-            "ignore-case",
-            "json",
-            "not",
-            "count",
-            "group",
-            "line-number",
-            "with-filename",
-            "no-filename",
-            "line-buffered",
-            INIT,
+            COMMON,
+            &["not", "count", "group"],
+            LINES,
+            FIELDS,
+            &[PATTERNS, PATTERN_FILES, INIT],
         ],
         least: 1,
         most: usize::MAX,
@@ -116,23 +128,36 @@ Example: urlpat filter https://example.com/users/:id --group pathname.id",
         usage: "urlpat route [OPTIONS] TABLE [BASE] [FILE..]",
         about: "Find the pattern of a table that matches the URL of each line",
         more: "\
-TABLE is a file with a pattern a line, and its name after a tab, if it has one.
+TABLE is a file with a pattern a line and, after a tab or spaces, perhaps its
+name; or - for standard input. A line with a tab is cut there, not at spaces.
 Lines that are empty or begin with # are skipped. BASE is a URL for the patterns
 and the lines, or - for none. The lines are those of the files, or of standard
 input, which is also the file -. For each line the number of the pattern's line,
 its name and its groups are printed with tabs between, or - if no pattern
-matches. If none matches any line, the status is 1.
+matches. If none matches any line, the status is 1. With --field each line is
+printed, with a further field: the name, or else the pattern. All files have the
+same fields, and none with a line end.
 
 Example: urlpat route routes.txt https://example.com/ urls.txt",
-        options: &[
-            "base",
-            "ignore-case",
-            "json",
-            "line-number",
-            "with-filename",
-            "no-filename",
-            "line-buffered",
-        ],
+        options: &[COMMON, LINES, FIELDS, &["with-line", "summary"]],
+        least: 1,
+        most: usize::MAX,
+        is_fixed: false,
+    },
+    Form {
+        name: "rewrite",
+        usage: "urlpat rewrite [OPTIONS] TABLE [BASE] [FILE..]",
+        about: "Write the URL of each line anew, by the rules of a table",
+        more: "\
+TABLE is a file with a rule a line: a pattern, a second pattern, and a status
+code if you like, with tabs between, or spaces in lines without a tab. A URL
+that matches the first pattern is written by the second, with its groups. The
+first rule that matches counts; other lines are printed as they came, or empty
+if they are not UTF-8 or too long. The code is printed only with --json. BASE
+and FILE are as those of `route`. If no line is rewritten, the status is 1.
+
+Example: urlpat rewrite redirects.txt https://example.com/ urls.txt",
+        options: &[COMMON, LINES],
         least: 1,
         most: usize::MAX,
         is_fixed: false,
@@ -146,7 +171,7 @@ BASE is a URL for the pattern and the input, or - for none. If the input does
 not match, the status is 1.
 
 Example: urlpat explain https://example.com/:id https://example.com/7",
-        options: &["base", "ignore-case", "json", INIT],
+        options: &[COMMON, &[INIT]],
         least: 1,
         most: 3,
         is_fixed: false,
@@ -161,7 +186,7 @@ no other component has it. BASE is a URL for the pattern, or - for none. If
 there is no such URL, the status is 1.
 
 Example: urlpat link https://example.com/users/:id id=7",
-        options: &["base", "ignore-case", INIT],
+        options: &[&["base", "ignore-case", INIT]],
         least: 1,
         most: usize::MAX,
         is_fixed: false,
@@ -173,10 +198,10 @@ Example: urlpat link https://example.com/users/:id id=7",
         more: "\
 If not, the component in which they differ is printed, and a text for each
 component that ASKED matches and PATTERN does not, if one is known; the status
-is 1. If it is not known, the status is 2.
+is 1. If it is not known, the status is 2. Patterns of a path need --base.
 
 Example: urlpat covers 'https://example.com/*' https://example.com/users/:id",
-        options: &["base", "ignore-case", "json"],
+        options: &[COMMON],
         least: 2,
         most: 2,
         is_fixed: false,
@@ -191,9 +216,26 @@ patterns that cover it together, with tabs between. If there is none, the status
 is 1, or 2 if it is not known. TABLE and BASE are as those of `route`.
 
 Example: urlpat unreachable routes.txt https://example.com/",
-        options: &["base", "ignore-case", "json"],
+        options: &[COMMON],
         least: 1,
         most: 2,
+        is_fixed: false,
+    },
+    Form {
+        name: "check",
+        usage: "urlpat check [OPTIONS] TABLE.. [BASE]",
+        about: "Find what is wrong with tables of patterns",
+        more: "\
+A line is printed for each fault, with the file, the line and the column: for
+patterns that are rejected, or never the first match; for pairs of patterns
+whose order decides, with what both match; and for names that a table has twice.
+If there are faults, the status is 1; if that is not known, 2. TABLE is as that
+of `route`. BASE is a URL, as the last word or by --base; the word - is a TABLE.
+
+Example: urlpat check routes.txt https://example.com/",
+        options: &[COMMON],
+        least: 1,
+        most: usize::MAX,
         is_fixed: false,
     },
     Form {
@@ -201,16 +243,17 @@ Example: urlpat unreachable routes.txt https://example.com/",
         usage: "urlpat policy [OPTIONS] decide|check|diff FILE..",
         about: "Decide about URLs by a policy, check it, or compare two",
         more: "\
-A file has lines such as `allow PATTERN` and `deny PATTERN`, or JSON. Rules are
-counted from 1.
+A file has lines such as `allow PATTERN` and `deny PATTERN`, or JSON. The first
+rule that matches decides; if none does, a URL is denied, but by the line
+`default allow`. Rules are counted from 1.
 
   decide FILE [URL..]  decide about URLs, or the lines of standard input; the
                        status is 1 if one is denied
-  check FILE           print what is wrong with the file; then it is 1
+  check FILE           print why the file is rejected; then it is 1
   diff OLD NEW         print what only one policy allows; then it is 1
 
 Example: urlpat policy decide policy.txt https://example.com/users/7",
-        options: &["json"],
+        options: &[&["json"]],
         least: 2,
         most: usize::MAX,
         is_fixed: false,
@@ -225,107 +268,12 @@ stands for a segment, which ends at a dot in a hostname and at a slash in a
 pathname. By default there are no segments.
 
 Example: urlpat component pathname /users/:id",
-        options: &["explain-errors"],
+        options: &[&["explain-errors"]],
         least: 2,
         most: 2,
         is_fixed: true,
     },
 ];
-
-/// The option with this id.
-fn option<'a>(alloc: Global, id: &'a str) -> Result<Arg<'a>, AllocError> {
-    let arg = Arg::new(alloc, id).long(id);
-    Ok(match id {
-        "base" => arg
-            .value_name("URL")
-            .help("Base URL; then there is no BASE among the operands"),
-        "group" => arg
-            .value_name("GROUP")
-            .help("Print what a group captured, such as pathname.id, or id")
-            .conflicts_with_all(&["not", "count", "json"])?,
-        "ignore-case" => flag(arg, "Ignore case in patterns").short('i'),
-        "init" => arg
-            .value_name("JSON")
-            .help("An init, such as {\"pathname\": \"/users/:id\"}")
-            .help_heading(BY_COMPONENT)
-            .conflicts_with_all(&[
-                "protocol", "username", "password", "hostname", "port", "pathname", "search",
-                "hash",
-            ])?,
-        "json" => flag(arg, "Print results as JSON"),
-        "explain-errors" => flag(arg, "Print the reason and the place of an error"),
-        "line-number" => flag(arg, "Print the number of each line before it")
-            .short('n')
-            .conflicts_with("json")?,
-        "with-filename" => flag(arg, "Print the name of the file before each line")
-            .short('H')
-            .conflicts_with("json")?,
-        "no-filename" => { flag(arg, "Print no names of files").conflicts_with("with-filename")? }
-        "line-buffered" => flag(arg, "Write the output for each line at once"),
-        "not" => flag(arg, "Select the lines that do not match")
-            .short('v')
-            .conflicts_with("json")?,
-        _ => flag(arg, "Print how many lines are selected, and no line")
-            .short('c')
-            .conflicts_with("json")?,
-    })
-}
-
-/// Adds the options that give the patterns of single components, by their names.
-fn with_components<'a>(
-    alloc: Global,
-    parser: Parser<'a>,
-    names: &[&'a str],
-) -> Result<Parser<'a>, AllocError> {
-    let mut parser = parser;
-    for name in names {
-        parser = parser.arg(component(alloc, name))?;
-    }
-    Ok(parser)
-}
-
-/// The option that gives the pattern of the component with this name.
-fn component<'a>(alloc: Global, name: &'a str) -> Arg<'a> {
-    Arg::new(alloc, name)
-        .long(name)
-        .value_name("PATTERN")
-        .help_heading(BY_COMPONENT)
-}
-
-/// An option without a value.
-fn flag<'a>(arg: Arg<'a>, help: &'a str) -> Arg<'a> {
-    arg.action(ArgAction::SetTrue).help(help)
-}
-
-/// Adds options to a command, and beside `--init` those for single components.
-fn with_options<'a>(
-    alloc: Global,
-    parser: Parser<'a>,
-    options: &[&'a str],
-) -> Result<Parser<'a>, AllocError> {
-    let mut parser = parser.args_override_self(true);
-    for id in options {
-        parser = parser.arg(option(alloc, id)?)?;
-        if *id == INIT {
-            parser = with_components(alloc, parser, COMPONENTS)?;
-        }
-    }
-    Ok(parser)
-}
-
-/// Adds operands to a command.
-fn with_operands<'a>(
-    alloc: Global,
-    parser: Parser<'a>,
-    takes_hyphens: bool,
-) -> Result<Parser<'a>, AllocError> {
-    let operands = Arg::new(alloc, OPERANDS)
-        .action(ArgAction::Append)
-        .num_args(0..)
-        .hide(true)
-        .allow_hyphen_values(takes_hyphens);
-    parser.arg(operands)
-}
 
 /// The command of a form. `takes_hyphens` says whether a word that begins with a hyphen and is no
 /// option is an operand.
@@ -356,7 +304,7 @@ pub(crate) fn program<'a>(
         .propagate_version(true)
         .about("urlpat matches URLs against patterns, such as https://example.com/users/:id")
         .override_usage("urlpat [OPTIONS] PATTERN URL\n       urlpat COMMAND ..")
-        .after_help("Example: urlpat 'https://example.com/users/:id' https://example.com/users/7")
+        .after_help(PATTERNS_HELP)
         .allow_external_subcommands(accepts_any);
     let mut parser = with_options(alloc, parser, MATCHING)?;
     for form in &FORMS {

@@ -7,27 +7,35 @@
 ghost use Rattle.std.specs.Prelude.{⊤};
 
 mod forms;
+mod init_options;
+mod line_operands;
 mod operands;
+mod options;
 mod output;
 mod parsing;
 mod printer;
 mod running;
 
-use operands::{STANDARD_INPUT, of_file};
+use init_options::given_init;
+use line_operands::of_file;
+use operands::STANDARD_INPUT;
 use output::{Output, report_output};
 use parsing::{
-    Asked, COMPONENT_USAGE, FIRST_USAGE, MATCH_USAGE, asked_of, given_init, has_fixed_usage,
-    misused, name_fixed, parse,
+    Asked, COMPONENT_USAGE, FIRST_USAGE, MATCH_USAGE, asked_of, has_fixed_usage, misused,
+    name_fixed, parse,
 };
 use printer::Printer;
 use running::{run, status_of_both};
 use std::alloc::AllocError;
+use std::cell::OnceCell;
 use std::fs::File;
-use std::io::{BufRead, BufReader, BufWriter, IsTerminal, Write};
+use std::io::{BufRead, BufReader, BufWriter, IsTerminal, Read, Write};
 use std::process::ExitCode;
 use std::{env, fs, io};
 use urlpat_commands::Tables;
-use urlpat_matching::{Arguments, DONE, FAILED, NO_MATCH, fail};
+use urlpat_matching::{
+    Arguments, Command, DONE, FAILED, GivenPatterns, NO_MATCH, RouteShape, fail,
+};
 use urlpat_policies::run_on_policies;
 use urlpattern::Error;
 use urlpattern::regexp::PatternRegexp;
@@ -36,6 +44,25 @@ use urlpattern::regexp::PatternRegexp;
 #[derive(Drop)]
 struct HostFiles<'a> {
     rt: &'a HostRuntime,
+    /// The bytes of standard input, once a table was read from it.
+    input: OnceCell<Vec<u8>>,
+}
+
+impl<'a> HostFiles<'a> {
+    /// The files of the host. Nothing is read yet.
+    fn new(rt: &'a HostRuntime) -> HostFiles<'a> {
+        HostFiles {
+            rt,
+            input: OnceCell::new(),
+        }
+    }
+
+    /// Reads standard input to its end.
+    fn read_input(&self) -> io::Result<Vec<u8>> {
+        let mut bytes = Vec::new(self.rt.alloc());
+        self.rt.stdin().read_to_end(&mut bytes)?;
+        Ok(bytes)
+    }
 }
 
 impl Tables for HostFiles<'_> {
@@ -43,7 +70,13 @@ impl Tables for HostFiles<'_> {
     ghost Has = { λ files name table. ⊤ };
 
     fn read(&self, name: &str) -> io::Result<Vec<u8>> {
-        fs::read(self.rt, name)
+        if name != STANDARD_INPUT {
+            return fs::read(self.rt, name);
+        }
+        let bytes = self.input.get_or_try_init(|| self.read_input())?;
+        let mut copy = Vec::new(self.rt.alloc());
+        copy.extend_from_slice(bytes)?;
+        Ok(copy)
     }
 }
 
@@ -121,11 +154,14 @@ fn run_buffered(rt: &HostRuntime, asked: Asked<'_, '_>) -> io::Result<u8> {
     let mut out = Output::new(BufWriter::new(rt.alloc(), rt.stdout())?);
     let mut err = rt.stderr();
     // At a terminal a person reads the errors.
-    let asked = explained(asked, err.is_terminal());
+    let asked = shown(
+        explained(asked, err.is_terminal()),
+        rt.stdout().is_terminal(),
+    );
+    let files = HostFiles::new(rt);
     let status = match asked {
-        Asked::Command(arguments) => run_on_lines(rt, arguments, &mut out, &mut err)?,
+        Asked::Command(arguments) => run_on_lines(&files, arguments, &mut out, &mut err)?,
         Asked::Policy(command, json) => {
-            let files = HostFiles { rt };
             let mut input = BufReader::new(rt.alloc(), rt.stdin())?;
             run_on_policies::<PatternRegexp, _, _, _, _, _>(
                 rt.alloc(),
@@ -146,48 +182,77 @@ fn run_buffered(rt: &HostRuntime, asked: Asked<'_, '_>) -> io::Result<u8> {
 }
 
 /// Runs a command on the lines of each of its files, or else of standard input. Returns the exit
-/// status.
+/// status. Standard input that would have a table and lines is reported.
 fn run_on_lines<Out: Write, Err: Write>(
-    rt: &HostRuntime,
+    files: &HostFiles<'_>,
     arguments: Arguments<'_, '_>,
-    out: &mut Out,
+    out: &mut Output<Out>,
     err: &mut Err,
 ) -> io::Result<u8> {
-    if arguments.files.is_empty() {
-        run_on_input(rt, arguments, out, err)
+    if takes_input_twice(arguments) {
+        let _ = err.write_all(b"urlpat: standard input cannot have both a table and lines\n");
+        Ok(FAILED)
+    } else if arguments.files.is_empty() {
+        run_on_input(files, arguments, out, err)
     } else {
-        run_on_files(rt, arguments, out, err)
+        run_on_files(files, arguments, out, err)
     }
+}
+
+/// Whether standard input would have both a table and lines.
+fn takes_input_twice(arguments: Arguments<'_, '_>) -> bool {
+    let has_table = match arguments.command {
+        Command::Filter(asked) => match asked.patterns {
+            GivenPatterns::Several(_, tables) => has_input(tables),
+            GivenPatterns::One(_) => false,
+        },
+        Command::Route(asked) => asked.file == STANDARD_INPUT,
+        Command::Rewrite(asked) => asked.file == STANDARD_INPUT,
+        _ => false,
+    };
+    has_table && (arguments.files.is_empty() || has_input(arguments.files))
+}
+
+/// Whether standard input is one of some files.
+fn has_input(files: &[&str]) -> bool {
+    files.iter().any(|file| *file == STANDARD_INPUT)
 }
 
 /// Runs a command on the lines of standard input. Returns the exit status.
 fn run_on_input<Out: Write, Err: Write>(
-    rt: &HostRuntime,
+    files: &HostFiles<'_>,
     arguments: Arguments<'_, '_>,
     out: &mut Out,
     err: &mut Err,
 ) -> io::Result<u8> {
-    let mut input = BufReader::new(rt.alloc(), rt.stdin())?;
-    Ok(run_with(rt, arguments, &mut input, out, err))
+    let mut input = BufReader::new(files.rt.alloc(), files.rt.stdin())?;
+    Ok(run_with(files, arguments, &mut input, out, err))
 }
 
-/// Runs a command on the lines of each of its files, until a run fails. A file that cannot be
-/// opened is reported, and the others are read. Returns the exit status.
+/// Runs a command on the lines of each of its files. The output for each begins with a line of its
+/// own, and a header is printed once. A file that cannot be read is reported, and the others are
+/// read, unless the first run or the output fails. Returns the exit status.
 fn run_on_files<Out: Write, Err: Write>(
-    rt: &HostRuntime,
+    files: &HostFiles<'_>,
     arguments: Arguments<'_, '_>,
-    out: &mut Out,
+    out: &mut Output<Out>,
     err: &mut Err,
 ) -> io::Result<u8> {
     let mut status = NO_MATCH;
+    let mut headed = true;
+    let mut succeeded = false;
     for file in arguments.files {
+        let Ok(()) = out.end_line() else {
+            return Ok(FAILED);
+        };
         let last = if *file == STANDARD_INPUT {
-            run_on_input(rt, arguments, out, err)?
+            run_on_input(files, of_file(arguments, None, headed), out, err)?
         } else {
-            match File::open(rt, *file) {
+            match File::open(files.rt, *file) {
                 Ok(opened) => {
-                    let mut input = BufReader::new(rt.alloc(), opened)?;
-                    run_with(rt, of_file(arguments, *file), &mut input, out, err)
+                    let mut input = BufReader::new(files.rt.alloc(), opened)?;
+                    let asked = of_file(arguments, Some(*file), headed);
+                    run_with(files, asked, &mut input, out, err)
                 }
                 Err(error) => {
                     let _ = writeln!(err, "urlpat: the file `{file}` cannot be read: {error}");
@@ -196,24 +261,27 @@ fn run_on_files<Out: Write, Err: Write>(
                 }
             }
         };
+        headed = false;
         status = status_of_both(status, last);
-        if last == FAILED {
+        // Where a run succeeded, the arguments are right, and only a file or the output can fail.
+        if last == FAILED && (!succeeded || out.failure().is_some()) {
             break;
         }
+        succeeded = succeeded || last != FAILED;
     }
     Ok(status)
 }
 
 /// Runs a command on the lines of a reader. Returns the exit status.
 fn run_with<In: BufRead, Out: Write, Err: Write>(
-    rt: &HostRuntime,
+    files: &HostFiles<'_>,
     arguments: Arguments<'_, '_>,
     input: &mut In,
     out: &mut Out,
     err: &mut Err,
 ) -> u8 {
-    let files = HostFiles { rt };
-    run(rt.alloc(), &files, &Printer, arguments, input, out, err)
+    let alloc = files.rt.alloc();
+    run(alloc, files, &Printer, arguments, input, out, err)
 }
 
 /// What is asked for, with errors explained if they are read by a person.
@@ -224,6 +292,28 @@ fn explained<'m, 'w>(asked: Asked<'m, 'w>, is_read: bool) -> Asked<'m, 'w> {
             Asked::Command(arguments)
         }
         Asked::Policy(_, _) => asked,
+    }
+}
+
+/// What is asked for, if the output is read by a person: each line is written at once, and a
+/// summary has bars.
+fn shown<'m, 'w>(asked: Asked<'m, 'w>, is_read: bool) -> Asked<'m, 'w> {
+    match asked {
+        Asked::Command(mut arguments) if is_read => {
+            match &mut arguments.command {
+                Command::Filter(asked) => asked.lines.style.flushed = true,
+                Command::Route(asked) => {
+                    asked.lines.style.flushed = true;
+                    if let RouteShape::Summary(_) = asked.shape {
+                        asked.shape = RouteShape::Summary(true);
+                    }
+                }
+                Command::Rewrite(asked) => asked.lines.style.flushed = true,
+                _ => {}
+            }
+            Asked::Command(arguments)
+        }
+        _ => asked,
     }
 }
 

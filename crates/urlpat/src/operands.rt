@@ -1,11 +1,11 @@
 //! The operands of a command, which are its arguments without the options.
 
-use crate::forms::OPERANDS;
+use crate::line_operands::{filter_of, rewrite_of, route_of};
+use crate::options::OPERANDS;
 use clap::ArgMatches;
 use urlpat_matching::{
-    Arguments, AskedShape, Command, ComponentArguments, CoversArguments, ExplainArguments,
-    FilterArguments, FirstArguments, GivenPattern, Kind, LineStyle, LinkArguments, MatchArguments,
-    RouteArguments, TableArguments,
+    CheckArguments, Command, ComponentArguments, CoversArguments, ExplainArguments, FirstArguments,
+    GivenPattern, Kind, LinkArguments, MatchArguments, TableArguments,
 };
 use urlpat_policies::PolicyCommand;
 use urlpattern::quirks::UrlPatternInit;
@@ -42,18 +42,26 @@ pub(crate) fn command_of<'m, 'w>(
         "match" => match_of(words, given),
         "first" => first_of(words, given.base),
         "filter" => return filter_of(found, words, given),
-        "route" => return route_of(found, words, given),
+        "route" => {
+            let (asked, files) = route_of(found, words, given)?;
+            return Some((Command::Route(asked), files));
+        }
+        "rewrite" => {
+            let (asked, files) = rewrite_of(found, words, given)?;
+            return Some((Command::Rewrite(asked), files));
+        }
         "explain" => explain_of(words, given),
         "link" => link_of(words, given),
         "covers" => covers_of(words, given.base),
         "unreachable" => unreachable_of(words, given.base),
+        "check" => check_of(words, given.base),
         _ => None,
     };
     Some((command?, given.none))
 }
 
 /// The pattern, and the operands after it: the one that options give, or else the first word.
-fn with_pattern<'m, 'w>(
+pub(crate) fn with_pattern<'m, 'w>(
     words: &'m [&'w str],
     given: Given<'m, 'w>,
 ) -> Option<(GivenPattern<'m, 'w>, &'m [&'w str])> {
@@ -104,7 +112,7 @@ fn with_base<'m, 'w>(
 
 /// The base URL, and the operands after it: the one that is given, or else the first word if it has
 /// the form of one.
-fn with_some_base<'m, 'w>(
+pub(crate) fn with_some_base<'m, 'w>(
     words: &'m [&'w str],
     given: Option<&'w str>,
 ) -> (Option<&'w str>, &'m [&'w str]) {
@@ -117,9 +125,14 @@ fn with_some_base<'m, 'w>(
 
 /// Whether a word has the form of a base URL: it is `-`, or begins with a protocol.
 fn is_base(word: &str) -> bool {
+    word == NO_BASE || begins_with_protocol(word)
+}
+
+/// Whether a word begins with a protocol, as a URL does.
+fn begins_with_protocol(word: &str) -> bool {
     match word.split_once(':') {
         Some((protocol, _)) => is_protocol(protocol),
-        None => word == NO_BASE,
+        None => false,
     }
 }
 
@@ -157,10 +170,14 @@ fn component_of<'m, 'w>(words: &'m [&'w str]) -> Option<Command<'m, 'w>> {
     Some(Command::Component(ComponentArguments { kind, pattern }))
 }
 
-/// The arguments of `match`: a pattern, a base URL and an input.
+/// The arguments of `match`: a pattern, a base URL and an input. A single word after options that
+/// give the pattern is the input.
 fn match_of<'m, 'w>(words: &'m [&'w str], given: Given<'m, 'w>) -> Option<Command<'m, 'w>> {
     let (pattern, rest) = with_pattern(words, given)?;
-    let (base, rest) = with_base(rest, given.base)?;
+    let (base, rest) = match (given.init, rest) {
+        (Some(_), [_]) => (base_of(given.base.unwrap_or(NO_BASE)), rest),
+        _ => with_base(rest, given.base)?,
+    };
     let [input] = rest else {
         return None;
     };
@@ -203,93 +220,6 @@ fn first_of<'m, 'w>(words: &'m [&'w str], given: Option<&'w str>) -> Option<Comm
     }
 }
 
-/// The arguments of `filter`, a pattern and a base URL, and the operands after them.
-fn filter_of<'m, 'w>(
-    found: &'m ArgMatches<'w>,
-    words: &'m [&'w str],
-    given: Given<'m, 'w>,
-) -> Option<(Command<'m, 'w>, &'m [&'w str])> {
-    let (pattern, rest) = with_pattern(words, given)?;
-    let (base, files) = with_some_base(rest, given.base);
-    let inverted = found.get_flag("not");
-    let asked = FilterArguments {
-        pattern,
-        base,
-        inverted,
-        shape: shape_of(found, given.json, inverted)?,
-        style: style_of(found, given.json, files)?,
-    };
-    Some((Command::Filter(asked), files))
-}
-
-/// How output for lines is written. `None`: the options exclude each other.
-fn style_of<'w>(found: &ArgMatches<'w>, json: bool, files: &[&str]) -> Option<LineStyle<'w>> {
-    let numbered = found.get_flag("line-number");
-    let named = found.get_flag("with-filename");
-    if json && (numbered || named) {
-        return None;
-    }
-    let several = files.len() > 1 && !json && !found.get_flag("no-filename");
-    Some(LineStyle {
-        file: None,
-        named: named || several,
-        numbered,
-        flushed: found.get_flag("line-buffered"),
-    })
-}
-
-/// What `filter` prints. `None`: the options exclude each other.
-fn shape_of<'w>(found: &ArgMatches<'w>, json: bool, inverted: bool) -> Option<AskedShape<'w>> {
-    match (found.get_flag("count"), json, found.get_str("group")) {
-        (false, false, None) => Some(AskedShape::Line),
-        (true, false, None) => Some(AskedShape::Count),
-        (false, true, None) if !inverted => Some(AskedShape::Json),
-        (false, false, Some(group)) if !inverted => { Some(AskedShape::Group(group)) }
-        _ => None,
-    }
-}
-
-/// The arguments, with the name of the file whose lines are read.
-pub(crate) fn of_file<'m, 'w>(arguments: Arguments<'m, 'w>, file: &'w str) -> Arguments<'m, 'w> {
-    let command = match arguments.command {
-        Command::Filter(asked) => Command::Filter(FilterArguments {
-            style: style_of_file(asked.style, file),
-            ..asked
-        }),
-        Command::Route(asked) => Command::Route(RouteArguments {
-            style: style_of_file(asked.style, file),
-            ..asked
-        }),
-        other => other,
-    };
-    Arguments {
-        command,
-        ..arguments
-    }
-}
-
-/// How output is written for the lines of a file.
-fn style_of_file<'w>(style: LineStyle<'w>, file: &'w str) -> LineStyle<'w> {
-    LineStyle {
-        file: Some(file),
-        ..style
-    }
-}
-
-/// The arguments of `route`, a file and a base URL, and the operands after them.
-fn route_of<'m, 'w>(
-    found: &'m ArgMatches<'w>,
-    words: &'m [&'w str],
-    given: Given<'m, 'w>,
-) -> Option<(Command<'m, 'w>, &'m [&'w str])> {
-    let [file, rest @ ..] = words else {
-        return None;
-    };
-    let (base, files) = with_some_base(rest, given.base);
-    let style = style_of(found, given.json, files)?;
-    Some((Command::Route(RouteArguments { file, base, style }), files))
-}
-
 /// The arguments of `unreachable`: a file, and a base URL.
 fn unreachable_of<'m, 'w>(words: &'m [&'w str], given: Option<&'w str>) -> Option<Command<'m, 'w>> {
     let [file, rest @ ..] = words else {
@@ -301,6 +231,19 @@ fn unreachable_of<'m, 'w>(words: &'m [&'w str], given: Option<&'w str>) -> Optio
     } else {
         None
     }
+}
+
+/// The arguments of `check`: files, and a base URL, which is the last word if that begins with a
+/// protocol and none is given.
+fn check_of<'m, 'w>(words: &'m [&'w str], given: Option<&'w str>) -> Option<Command<'m, 'w>> {
+    let (files, base) = match (given, words) {
+        (None, [files @ .., last]) if begins_with_protocol(last) => (files, Some(*last)),
+        _ => (words, base_of(given.unwrap_or(NO_BASE))),
+    };
+    if files.is_empty() {
+        return None;
+    }
+    Some(Command::Check(CheckArguments { files, base }))
 }
 
 /// The arguments of `explain`: a pattern, a base URL and an input. A single word after a pattern

@@ -2,27 +2,32 @@
 
 ghost use Rattle.std.specs.Io.KnownBytes.{Appends, Keeps};
 ghost use Rattle.std.specs.IoError.{error_kind};
-ghost use Rattle.std.specs.Prelude.{◌≡◌, IfErr, IfNone, IfSome, OnOk, None, Some};
+ghost use Rattle.std.specs.Prelude.{◌≡◌, IfErr, IfNone, IfSome, OnOk, None, Some, false};
 ghost use Rattle.std.specs.declared.io.ErrorKind.TheVariants as kinds;
+ghost use Rattle.urlpat.specs.Outputs.{ends_within, missing_end};
 
 use std::io;
 use std::io::Write;
 
-/// A writer that keeps the error of the last `write_all` or `flush` that failed.
+/// A writer that keeps the error of the last `write_all` or `flush` that failed, and knows whether
+/// the output ends within a line.
 #[derive(Drop)]
 pub struct Output<W> {
     writer: W,
     failure: Option<io::Error>,
+    within_line: bool,
 }
 
 impl<W> Output<W> {
-    /// Wraps a writer. No error is kept yet.
+    /// Wraps a writer. No error is kept yet, and nothing is written.
     pub fn new(writer: W) -> Output<W>
-        ensures { (result.writer ≡ writer) × (result.failure ≡ None) }
+        ensures parts { (result.writer ≡ writer) × (result.failure ≡ None) }
+        ensures lines { result.within_line ≡ false }
     {
         Output {
             writer,
             failure: None,
+            within_line: false,
         }
     }
 
@@ -38,10 +43,35 @@ impl<W> Output<W> {
         ensures writer { self.new.writer ≡ self.old.writer }
         ensures failed { IfErr written.now (λ error. self.new.failure ≡ Some error) }
         ensures done { OnOk written.now (self.new.failure ≡ self.old.failure) }
+        ensures lines { self.new.within_line ≡ self.old.within_line }
     {
         if let Err(error) = written {
             self.failure = Some(*error);
         }
+    }
+}
+
+impl<W: Write> Output<W> {
+    /// Ends the last line of the output, if it has no end. The error is that of the writer.
+    pub fn end_line(&mut self) -> io::Result<()>
+        ensures bytes { OnOk result (Appends (W.contents self.old.writer)
+            (W.contents self.new.writer) (missing_end self.old.within_line)) }
+    {
+        if self.within_line {
+            self.write_all(b"\n")
+        } else {
+            self.write_all(b"")
+        }
+    }
+}
+
+/// Whether output ends within a line, after bytes that are written: as before if there are none.
+fn ends_within(before: bool, bytes: &[u8]) -> bool
+    ensures { result ≡ ends_within before bytes.now }
+{
+    match bytes {
+        [] => before,
+        [.., last] => *last != b'\n',
     }
 }
 
@@ -67,9 +97,12 @@ impl<W: Write> Write for Output<W> {
             (Appends (W.contents self.old.writer) (W.contents self.new.writer) buf.now) }
         ensures failed { IfErr result (λ error. self.new.failure ≡ Some error) }
         ensures done { OnOk result (self.new.failure ≡ self.old.failure) }
+        ensures lines { OnOk result
+            (self.new.within_line ≡ ends_within self.old.within_line buf.now) }
     {
         let written = self.writer.write_all(buf);
         self.keep(&written);
+        self.within_line = ends_within(self.within_line, buf);
         written
     }
 }

@@ -1,15 +1,14 @@
 //! Parses the words of the program.
 
-use crate::forms::{FORMS, Form, INIT, OPERANDS, command, policy_actions, program, short_form};
+use crate::forms::{FORMS, Form, command, policy_actions, program, short_form};
 use crate::operands::{Given, command_of, policy_of, short_of};
+use crate::options::{GROUP, OPERANDS, PATTERN_FILES, PATTERNS};
 use clap::error::ErrorKind;
 use clap::{ArgMatches, Command as Parser, Error};
-use serde_json::Value;
 use std::alloc::{AllocError, Global};
 use urlpat_matching::{Arguments, Flags};
 use urlpat_policies::PolicyCommand;
 use urlpattern::quirks::UrlPatternInit;
-use urlpattern::{ComponentName, Eight};
 
 /// The usage of `component`, the first line that is printed if the words of the commands whose
 /// output is fixed are wrong.
@@ -125,7 +124,7 @@ fn arguments_of<'m, 'w>(
 }
 
 /// The arguments after the command, or all of them in the short form.
-fn after_command<'m, 'w>(found: &'m ArgMatches<'w>) -> &'m ArgMatches<'w> {
+pub(crate) fn after_command<'m, 'w>(found: &'m ArgMatches<'w>) -> &'m ArgMatches<'w> {
     second(found.subcommand()).unwrap_or(found)
 }
 
@@ -133,65 +132,6 @@ fn after_command<'m, 'w>(found: &'m ArgMatches<'w>) -> &'m ArgMatches<'w> {
 fn second<'m, 'w>(command: Option<(&'w str, &'m ArgMatches<'w>)>) -> Option<&'m ArgMatches<'w>> {
     let (_, after) = command?;
     Some(after)
-}
-
-/// Reads the pattern that options give by component. `None`: no option gives one.
-///
-/// The error says that the text of `--init` is not the JSON of an init, or that memory ran out.
-pub fn given_init(alloc: Global, found: &ArgMatches<'_>) -> Result<Option<UrlPatternInit>, Error> {
-    let after = after_command(found);
-    let Some(text) = after.get_str(INIT).or(found.get_str(INIT)) else {
-        return Ok(components_given(alloc, found, after)?);
-    };
-    match init_of_json(alloc, text)? {
-        Some(init) => Ok(Some(init)),
-        None => {
-            let message = format!(in alloc;
-                "invalid value '{text}' for '--init <JSON>': not the JSON of an init"
-            )?;
-            Err(parser_of(alloc, found)?.error(ErrorKind::ValueValidation, &message)?)
-        }
-    }
-}
-
-/// Parses the JSON of an init. `None`: the text is not the JSON of one.
-fn init_of_json(alloc: Global, text: &str) -> Result<Option<UrlPatternInit>, AllocError> {
-    let value = match Value::from_str(alloc, text) {
-        Ok(value) => value,
-        Err(error) if error.is_memory() => return Err(AllocError),
-        Err(_) => return Ok(None),
-    };
-    match UrlPatternInit::from_json_value(alloc, &value) {
-        Ok(init) => Ok(init),
-        Err(_) => Err(AllocError),
-    }
-}
-
-/// The init with the patterns that options give for single components. `None`: no option gives one.
-fn components_given(
-    alloc: Global,
-    found: &ArgMatches<'_>,
-    after: &ArgMatches<'_>,
-) -> Result<Option<UrlPatternInit>, AllocError> {
-    let text = |name: ComponentName| -> Result<Option<String>, AllocError> {
-        match after
-            .get_str(name.as_str())
-            .or(found.get_str(name.as_str()))
-        {
-            Some(text) => Ok(Some(String::from_str(alloc, text)?)),
-            None => Ok(None),
-        }
-    };
-    let texts = Eight::try_from_fn(text)?;
-    let mut any = false;
-    for name in ComponentName::all() {
-        any = any || texts.get(name).is_some();
-    }
-    if any {
-        Ok(Some(UrlPatternInit::from_eight(texts, None)))
-    } else {
-        Ok(None)
-    }
 }
 
 /// The flags before a command and among its arguments. `None`: the command does not accept a flag
@@ -250,7 +190,10 @@ fn first_operand(words: &[String]) -> Option<&String> {
 }
 
 /// The parser of the command whose words were parsed.
-fn parser_of<'a>(alloc: Global, found: &ArgMatches<'_>) -> Result<Parser<'a>, AllocError> {
+pub(crate) fn parser_of<'a>(
+    alloc: Global,
+    found: &ArgMatches<'_>,
+) -> Result<Parser<'a>, AllocError> {
     match found.subcommand_name() {
         Some(name) => match form_of(name) {
             Some(form) => command(alloc, form, false),
@@ -263,6 +206,10 @@ fn parser_of<'a>(alloc: Global, found: &ArgMatches<'_>) -> Result<Parser<'a>, Al
 /// The least and the most operands of the command whose words were parsed. `given` says whether
 /// options give the pattern.
 fn bounds_of(found: &ArgMatches<'_>, given: bool) -> (usize, usize) {
+    let after = after_command(found);
+    let given = given
+        || after.get_strs(PATTERNS).is_some()
+        || after.get_strs(PATTERN_FILES).is_some();
     let (least, most) = match found.subcommand_name() {
         Some(name) => match form_of(name) {
             Some(form) => (form.least, form.most),
@@ -296,8 +243,16 @@ pub fn misused(alloc: Global, found: &ArgMatches<'_>, given: bool) -> Result<Err
         }
         None => parser.error(
             ErrorKind::WrongNumberOfValues,
-            "these are not the arguments of the command",
+            wrong_use(after_command(found)),
         ),
+    }
+}
+
+/// What is wrong with the arguments of a command that has neither too few nor too many operands.
+fn wrong_use(after: &ArgMatches<'_>) -> &'static str {
+    match after.get_strs(GROUP) {
+        Some([_, _, ..]) => "the argument '--group <GROUP>' cannot be used multiple times",
+        _ => "these are not the arguments of the command",
     }
 }
 

@@ -1,4 +1,4 @@
-//! How the program prints what `explain` and `policy` find.
+//! How the program prints what `explain`, `unreachable`, `check` and `policy` find.
 
 ghost use Rattle.std.specs.Prelude.{⊤};
 
@@ -8,6 +8,7 @@ use urlpat_policies::{
     NoPolicy, PolicyPrinter, decisions_json, decisions_text, difference_json, difference_text,
     faults_json, faults_text,
 };
+use urlpat_tables::{Findings, FindingsPrinter, Reached, findings_text, unreached_text};
 use urlpattern_policy::Decision;
 use urlpattern_policy_differences::PolicyDifference;
 
@@ -30,6 +31,31 @@ impl ExplanationPrinter for Printer {
         } else {
             explanation_text(alloc, explained, outcome)
         }
+    }
+}
+
+impl FindingsPrinter for Printer {
+    ghost Prints = { λ printer json file found text. ⊤ };
+
+    ghost PrintsUnreached = { λ printer json found text. ⊤ };
+
+    fn print_findings(
+        &self,
+        alloc: Global,
+        json: bool,
+        file: &str,
+        found: &Findings,
+    ) -> Result<String, AllocError> {
+        findings_text(alloc, json, file, found)
+    }
+
+    fn print_unreached(
+        &self,
+        alloc: Global,
+        json: bool,
+        found: &Reached,
+    ) -> Result<String, AllocError> {
+        unreached_text(alloc, json, found)
     }
 }
 

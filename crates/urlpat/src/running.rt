@@ -5,17 +5,17 @@ ghost use Rattle.urlpat.specs.Commands.{MayPrintInPart, MayReport, RunsCommand, 
 
 use std::alloc::Global;
 use std::io::{BufRead, Write};
-use urlpat_commands::{
-    Tables, covers, filter, list_unreachable, print_component, print_first, print_match, route,
-};
+use urlpat_commands::{Tables, covers, print_component, print_first, print_match};
 use urlpat_explain::{ExplanationPrinter, explain, link};
 use urlpat_matching::{Arguments, Command, DONE, FAILED, NO_MATCH};
+use urlpat_tables::{FindingsPrinter, check, filter, list_unreachable, rewrite, route};
 
 /// Runs a command. Returns the exit status.
 ///
-/// `filter` and `route` read lines from `input`, `route` and `unreachable` a file from `tables`.
-/// Output is written to `out`, errors and notes to `err`. `printer` prints what `explain` finds.
-pub fn run<T: Tables, P: ExplanationPrinter, In: BufRead, Out: Write, Err: Write>(
+/// `filter`, `route` and `rewrite` read lines from `input`; `filter`, `route`, `rewrite`,
+/// `unreachable` and `check` read files from `tables`. Output is written to `out`, errors and notes
+/// to `err`. `printer` prints what `explain`, `unreachable` and `check` find.
+pub fn run<T: Tables, P: ExplanationPrinter + FindingsPrinter, In: BufRead, Out: Write, Err: Write>(
     alloc: Global,
     tables: &T,
     printer: &P,
@@ -28,7 +28,9 @@ pub fn run<T: Tables, P: ExplanationPrinter, In: BufRead, Out: Write, Err: Write
     ensures answers { result ≢ FAILED
         → RunsCommand (record {
           Has = T.Has tables.now;
-          PrintsExplained = P.Prints printer.now;
+          PrintsExplained = P.ExplanationPrinter.Prints printer.now;
+          PrintsFindings = P.FindingsPrinter.Prints printer.now;
+          PrintsUnreached = P.PrintsUnreached printer.now;
         }) arguments.entry.flags arguments.entry.command result
         (In.remaining input.old) (Out.contents out.old) (Out.contents out.new) }
     ensures quiet { result ≢ FAILED → (err.new ≡ err.old)
@@ -41,12 +43,16 @@ pub fn run<T: Tables, P: ExplanationPrinter, In: BufRead, Out: Write, Err: Write
         Command::Component(asked) => print_component(alloc, asked, flags, out, err),
         Command::Match(asked) => print_match(alloc, asked, flags, out, err),
         Command::First(asked) => print_first(alloc, asked, flags, out, err),
-        Command::Filter(asked) => filter(alloc, asked, flags, input, out, err),
+        Command::Filter(asked) => filter(alloc, tables, asked, flags, input, out, err),
         Command::Route(asked) => route(alloc, tables, asked, flags, input, out, err),
+        Command::Rewrite(asked) => rewrite(alloc, tables, asked, flags, input, out, err),
         Command::Explain(asked) => explain(alloc, printer, asked, flags, out, err),
         Command::Link(asked) => link(alloc, asked, flags, out, err),
         Command::Covers(asked) => covers(alloc, asked, flags, out, err),
-        Command::Unreachable(asked) => { list_unreachable(alloc, tables, asked, flags, out, err) }
+        Command::Unreachable(asked) => {
+            list_unreachable(alloc, tables, printer, asked, flags, out, err)
+        },
+        Command::Check(asked) => check(alloc, tables, printer, asked, flags, out, err),
     }
 }
 

@@ -1,9 +1,9 @@
-//! Comparisons of patterns as JSON.
+//! Whether a pattern covers another, as JSON.
 
-ghost use Rattle.serde_json.specs.Data.{array, object};
-ghost use Rattle.serde_json.specs.View.{items_of, members_view, view};
-ghost use Rattle.std.specs.Prelude.{◌≡◌, map, option_copied, string_bytes, IfOk};
-ghost use Rattle.urlpat_commands.specs.ComparisonTexts.{covering_tree, known_tree, number_tree, unreached_tree};
+ghost use Rattle.serde_json.specs.Data.{object};
+ghost use Rattle.serde_json.specs.View.{members_view, view};
+ghost use Rattle.std.specs.Prelude.{◌≡◌, option_copied, string_bytes, IfOk};
+ghost use Rattle.urlpat_commands.specs.ComparisonTexts.{covering_tree, known_tree};
 ghost use Rattle.urlpat_matching.specs.MatchJson.{json_line};
 ghost use Rattle.urlpattern_components.specs.Eight.{at};
 ghost use Rattle.urlpattern_inputs.specs.Trees.{each_member, object_of};
@@ -68,36 +68,4 @@ fn known_members(
         )?;
     }
     Ok(members)
-}
-
-/// Returns a line of JSON for a pattern that is never the first match: an object with the number of
-/// its line in the table, and those of the patterns that cover it together.
-pub fn numbers_json(alloc: Global, line: u64, others: &[u64]) -> Result<String, AllocError>
-    ensures { IfOk result (λ text.
-        string_bytes text ≡ json_line (unreached_tree line others.now)) }
-{
-    let tree = unreached_tree(alloc, line, others)?;
-    json_line(alloc, &tree)
-}
-
-/// The object of `numbers_json`.
-fn unreached_tree(alloc: Global, line: u64, others: &[u64]) -> Result<Value, AllocError>
-    ensures { IfOk result (λ tree. view tree ≡ unreached_tree line others.now) }
-{
-    let others = numbers_tree(alloc, others)?;
-    let mut members = Map::new(alloc);
-    put(&mut members, alloc, "number", Value::from(line))?;
-    put(&mut members, alloc, "covered_by", others)?;
-    Ok(Value::Object(members))
-}
-
-/// An array of numbers.
-fn numbers_tree(alloc: Global, numbers: &[u64]) -> Result<Value, AllocError>
-    ensures { IfOk result (λ tree. view tree ≡ array (items_of (map number_tree numbers.now))) }
-{
-    let mut items = Vec::with_capacity(alloc, numbers.len())?;
-    for number in numbers {
-        items.push(Value::from(*number))?;
-    }
-    Ok(Value::Array(items))
 }

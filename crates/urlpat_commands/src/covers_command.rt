@@ -3,8 +3,7 @@
 ghost use Rattle.std.specs.Prelude.{◌≡◌, ◌≢◌, ◌⊎◌, option_copied, IfSome};
 ghost use Rattle.urlpat_commands.specs.Coverings.{ComparesWith, PrintsDecided, PrintsWhether, PrintsWhich, parting_status};
 
-use crate::comparison_lines::covering_shown;
-use crate::comparison_text::reason_text;
+use crate::comparison_text::{covering_shown, reason_text};
 use crate::text_parts::parts_or_report;
 use std::alloc::Global;
 use std::io::Write;
@@ -45,8 +44,8 @@ fn compared<Err: Write>(
     ensures quiet { IfSome result (λ covering. err.new ≡ err.old) }
 {
     let base = patterns.base;
-    let parts = parts_or_report(alloc, None, patterns.pattern, base, ignore_case, err)?;
-    let asked_parts = parts_or_report(alloc, None, patterns.asked, base, ignore_case, err);
+    let parts = parts_or_report(alloc, patterns.pattern, base, ignore_case, err)?;
+    let asked_parts = parts_or_report(alloc, patterns.asked, base, ignore_case, err);
     let Some(asked_parts) = asked_parts else {
         drop(parts);
         return None;

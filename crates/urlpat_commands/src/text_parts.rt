@@ -10,11 +10,9 @@ use urlpat_matching::{GivenPattern, compiled_or_report};
 use urlpattern::rules::PatternParts;
 
 /// The parts of the pattern of a constructor string, compiled with the engine `PatternRegexp`.
-/// `line` is the number of its line, if it is one of a table. `None`: the pattern or its base is
-/// rejected, or memory ran out, which is reported.
+/// `None`: the pattern or its base is rejected, or memory ran out, which is reported.
 pub fn parts_or_report<Err: Write>(
     alloc: Global,
-    line: Option<u64>,
     text: &str,
     base: Option<&str>,
     ignore_case: bool,
@@ -24,7 +22,7 @@ pub fn parts_or_report<Err: Write>(
     ensures quiet { IfSome result (λ parts. err.new ≡ err.old) }
 {
     let text = GivenPattern::Text(text);
-    let pattern = compiled_or_report(alloc, line, text, base, ignore_case, err)?;
+    let pattern = compiled_or_report(alloc, None, text, base, ignore_case, err)?;
     match pattern.into_parts() {
         Some(parts) => Some(parts),
         None => unreachable!(),

@@ -5,7 +5,7 @@ use Rattle.bstr.specs.Text.{without_terminator}
 use Rattle.std.specs.Io.KnownBytes.{Appends, Keeps}
 use Rattle.std.specs.Io.BufRead.{drop_through, take_through}
 use Rattle.bstr.proofs.lemmas.RecordLemmas.{records-nil, records-step}
-use Rattle.urlpat_matching.specs.LineAnswers.{AppendsAnswer, AppendsAnswerTo, AreAnswersTo, IsAnswerTo, IsRejectedLine, lines_of, selected_by}
+use Rattle.urlpat_matching.specs.LineAnswers.{AppendsAnswer, AppendsAnswerTo, AreAnswersTo, IsAnswerTo, IsRejectedLine, LineRule, lines_of, selected_by}
 use Rattle.urlpat_matching.specs.LineLabels.{label, labelled}
 use Rattle.urlpat_matching.specs.Lines.{IsLineKept, longest}
 use Rattle.urlpat_matching.specs.declared.answers.Verdict.{Verdict}
@@ -24,29 +24,35 @@ pub not-refused : (line : List ℕ) → length line ≤ longest → IsUtf8 (with
 not-refused line short is (inl long) = omega (arith, short, long)
 not-refused line short is (inr other) = other is
 
-module _ (Answers : (text line : List ℕ) → Verdict → (written : List ℕ) → Type 0) where
+module _ (Answers : LineRule) where
   -- The output for the kept part of a line is that for the line.
   pub answers-line : (kept line : List ℕ) (verdict : Verdict) (written : List ℕ) → IsLineKept kept line → IsAnswerTo Answers kept verdict written → IsAnswerTo Answers line verdict written
   answers-line kept line verdict written (inl same) is = subst (λ l. IsAnswerTo Answers l verdict written) same is
-  answers-line kept line verdict written (inr long) (inl refused) = inl (inl long.1, refused.1, refused.2)
+  answers-line kept line verdict written (inr long) (inl refused) = inl (inl long.1, refused.1)
   answers-line kept line verdict written (inr long) (inr answered) = absurd (answered.0 (inl long.0))
 
   -- The output of a rule for a line.
   pub answers-text : {E : Type 0} (line text old new : List ℕ) (answer : Result Verdict E) → length line ≤ longest → text ≡ without_terminator line → IsUtf8 text
-      → IfOk answer (AppendsAnswer Answers text line old new) → IfOk answer (AppendsAnswerTo Answers line old new)
+      → IfOk answer (AppendsAnswer Answers (Some text) line old new) → IfOk answer (AppendsAnswerTo Answers line old new)
   answers-text line text old new (Err error) short same is answered = answered
   answers-text line text old new (Ok verdict) short same is answered = (
     answered.0,
     answered.1,
-    inr (not-refused line short (subst IsUtf8 same is), subst (λ t. Answers t line verdict answered.0) same answered.2),
+    inr (not-refused line short (subst IsUtf8 same is), subst (λ t. Answers (Some t) line verdict answered.0) same answered.2),
   )
 
-module _ (Answers : (text line : List ℕ) → Verdict → (written : List ℕ) → Type 0) (style : LineStyle) where
+  -- The output of a rule for a line that is rejected.
+  pub answers-none : {E : Type 0} (line old new : List ℕ) (answer : Result Verdict E) → IsRejectedLine line → IfOk answer (AppendsAnswer Answers None [] old new)
+      → IfOk answer (AppendsAnswerTo Answers line old new)
+  answers-none line old new (Err error) refused answered = answered
+  answers-none line old new (Ok verdict) refused answered = (answered.0, answered.1, inl (refused, answered.2))
+
+module _ (Answers : LineRule) (style : LineStyle) (first : ℕ) where
   -- The output for the rest of a text, from the line with this number on, completes that for all.
   abbrev pub Completes : (text : List ℕ) → (number : ℕ) → (rest : List ℕ) → (selected : ℕ) → (so_far : List ℕ) → Type 0
   Completes text number rest selected so_far =
       (more : ℕ) (written : List ℕ) → AreAnswersTo Answers style number (lines_of rest) more written
-      → AreAnswersTo Answers style 1 (lines_of text) (selected + more) (so_far ++ written)
+      → AreAnswersTo Answers style first (lines_of text) (selected + more) (so_far ++ written)
 
   -- A line is processed.
   pub completes-next : (text : List ℕ) (number : ℕ) (rest : List ℕ) (selected : ℕ) (so_far piece : List ℕ) (verdict : Verdict) → 0 < length rest
@@ -60,17 +66,17 @@ module _ (Answers : (text line : List ℕ) → Verdict → (written : List ℕ) 
       (verdict, more, piece, written, is, are, refl, refl) in
       let all = completes (selected_by verdict + more) (shown ++ written) (subst (λ ls. AreAnswersTo Answers style number ls (selected_by verdict + more) (shown ++ written)) (sym step) with_line) in
       let numbers : selected + (selected_by verdict + more) ≡ selected + selected_by verdict + more = omega arith in
-      subst (λ n. AreAnswersTo Answers style 1 (lines_of text) n ((so_far ++ shown) ++ written)) numbers
-      (subst (λ w. AreAnswersTo Answers style 1 (lines_of text) (selected + (selected_by verdict + more)) w) (sym (append_assoc so_far shown written)) all)
+      subst (λ n. AreAnswersTo Answers style first (lines_of text) n ((so_far ++ shown) ++ written)) numbers
+      (subst (λ w. AreAnswersTo Answers style first (lines_of text) (selected + (selected_by verdict + more)) w) (sym (append_assoc so_far shown written)) all)
 
   -- No line is left.
   pub completes-none : (text : List ℕ) (number : ℕ) (rest : List ℕ) (selected : ℕ) (so_far : List ℕ) → length rest ≡ 0 → Completes text number rest selected so_far
-      → AreAnswersTo Answers style 1 (lines_of text) selected so_far
+      → AreAnswersTo Answers style first (lines_of text) selected so_far
   unfolding AreAnswersTo
   completes-none text number [] selected so_far none completes =
       let numbers : selected + 0 ≡ selected = omega arith in
       let all = completes 0 [] (subst (λ ls. AreAnswersTo Answers style number ls 0 []) (sym (records-nil 10)) (refl, refl)) in
-      subst (λ n. AreAnswersTo Answers style 1 (lines_of text) n so_far) numbers (subst (λ w. AreAnswersTo Answers style 1 (lines_of text) (selected + 0) w) (append-nil so_far) all)
+      subst (λ n. AreAnswersTo Answers style first (lines_of text) n so_far) numbers (subst (λ w. AreAnswersTo Answers style first (lines_of text) (selected + 0) w) (append-nil so_far) all)
   completes-none text number (x ∷ rest) selected so_far none completes = absurd (omega (arith, none))
 
 -- ---- labels
@@ -109,4 +115,5 @@ selected-most verdicts.Selected = omega arith
 selected-most verdicts.Passed = omega arith
 selected-most verdicts.NoUrl = omega arith
 selected-most verdicts.SelectedNoUrl = omega arith
+selected-most verdicts.NoLink = omega arith
 selected-most verdicts.Rejected = omega arith

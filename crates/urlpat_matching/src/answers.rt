@@ -1,5 +1,5 @@
 //! Writes the output of a rule for the lines of a reader.
-ghost use Rattle.std.specs.Prelude.{◌≡◌, ◌+◌, ◌<◌, ◌^◌, ℕ, List, IfOk, OnOk};
+ghost use Rattle.std.specs.Prelude.{◌≡◌, ◌+◌, ◌<◌, ◌^◌, ℕ, List, Option, IfOk, OnOk, option_copied};
 ghost use Rattle.std.specs.Io.KnownBytes.{Appends, Keeps};
 ghost use Rattle.urlpat_matching.specs.LineAnswers.{AppendsAnswer, AppendsAnswerTo, WritesInput, selected_by};
 ghost use Rattle.urlpat_matching.specs.LineLabels.{labelled};
@@ -24,6 +24,8 @@ pub enum Verdict {
     NoUrl,
     /// The line is selected, and not a URL.
     SelectedNoUrl,
+    /// The line is a URL, and not selected: the rule has no URL to write for it.
+    NoLink,
     /// The line is not UTF-8, or too long.
     Rejected,
 }
@@ -32,13 +34,21 @@ pub enum Verdict {
 /// of `filter` and `route`.
 pub trait Rule {
     // The verdict on a line, and what is written for it. `text` is the line without its end.
-    ghost Answers: { Self → (text line : List ℕ) → Verdict → (written : List ℕ) → Type 0 };
+    // `None`: the line is too long or not UTF-8, and `line` is empty in its place.
+    ghost Answers: { Self → (text : Option (List ℕ)) → (line : List ℕ) → Verdict
+        → (written : List ℕ) → Type 0 };
 
     /// Returns the verdict on a line, and appends what is written for it. `text` is the line
-    /// without its end.
-    fn answer(&self, text: &str, line: &[u8], written: &mut Vec<u8>) -> Result<Verdict, AllocError>
-        ensures { IfOk result (AppendsAnswer (Answers self.now) text.now line.now written.old.items
-            written.new.items) };
+    /// without its end. `None`: the line is too long or not UTF-8, and `line` is empty in its
+    /// place.
+    fn answer(
+        &self,
+        text: Option<&str>,
+        line: &[u8],
+        written: &mut Vec<u8>,
+    ) -> Result<Verdict, AllocError>
+        ensures { IfOk result (AppendsAnswer (Answers self.now) (option_copied text.entry) line.now
+            written.old.items written.new.items) };
 }
 
 /// How many lines there are of each kind. A selected line that is not a URL is of two kinds.
@@ -48,6 +58,8 @@ pub struct Tally {
     pub selected: u64,
     /// The number of lines that are not URLs.
     pub no_url: u64,
+    /// The number of lines for which the rule has no URL to write.
+    pub no_link: u64,
     /// The number of lines that are not UTF-8, or too long.
     pub rejected: u64,
 }
@@ -79,33 +91,35 @@ impl From<AllocError> for LinesError {
 }
 
 /// Writes the output of a rule for each line of a reader, after the label that `style` asks for.
-/// Returns how many lines there are of each kind. A line that is too long or not UTF-8 is reported
-/// to `err`, with its number.
+/// Lines are counted from `first` on. Returns how many lines there are of each kind. A line that is
+/// too long or not UTF-8 is reported to `err`, with its number.
 pub fn answer_lines<In: BufRead, Out: Write, Err: Write, R: Rule>(
     alloc: Global,
     rule: &R,
     style: LineStyle<'_>,
+    first: u64,
     input: &mut In,
     out: &mut Out,
     err: &mut Err,
 ) -> Result<Tally, LinesError>
-    ensures { IfOk result (WritesInput (R.Answers rule.now) style.entry (In.remaining input.old)
-        (Out.contents out.old) (Out.contents out.new)) }
+    ensures { IfOk result (WritesInput (R.Answers rule.now) style.entry first
+        (In.remaining input.old) (Out.contents out.old) (Out.contents out.new)) }
 {
     let mut tally = Tally {
         selected: 0,
         no_url: 0,
+        no_link: 0,
         rejected: 0,
     };
     let mut line = Vec::new(alloc);
     let mut written = Vec::new(alloc);
-    'lines: for number in 0..u64::MAX {
+    'lines: for number in first..u64::MAX {
         if !read_line(input, &mut line)? {
             return Ok(tally);
         }
         written.clear();
         let verdict = answer_line(rule, &line, &mut written)?;
-        write_labelled(alloc, style, number + 1, &written, out)?;
+        write_labelled(alloc, style, number, &written, out)?;
         report(verdict, style, number, &line, err);
         tally = counted(tally, verdict);
     }
@@ -153,27 +167,35 @@ fn write_piece<Out: Write>(out: &mut Out, piece: &[u8]) -> Result<(), LinesError
 {
     match out.write_all(piece) {
         Ok(()) => Ok(()),
-        Err(_) => Err(LinesError::Write),
+        Err(error) => Err(fault_of(error)),
     }
 }
 
-/// Returns the verdict of a rule on a line, and appends what is written for it. A line that is too
-/// long or not UTF-8 is rejected, and nothing is written for it.
+/// Why something is not written: memory ran out, or the output failed.
+pub(crate) fn fault_of(error: io::Error) -> LinesError {
+    match error.kind() {
+        io::ErrorKind::OutOfMemory => LinesError::OutOfMemory,
+        _ => LinesError::Write,
+    }
+}
+
+/// Returns the verdict of a rule on a line, and appends what is written for it. The rule sees
+/// neither the bytes nor the text of a line that is too long or not UTF-8.
 fn answer_line<R: Rule>(rule: &R, line: &[u8], written: &mut Vec<u8>) -> Result<Verdict, AllocError>
     ensures { IfOk result
         (AppendsAnswerTo (R.Answers rule.now) line.now written.old.items written.new.items) }
 {
     if line.len() > LONGEST {
-        return Ok(Verdict::Rejected);
+        return rule.answer(None, &[], written);
     }
     match str::from_utf8(without_end(line)) {
-        Ok(text) => rule.answer(text, line, written),
-        Err(_) => Ok(Verdict::Rejected),
+        Ok(text) => rule.answer(Some(text), line, written),
+        Err(_) => rule.answer(None, &[], written),
     }
 }
 
-/// Reports that a line is too long or not UTF-8, if the verdict is `Rejected`. `number` is how many
-/// lines are before it.
+/// Reports that a line is too long or not UTF-8, if the verdict is `Rejected`. `number` is that of
+/// the line.
 fn report<Err: Write>(
     verdict: Verdict,
     style: LineStyle<'_>,
@@ -183,7 +205,6 @@ fn report<Err: Write>(
 ) {
     if verdict == Verdict::Rejected {
         let place = FilePlace(style.file);
-        let number = number.saturating_add(1);
         let _ = if line.len() > LONGEST {
             writeln!(
                 err,
@@ -213,6 +234,10 @@ fn counted(tally: Tally, verdict: Verdict) -> Tally
         Verdict::SelectedNoUrl => Tally {
             selected: tally.selected + 1,
             no_url: tally.no_url.saturating_add(1),
+            ..tally
+        },
+        Verdict::NoLink => Tally {
+            no_link: tally.no_link.saturating_add(1),
             ..tally
         },
         Verdict::Rejected => Tally {

@@ -96,19 +96,81 @@ pub struct LineStyle<'w> {
     pub flushed: bool,
 }
 
+/// The format of lines that have fields.
+#[derive(Clone, Copy, Debug, PartialEq, Eq)]
+pub enum LineFormat {
+    /// Comma-separated values.
+    Csv,
+    /// Values separated by tabs.
+    Tsv,
+    /// An object in JSON a line.
+    Json,
+}
+
+/// A field of a line.
+#[derive(Clone, Copy, Debug)]
+pub enum FieldName<'w> {
+    /// The number of the field, from 1 on.
+    Number(usize),
+    /// The name of the field, which the first line or the member has.
+    Name(&'w str),
+}
+
+/// The field of lines that has the URL.
+#[derive(Clone, Copy, Debug)]
+pub struct Field<'w> {
+    /// The format of the lines.
+    pub format: LineFormat,
+    /// The field.
+    pub name: FieldName<'w>,
+}
+
+/// The patterns of `filter`, as its arguments give them.
+#[derive(Clone, Copy, Debug)]
+pub enum GivenPatterns<'m, 'w> {
+    /// A single pattern.
+    One(GivenPattern<'m, 'w>),
+    /// Constructor strings, and the names of files that have tables of some.
+    Several(&'m [&'w str], &'m [&'w str]),
+}
+
+/// How lines are read, and how the output for them is written.
+#[derive(Clone, Copy, Debug)]
+pub struct LineArguments<'w> {
+    /// The base URL of the patterns and of the lines.
+    pub base: Option<&'w str>,
+    /// The field of the lines that has the URL. `None`: the lines are URLs.
+    pub field: Option<Field<'w>>,
+    /// Whether the header of lines that have fields is printed.
+    pub headed: bool,
+    /// How the output for lines is written.
+    pub style: LineStyle<'w>,
+}
+
 /// The arguments of `filter`.
 #[derive(Clone, Copy, Debug)]
 pub struct FilterArguments<'m, 'w> {
-    /// The pattern.
-    pub pattern: GivenPattern<'m, 'w>,
-    /// The base URL of the pattern and of the lines.
-    pub base: Option<&'w str>,
+    /// The patterns.
+    pub patterns: GivenPatterns<'m, 'w>,
     /// Whether the lines that do not match are selected, in place of those that match.
     pub inverted: bool,
     /// What is printed for a selected line.
     pub shape: AskedShape<'w>,
-    /// How the output for lines is written.
-    pub style: LineStyle<'w>,
+    /// How lines are read and written.
+    pub lines: LineArguments<'w>,
+}
+
+/// What `route` prints for the lines.
+#[derive(Clone, Copy, Debug, PartialEq, Eq)]
+pub enum RouteShape {
+    /// The row of the entry whose pattern matches, for each line.
+    Rows,
+    /// The row of the entry, and the line.
+    RowsWithLines,
+    /// The row of the entry, as JSON.
+    Json,
+    /// How often each entry matches, with bars or without.
+    Summary(bool),
 }
 
 /// The arguments of `route`.
@@ -116,10 +178,20 @@ pub struct FilterArguments<'m, 'w> {
 pub struct RouteArguments<'w> {
     /// The name of the file that has the table.
     pub file: &'w str,
-    /// The base URL of the patterns and of the lines.
-    pub base: Option<&'w str>,
-    /// How the output for lines is written.
-    pub style: LineStyle<'w>,
+    /// What is printed for the lines. Of lines that have fields, each is printed with the name of
+    /// the entry as another one, unless JSON or a summary is.
+    pub shape: RouteShape,
+    /// How lines are read and written.
+    pub lines: LineArguments<'w>,
+}
+
+/// The arguments of `rewrite`.
+#[derive(Clone, Copy, Debug)]
+pub struct RewriteArguments<'w> {
+    /// The name of the file that has the table.
+    pub file: &'w str,
+    /// How lines are read and written.
+    pub lines: LineArguments<'w>,
 }
 
 /// The arguments of `unreachable`.
@@ -127,6 +199,15 @@ pub struct RouteArguments<'w> {
 pub struct TableArguments<'w> {
     /// The name of the file that has the table.
     pub file: &'w str,
+    /// The base URL of the patterns.
+    pub base: Option<&'w str>,
+}
+
+/// The arguments of `check`.
+#[derive(Clone, Copy, Debug)]
+pub struct CheckArguments<'m, 'w> {
+    /// The names of the files that have tables.
+    pub files: &'m [&'w str],
     /// The base URL of the patterns.
     pub base: Option<&'w str>,
 }
@@ -177,6 +258,8 @@ pub enum Command<'m, 'w> {
     Filter(FilterArguments<'m, 'w>),
     /// Finds a pattern of a table for each line.
     Route(RouteArguments<'w>),
+    /// Writes the URL in each line by the rules of a table.
+    Rewrite(RewriteArguments<'w>),
     /// Shows each component of a pattern.
     Explain(ExplainArguments<'m, 'w>),
     /// Prints the URL of given groups.
@@ -185,6 +268,8 @@ pub enum Command<'m, 'w> {
     Covers(CoversArguments<'w>),
     /// Finds the patterns of a table that are never the first match.
     Unreachable(TableArguments<'w>),
+    /// Finds what is wrong with tables.
+    Check(CheckArguments<'m, 'w>),
 }
 
 /// What the words of the program ask for: a command, and its flags.
@@ -194,7 +279,7 @@ pub struct Arguments<'m, 'w> {
     pub flags: Flags,
     /// The command.
     pub command: Command<'m, 'w>,
-    /// The names of the files whose lines `filter` and `route` read, `-` for standard input. None:
-    /// they read standard input.
+    /// The names of the files whose lines `filter`, `route` and `rewrite` read, `-` for standard
+    /// input. None: they read standard input.
     pub files: &'m [&'w str],
 }

@@ -54,7 +54,7 @@ fn named_group<'w>(
 
 /// The only component that has a group with this name. `None`: no component has one, or several
 /// have.
-fn owner(pattern: &UrlPattern<PatternRegexp>, name: &str) -> Option<ComponentName>
+pub fn owner(pattern: &UrlPattern<PatternRegexp>, name: &str) -> Option<ComponentName>
     ensures alone { IfSome result (IsOnlyOwner (pattern_view pattern.now) (chars name.now)) }
     ensures none { IfNone result (HasNoSingleOwner (pattern_view pattern.now) (chars name.now)) }
 {
@@ -71,7 +71,7 @@ fn owner(pattern: &UrlPattern<PatternRegexp>, name: &str) -> Option<ComponentNam
 }
 
 /// Whether a component has a group with this name.
-fn has_group(component: &Component<PatternRegexp>, name: &str) -> bool
+pub fn has_group(component: &Component<PatternRegexp>, name: &str) -> bool
     ensures { result ≡
         list_any (bytes_eq (chars name.now)) (component_view component.now).group_name_list }
 {

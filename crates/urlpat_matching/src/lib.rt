@@ -21,15 +21,18 @@ mod writing;
 
 pub use answers::{LinesError, Rule, Tally, Verdict, answer_lines};
 pub use command::{
-    Arguments, AskedShape, Command, ComponentArguments, CoversArguments, ExplainArguments,
-    FilterArguments, FirstArguments, Flags, Kind, LineStyle, LinkArguments, MatchArguments,
-    RouteArguments, Shape, TableArguments,
+    Arguments, AskedShape, CheckArguments, Command, ComponentArguments, CoversArguments,
+    ExplainArguments, Field, FieldName, FilterArguments, FirstArguments, Flags, GivenPatterns,
+    Kind, LineArguments, LineFormat, LineStyle, LinkArguments, MatchArguments, RewriteArguments,
+    RouteArguments, RouteShape, Shape, TableArguments,
 };
 pub use exit_status::{DONE, FAILED, NO_MATCH, fail, print, report, status_of};
 pub use given_pattern::{GivenPattern, compiled, init_of};
-pub use group_names::own_group;
+pub use group_names::{has_group, own_group, owner};
 pub use json_output::{json_line, match_json, match_tree};
+pub use line_labels::name_of;
+pub use lines::{LONGEST, read_line, without_end};
 pub use notes::{compiled_or_report, first_diagnosis, match_diagnosis, note_of, write_refusal};
 pub use pattern_matching::{capture_of, matched_groups, push_match};
-pub use table::{Entry, NoTable, entries_of};
+pub use table::{Entry, NoTable, cells_of, entries_of};
 pub use writing::write_answers;

@@ -55,25 +55,25 @@ fn parsed(alloc: Global, base: Option<&str>, input: &str) -> Result<Url, ParseEr
     url
 }
 
-/// A line of a table, as it is written before an error.
+/// A line of a table, by the name of its file and its number, as it is written before an error.
 #[derive(Clone, Copy)]
-struct Place(Option<u64>);
+struct Place<'t>(Option<(&'t str, u64)>);
 
-impl fmt::Display for Place {
+impl fmt::Display for Place<'_> {
     fn fmt<W: fmt::Write>(&self, f: &mut fmt::Formatter<W>) -> fmt::Result {
         match self.0 {
-            Some(number) => write!(f, "line {number}: "),
+            Some((file, number)) => write!(f, "{file}:{number}: "),
             None => Ok(()),
         }
     }
 }
 
-/// Reports the error with which a pattern or its base is rejected, with the number of the line that
-/// has the pattern, if it is that of a table, and after it a diagnosis. If memory runs out, only
-/// that is reported. Returns the exit status, `FAILED`.
+/// Reports the error with which a pattern or its base is rejected, with the file and the number of
+/// the line that has the pattern, if it is that of a table, and after it a diagnosis. If memory
+/// runs out, only that is reported. Returns the exit status, `FAILED`.
 pub fn write_refusal<Err: Write>(
     alloc: Global,
-    line: Option<u64>,
+    line: Option<(&str, u64)>,
     pattern: GivenPattern<'_, '_>,
     base: Option<&str>,
     error: Error,
@@ -103,7 +103,7 @@ pub fn write_refusal<Err: Write>(
 /// ran out, which is reported as by `write_refusal`.
 pub fn compiled_or_report<Err: Write>(
     alloc: Global,
-    line: Option<u64>,
+    line: Option<(&str, u64)>,
     pattern: GivenPattern<'_, '_>,
     base: Option<&str>,
     ignore_case: bool,

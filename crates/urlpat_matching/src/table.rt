@@ -1,8 +1,9 @@
 //! The entries of a table of patterns, a text with a pattern a line.
 
 ghost use Rattle.std.specs.Prelude.{◌≡◌, ◌++◌, All, IfErr, IfOk, OnOk};
-ghost use Rattle.std.specs.Str.{IsUtf8};
-ghost use Rattle.urlpat_matching.specs.Tables.{HasNoEntries, entries_view, entry_view, is_skipped, line_entries, line_entry, table_entries, table_lines};
+ghost use Rattle.std.specs.List.{after_first, before_first, list_any};
+ghost use Rattle.std.specs.Str.{IsUtf8, trim};
+ghost use Rattle.urlpat_matching.specs.Tables.{HasNoEntries, entries_view, entry_view, first_cell, is_skipped, is_space, is_tab, line_entries, line_entry, other_cells, table_entries, table_lines, without_mark};
 
 use bstr::ByteSlice;
 use std::alloc::{AllocError, Global};
@@ -13,9 +14,11 @@ use std::str;
 pub struct Entry<'t> {
     /// The number of the line that has the entry, from 1 on.
     pub number: u64,
+    /// The line, without its end.
+    pub line: &'t str,
     /// The pattern.
     pub pattern: &'t str,
-    /// The name. Empty if the line has none.
+    /// What the line has after the pattern, such as a name. Empty if it has nothing.
     pub name: &'t str,
 }
 
@@ -38,9 +41,10 @@ impl From<AllocError> for NoTable {
     }
 }
 
-/// The entries of a table, in order. A line that is empty, or that begins with `#`, has none. In
-/// any other line the pattern is before the first tab, and the name after it; a line without a tab
-/// is a pattern whose name is empty.
+/// The entries of a table, in order. A line that is empty, or that begins with `#`, has none; white
+/// space around a line is passed over, and so is a byte order mark before the first. In any other
+/// line the pattern is before the first tab, or without a tab before the first space, and the name
+/// after it.
 ///
 /// The error is `NotUtf8` with the number of the first line that is not UTF-8, or `OutOfMemory`.
 pub fn entries_of<'t>(alloc: Global, table: &'t [u8]) -> Result<Vec<Entry<'t>>, NoTable>
@@ -51,7 +55,7 @@ pub fn entries_of<'t>(alloc: Global, table: &'t [u8]) -> Result<Vec<Entry<'t>>, 
 {
     let mut entries = Vec::new(alloc);
     let mut number = 0u64;
-    for line in table.lines() {
+    for line in without_mark(table).lines() {
         number += 1;
         let Ok(text) = str::from_utf8(line) else {
             return Err(NoTable::NotUtf8(number));
@@ -59,6 +63,16 @@ pub fn entries_of<'t>(alloc: Global, table: &'t [u8]) -> Result<Vec<Entry<'t>>, 
         push_entry(&mut entries, number, text)?;
     }
     Ok(entries)
+}
+
+/// A text without the byte order mark with which it may begin.
+fn without_mark(text: &[u8]) -> &[u8]
+    ensures { result.now ≡ without_mark text.now }
+{
+    match text {
+        [0xEF, 0xBB, 0xBF, rest @ ..] => rest,
+        _ => text,
+    }
 }
 
 /// Appends the entry of a line, if it has one.
@@ -70,13 +84,14 @@ fn push_entry<'t>(
     ensures { OnOk result (entries_view entries.new.items
         ≡ entries_view entries.old.items ++ line_entries number line.now) }
 {
-    if !is_skipped(line) {
+    if !is_skipped(line.trim()) {
         entries.push(entry_of(number, line))?;
     }
     Ok(())
 }
 
-/// Whether a line has no entry: it is empty, or begins with `#`.
+/// Whether a line has no entry, given without the white space around it: it is empty, or begins
+/// with `#`.
 fn is_skipped(line: &str) -> bool
     ensures { result ≡ is_skipped line.now }
 {
@@ -90,16 +105,61 @@ fn is_skipped(line: &str) -> bool
 fn entry_of(number: u64, line: &str) -> Entry<'_>
     ensures { entry_view result ≡ line_entry number line.now }
 {
-    match line.split_once('\t') {
-        Some((pattern, name)) => Entry {
-            number,
-            pattern,
-            name,
-        },
-        None => Entry {
-            number,
-            pattern: line,
-            name: "",
-        },
+    let (pattern, name) = cells_of(line.trim());
+    Entry {
+        number,
+        line,
+        pattern,
+        name,
     }
+}
+
+/// The first cell of a text, and all others: what is before and after the first tab, or without a
+/// tab the first space, each without the white space around it.
+pub fn cells_of(text: &str) -> (&str, &str)
+    ensures first { result.0.now ≡ first_cell text.now }
+    ensures others { result.1.now ≡ other_cells text.now }
+{
+    if has_tab(text) {
+        trimmed(around_tab(text))
+    } else {
+        trimmed(around_space(text))
+    }
+}
+
+/// Whether a text has a tab.
+fn has_tab(text: &str) -> bool
+    ensures { result ≡ list_any is_tab text.now }
+{
+    text.as_bytes().contains(&b'\t')
+}
+
+/// What a text has before and after its first tab. Without a tab, all of it is before.
+fn around_tab(text: &str) -> (&str, &str)
+    ensures first { result.0.now ≡ before_first is_tab text.now }
+    ensures others { result.1.now ≡ after_first is_tab text.now }
+{
+    match text.split_once('\t') {
+        Some((first, others)) => (first, others),
+        None => (text, ""),
+    }
+}
+
+/// What a text has before and after its first space. Without a space, all of it is before.
+fn around_space(text: &str) -> (&str, &str)
+    ensures first { result.0.now ≡ before_first is_space text.now }
+    ensures others { result.1.now ≡ after_first is_space text.now }
+{
+    match text.split_once(' ') {
+        Some((first, others)) => (first, others),
+        None => (text, ""),
+    }
+}
+
+/// Two texts, each without the white space around it.
+fn trimmed<'t>(cells: (&'t str, &'t str)) -> (&'t str, &'t str)
+    ensures first { result.0.now ≡ trim cells.entry.0.now }
+    ensures others { result.1.now ≡ trim cells.entry.1.now }
+{
+    (cells.0.trim(), cells.1.trim())
 }

@@ -6,10 +6,9 @@ use Rattle.std.proofs.lemmas.Slice.Zip.{all_zipped_more}
 use Rattle.std.specs.Io.KnownBytes.{Appends}
 use Rattle.std.specs.List.{AllZip}
 use Rattle.std.specs.Prelude.{IfSome}
-use Rattle.urlpat_matching.specs.LineAnswers.{WritesAnswers, WritesInput}
+use Rattle.urlpat_matching.specs.LineAnswers.{LineRule, WritesAnswers, WritesInput}
 use Rattle.urlpat_matching.specs.Status.{status_of}
 use Rattle.urlpat_matching.specs.declared.answers.Tally.{Tally}
-use Rattle.urlpat_matching.specs.declared.answers.Verdict.{Verdict}
 use Rattle.urlpat_matching.specs.declared.command.LineStyle.{LineStyle}
 use Rattle.urlpattern_matcher.specs.declared.regexp.RegExp.{Ghosts as Engine}
 use Rattle.urlpattern_policy.specs.declared.decision.Decision.{Decision}
@@ -39,8 +38,8 @@ appends_kept (Some old) (Some mid) None written first second = absurd second
 appends_kept (Some old) (Some mid) (Some new) written first second = second ∙ append-nil mid ∙ first
 
 -- The output for the lines is written, and then nothing.
-pub lines_decided : (Answers : (text line : List ℕ) → Verdict → (written : List ℕ) → Type 0) (style : LineStyle) (input old mid new : Option (List ℕ)) (tally : Tally) (status : ℕ)
-    → WritesInput Answers style input old mid tally → Appends mid new [] → status ≡ status_of (tally.selected == 0)
-    → IfSome input (λ text. (denied : ℕ) × (status ≡ status_of (denied == 0)) × WritesAnswers Answers style text denied old new)
+pub lines_decided : (Answers : LineRule) (style : LineStyle) (input old mid new : Option (List ℕ)) (tally : Tally) (status : ℕ)
+    → WritesInput Answers style 1 input old mid tally → Appends mid new [] → status ≡ status_of (tally.selected == 0)
+    → IfSome input (λ text. (denied : ℕ) × (status ≡ status_of (denied == 0)) × WritesAnswers Answers style 1 text denied old new)
 lines_decided Answers style None old mid new tally status writes kept is = tt
 lines_decided Answers style (Some text) old mid new tally status (written, are, grown) kept is = (tally.selected, is, (written, are, appends_kept old mid new written grown kept))

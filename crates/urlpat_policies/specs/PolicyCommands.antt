@@ -3,11 +3,11 @@
 -- and `new` are the output before and after, as far as they are known.
 use Rattle.std.specs.Io.KnownBytes.{Appends}
 use Rattle.std.specs.List.{AllZip, list_any}
-use Rattle.std.specs.Prelude.{◌≡◌, ◌==◌, ◌⊎◌, ◌||◌, ℕ, Bool, false, true, not, List, [], ◌∷◌, None, Option, IfSome, map, if◌then◌else◌}
+use Rattle.std.specs.Prelude.{◌≡◌, ◌==◌, ◌⊎◌, ◌||◌, ℕ, Bool, false, true, not, List, [], ◌∷◌, None, Option, Some, IfSome, map, if◌then◌else◌}
 use Rattle.urlpat_matching.specs.LineAnswers.{WritesAnswers}
 use Rattle.urlpat_matching.specs.Status.{status_of}
 use Rattle.urlpat_matching.specs.declared.answers.Verdict.{Verdict}
-use Rattle.urlpat_matching.specs.declared.answers.Verdict.TheVariants.{Passed, Selected}
+use Rattle.urlpat_matching.specs.declared.answers.Verdict.TheVariants.{Passed, Rejected, Selected}
 use Rattle.urlpat_matching.specs.declared.command.LineStyle.{LineStyle}
 use Rattle.urlpattern_compare.specs.declared.candidates.TheConstants.{USUAL_LIMITS}
 use Rattle.urlpattern_matcher.specs.declared.regexp.RegExp.{Ghosts as Engine}
@@ -40,11 +40,13 @@ abbrev pub verdict_of : Decision → Verdict
 verdict_of (Allow rule) = Passed
 verdict_of (Deny reason) = Selected
 
--- The decision about the line's text is printed.
+-- The decision about the line's text is printed, or nothing if the line is rejected.
 abbrev pub IsLineDecided : {E : Type 0} → Engine E → UrlPolicy E
-    → (Prints : List Decision → List ℕ → Type 0) → (text line : List ℕ) → Verdict
-    → (written : List ℕ) → Type 0
-IsLineDecided engine policy Prints text line verdict written =
+    → (Prints : List Decision → List ℕ → Type 0) → (text : Option (List ℕ)) → (line : List ℕ)
+    → Verdict → (written : List ℕ) → Type 0
+IsLineDecided engine policy Prints None line verdict written =
+    (verdict ≡ Rejected) × (written ≡ [])
+IsLineDecided engine policy Prints (Some text) line verdict written =
     (decision : Decision) × IsDecided engine policy text decision
     × Prints (decision ∷ []) written × (verdict ≡ verdict_of decision)
 
@@ -59,7 +61,7 @@ abbrev pub DecidesLines : {E : Type 0} → Engine E → UrlPolicy E
     → (input old new : Option (List ℕ)) → Type 0
 DecidesLines engine policy Prints status input old new =
     IfSome input (λ text. (denied : ℕ) × (status ≡ status_of (denied == 0))
-    × WritesAnswers (IsLineDecided engine policy Prints) unlabelled text denied old new)
+    × WritesAnswers (IsLineDecided engine policy Prints) unlabelled 1 text denied old new)
 
 -- The decisions are printed. The exit status is 0 if none of them denies, else 1.
 abbrev pub PrintsDecided : (Prints : List Decision → List ℕ → Type 0) → List Decision

@@ -25,10 +25,13 @@ impl<R: RegExp, P: PolicyPrinter> Rule for Decider<'_, R, P> {
 
     fn answer(
         &self,
-        text: &str,
+        text: Option<&str>,
         _line: &[u8],
         written: &mut Vec<u8>,
     ) -> Result<Verdict, AllocError> {
+        let Some(text) = text else {
+            return Ok(Verdict::Rejected);
+        };
         let decision = decision_of(self.alloc, self.policy, text)?;
         let decisions = [decision];
         let piece = self

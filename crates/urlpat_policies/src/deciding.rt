@@ -95,7 +95,7 @@ fn decide_lines<R: RegExp, P: PolicyPrinter, In: BufRead, Out: Write, Err: Write
         numbered: false,
         flushed: false,
     };
-    match answer_lines(decider.alloc, decider, style, input, out, err) {
+    match answer_lines(decider.alloc, decider, style, 1, input, out, err) {
         Ok(tally) => finish(tally, out),
         Err(fault) => {
             report_lines(&fault, err);

@@ -90,7 +90,7 @@ module _ {E : Type 0} (engine : Engine E) where
       | inl known ↦
           let within = same_within (at parts.components name) (at others.components name) same known in
           (mean view parts made name known text (plain text line)).1
-          (within.within text line.scalars line.plain ((mean other others also name within.asked_known text (plain text line)).0 matched))
+          (within.within text line ((mean other others also name within.asked_known text (plain text line)).0 matched))
       | inr unknown ↦ same_match view other parts others made also name unknown same text (plain text line) matched
     ]
 

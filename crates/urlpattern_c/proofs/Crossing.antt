@@ -11,14 +11,24 @@ use Rattle.regex_literal.proofs.caseless.Caseless.TheSendSync as caseless
 use Rattle.regex_meta.specs.contracts.plan.Plans as Plans
 use Rattle.regex_meta.specs.contracts.program.Program as Program
 use Rattle.regex_nfa.proofs.nfa.Nfa.TheSendSync as nfa
+use Rattle.urlpattern_conditions.proofs.condition.Condition.TheLaws.TheKnot as conditions
 use Rattle.urlpattern.proofs.list.UrlPatternList.TheSendSync as list
 use Rattle.urlpattern.proofs.router.UrlPatternRouter.TheSendSync as router
 use Rattle.urlpattern_engine.proofs.strategy.StepSearch.TheSendSync as search_of_steps
 use Rattle.urlpattern_engine.specs.contracts.pattern_regexp.PatternRegexp as PatternRegexp
 use Rattle.urlpattern_ffi.specs.contracts.pattern_box.PatternBox as PatternBox
+use Rattle.urlpattern_ffi_routes.specs.contracts.routes_box.RoutesBox as RoutesBox
 use Rattle.urlpattern_ffi_tables.specs.contracts.policy_box.PolicyBox as PolicyBox
 use Rattle.urlpattern_ffi_tables.specs.contracts.router_box.RouterBox as RouterBox
+use Rattle.urlpattern_pattern.proofs.pattern.UrlPattern.TheSendSync as pattern
 use Rattle.urlpattern_policy.proofs.policy.UrlPolicy.TheSendSync as policy
+use Rattle.urlpattern_route_rules.proofs.fault.RouteFault.TheSendSync as route_fault
+use Rattle.urlpattern_routes.proofs.condition.RouterCondition.TheLaws.TheKnot as given_conditions
+use Rattle.urlpattern_routes.proofs.condition.RouterRequest.TheSendSync as request
+use Rattle.urlpattern_routes.proofs.source.RouterSource.TheSendSync as source
+use Rattle.urlpattern_routes.specs.contracts.condition.RouterCondition as RouterCondition
+use Rattle.urlpattern_routes.specs.contracts.rule.RouterRule as RouterRule
+use Rattle.url.proofs.Url.TheSendSync as url
 use Rattle.urlpattern_steps.proofs.step.Step.TheSendSync as step
 
 hir_send : IsSend (Hir.the_field).row
@@ -62,3 +72,14 @@ router_send = search (engine_send, engine_sync, router.the_send, router.the_sync
 
 pub policy_send : IsSend PolicyBox.the_row
 policy_send = search (engine_send, engine_sync, policy.the_send, policy.the_sync, crosses, sendable) depth 60 fits 20000
+
+-- Conditions are recursive, as expressions are.
+condition_send : IsSend (RouterCondition.the_field).row
+condition_send = search (request.the_field_send, given_conditions.crosses, crosses, sendable) depth 60 fits 20000
+
+rule_send : IsSend (RouterRule.the_field).row
+rule_send = search (condition_send, source.the_field_send, crosses, sendable) depth 60 fits 20000
+
+pub routes_send : IsSend RoutesBox.the_row
+routes_send =
+    search (engine_send, pattern.the_send, rule_send, route_fault.the_field_send, url.the_send, conditions.crosses, crosses, sendable) depth 60 fits 20000

@@ -25,8 +25,9 @@ use Rattle.std.proofs.cell.Inside.{Good}
 use Rattle.std.specs.Box.Ownership.{box_owns}
 use Rattle.std.proofs.ResultValues.{and_tt}
 use Rattle.std.specs.Prelude.{IsSome, Option, None, Some}
-use Rattle.urlpattern_c.specs.Memory.{Kept, kept_patterns_box, kept_policy_box, kept_router_box, leads_to}
+use Rattle.urlpattern_c.specs.Memory.{Kept, kept_patterns_box, kept_policy_box, kept_router_box, kept_routes_box, leads_to}
 use Rattle.urlpattern_ffi.specs.declared.pattern_box.PatternBox.{PatternBox}
+use Rattle.urlpattern_ffi_routes.specs.declared.routes_box.RoutesBox.{RoutesBox}
 use Rattle.urlpattern_ffi_tables.specs.declared.policy_box.PolicyBox.{PolicyBox}
 use Rattle.urlpattern_ffi_tables.specs.declared.router_box.RouterBox.{RouterBox}
 use Rattle.urlpattern_c.specs.contracts.box_parts.BoxParts as parts
@@ -82,14 +83,23 @@ pub filled_router : (held : Option Kept) → IsSome (kept_router_box held) → (
 filled_router None none = absurd cc
 filled_router (Some (inl patterns)) none = absurd cc
 filled_router (Some (inr (inl kept))) some = (kept, refl)
-filled_router (Some (inr (inr policy))) none = absurd cc
+filled_router (Some (inr (inr other))) none = absurd cc
 
 -- What a slot has that has a policy.
-pub filled_policy : (held : Option Kept) → IsSome (kept_policy_box held) → (kept : PolicyBox) × (held ≡ Some (inr (inr kept)))
+pub filled_policy : (held : Option Kept) → IsSome (kept_policy_box held) → (kept : PolicyBox) × (held ≡ Some (inr (inr (inl kept))))
 filled_policy None none = absurd cc
 filled_policy (Some (inl patterns)) none = absurd cc
 filled_policy (Some (inr (inl router))) none = absurd cc
-filled_policy (Some (inr (inr kept))) some = (kept, refl)
+filled_policy (Some (inr (inr (inl kept)))) some = (kept, refl)
+filled_policy (Some (inr (inr (inr routes)))) none = absurd cc
+
+-- What a slot has that has static routes.
+pub filled_routes : (held : Option Kept) → IsSome (kept_routes_box held) → (kept : RoutesBox) × (held ≡ Some (inr (inr (inr kept))))
+filled_routes None none = absurd cc
+filled_routes (Some (inl patterns)) none = absurd cc
+filled_routes (Some (inr (inl router))) none = absurd cc
+filled_routes (Some (inr (inr (inl policy)))) none = absurd cc
+filled_routes (Some (inr (inr (inr kept)))) some = (kept, refl)
 
 module _ {M : Type 1} {𝓤 : Ura M} {𝓛 : Logic 𝓤} {K : Type 0} {Γ : List (Item 𝓤)} {G : Goal 𝓤 𝓛.H} where
   pub slot_out : K → (d : Slot.Denot) (vs : List Val) → (vs ≡ single (ptr_val d.at) ∷ [] → Seq K 𝓛 (‵ (leads_to d.at d.held) ∷ Γ) G) → Seq K 𝓛 (‵ (Slot.own_val d vs) ∷ Γ) G

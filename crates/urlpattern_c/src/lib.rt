@@ -1,8 +1,8 @@
 //! URL patterns for other languages: the C functions of a static library. `bindings/c/urlpattern.h`
 //! declares them.
 //!
-//! Each function but those that free wraps a call of `urlpattern_ffi` or `urlpattern_ffi_tables`,
-//! and repeats its clauses.
+//! Each function but those that free wraps a call of `urlpattern_ffi`, `urlpattern_ffi_tables` or
+//! `urlpattern_ffi_routes`, and repeats its clauses.
 //! Raw pointers stay inside of `BoxParts` and `Slot`.
 #![tactic(auto)]
 
@@ -19,6 +19,8 @@ mod router;
 mod router_exports;
 mod sharing;
 mod slot;
+mod static_route_exports;
+mod static_routes;
 mod text_exports;
 mod whole_exports;
 
@@ -51,8 +53,16 @@ pub use router_exports::{
     urlpattern_router_insert, urlpattern_router_insert_init, urlpattern_router_link,
     urlpattern_router_share,
 };
-pub use sharing::{handles_are_sent, policies_are_sent, routers_are_sent, urlpattern_share};
+pub use sharing::{
+    handles_are_sent, policies_are_sent, routers_are_sent, static_routes_are_sent, urlpattern_share,
+};
 pub use slot::Slot;
+pub use static_route_exports::{
+    urlpattern_static_routes_decide, urlpattern_static_routes_fault, urlpattern_static_routes_free,
+    urlpattern_static_routes_read, urlpattern_static_routes_source,
+    urlpattern_static_routes_text_at_fault,
+};
+pub use static_routes::StaticRoutes;
 pub use text_exports::{
     urlpattern_captures_of_path, urlpattern_captures_of_texts, urlpattern_first_captures_of_path,
     urlpattern_first_captures_of_texts,

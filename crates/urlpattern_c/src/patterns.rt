@@ -52,6 +52,7 @@ impl Patterns {
 
     /// Puts patterns into the handle, which `take` has emptied. `None`: the handle stays empty.
     pub(crate) fn put(&mut self, kept: Option<Box<PatternBox>>)
+        requires { self.old.slot.held ≡ None }
         ensures { patterns_in self.new ≡ boxed_patterns kept }
     {
         *self = match kept {

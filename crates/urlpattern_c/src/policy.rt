@@ -52,6 +52,7 @@ impl Policy {
 
     /// Puts a policy into the handle, which `take` has emptied. `None`: the handle stays empty.
     pub(crate) fn put(&mut self, kept: Option<Box<PolicyBox>>)
+        requires { self.old.slot.held ≡ None }
         ensures { policy_in self.new ≡ boxed_policy kept }
     {
         *self = match kept {

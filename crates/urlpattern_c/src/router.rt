@@ -52,6 +52,7 @@ impl Router {
 
     /// Puts a router into the handle, which `take` has emptied. `None`: the handle stays empty.
     pub(crate) fn put(&mut self, kept: Option<Box<RouterBox>>)
+        requires { self.old.slot.held ≡ None }
         ensures { router_in self.new ≡ boxed_router kept }
     {
         *self = match kept {

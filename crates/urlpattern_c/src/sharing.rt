@@ -7,6 +7,7 @@ ghost use Rattle.urlpattern_ffi.specs.KeptPatterns.{AreShared};
 use crate::patterns::Patterns;
 use crate::policy::Policy;
 use crate::router::Router;
+use crate::static_routes::StaticRoutes;
 use std::alloc::Global;
 use urlpattern_ffi::{Status, share};
 
@@ -52,4 +53,9 @@ pub fn routers_are_sent(router: &Router) {
 /// A handle to a policy may go from thread to thread.
 pub fn policies_are_sent(policy: &Policy) {
     accept_sent(policy)
+}
+
+/// A handle to static routes may go from thread to thread.
+pub fn static_routes_are_sent(routes: &StaticRoutes) {
+    accept_sent(routes)
 }

@@ -1,13 +1,14 @@
 //! The pointer in a handle of C, to what the handle keeps. One type serves all handles, with two
 //! functions for each, since a function that C calls takes no struct with a type argument.
 ghost use Rattle.std.specs.Prelude.{◌≡◌, IsSome, Option, None, Some};
-ghost use Rattle.urlpattern_c.specs.Memory.{Kept, coded_kept, kept_patterns_box, kept_policy_box, kept_router_box};
+ghost use Rattle.urlpattern_c.specs.Memory.{Kept, coded_kept, kept_patterns_box, kept_policy_box, kept_router_box, kept_routes_box};
 
 use crate::box_parts::BoxParts;
 use std::alloc::Global;
 use std::marker::Model;
 use std::ptr;
 use urlpattern_ffi::PatternBox;
+use urlpattern_ffi_routes::RoutesBox;
 use urlpattern_ffi_tables::{PolicyBox, RouterBox};
 
 /// A pointer to what a handle keeps, or a null pointer.
@@ -58,6 +59,14 @@ impl Slot {
         Slot { at: at as *mut u8 }
     }
 
+    /// Returns the pointer of a box that was taken apart. The slot owns the static routes.
+    pub(crate) fn of_routes(parts: BoxParts<RoutesBox, Global>) -> Slot
+        ensures { kept_routes_box result.held ≡ Some parts.value }
+    {
+        let BoxParts { at, alloc: _ } = parts;
+        Slot { at: at as *mut u8 }
+    }
+
     /// Returns the parts of the box with the patterns, given the allocator that made the box.
     pub(crate) fn into_patterns(self, alloc: Global) -> BoxParts<PatternBox, Global>
         requires { IsSome (kept_patterns_box self.held) }
@@ -90,6 +99,18 @@ impl Slot {
         let Slot { at } = self;
         BoxParts {
             at: at as *mut PolicyBox,
+            alloc,
+        }
+    }
+
+    /// Returns the parts of the box with the static routes, given the allocator that made the box.
+    pub(crate) fn into_routes(self, alloc: Global) -> BoxParts<RoutesBox, Global>
+        requires { IsSome (kept_routes_box self.held) }
+        ensures { kept_routes_box self.held ≡ Some result.value }
+    {
+        let Slot { at } = self;
+        BoxParts {
+            at: at as *mut RoutesBox,
             alloc,
         }
     }

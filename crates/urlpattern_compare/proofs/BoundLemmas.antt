@@ -16,7 +16,7 @@ use Rattle.urlpattern_compare.specs.Candidates.{AreLines, TextAt}
 use Rattle.urlpattern_compare.specs.CommonLaws.{AreCounted, FewNeedFewTexts, IsSmall, MatchesAnything, SmallHaveAutomata, SmallNeedFewSets, joint_size}
 use Rattle.urlpattern_compare.specs.CommonTexts.{AcceptsAlike, AreAutomata, IsAutomatonOrLacks, LacksBy, LeadsAlike, TakeAlike}
 use Rattle.urlpattern_compare.specs.Conditions.{accepts, states_after}
-use Rattle.urlpattern_compare.specs.TextSearch.{AreApart, IsLine}
+use Rattle.urlpattern_compare.specs.TextSearch.{AreUnlike, IsLine}
 use Rattle.urlpattern_compare.specs.WorkBounds.{component_size}
 use Rattle.urlpattern_compare.specs.declared.common_texts.PatternAutomata.{PatternAutomata}
 use Rattle.urlpattern_compare.specs.declared.parts_automaton.PartsAutomaton.{PartsAutomaton}
@@ -30,14 +30,14 @@ use native.Mathlib.Nat as nat
 
 -- ---- lists of flags
 
-apart_at : {X : Type 0} (R : X → X → Type 0) (xs : List X) (d : X) → AreApart R xs → (i j : ℕ) → i < j → j < length xs → ¬ R (get_or xs i d) (get_or xs j d)
+apart_at : {X : Type 0} (R : X → X → Type 0) (xs : List X) (d : X) → AreUnlike R xs → (i j : ℕ) → i < j → j < length xs → ¬ R (get_or xs i d) (get_or xs j d)
 apart_at R [] d apart i j lt within = absurd (omega arith)
 apart_at R (x ∷ xs) d apart i zero lt within = absurd (omega arith)
 apart_at R (x ∷ xs) d apart zero (suc j) lt within = apart.0 j d (omega arith)
 apart_at R (x ∷ xs) d apart (suc i) (suc j) lt within = apart_at R xs d apart.1 i j (omega arith) (omega arith)
 
 -- At most 2 to the power of `m` values have different lists of `m` flags.
-pub few_values : {X : Type 0} (R : X → X → Type 0) (f : X → List Bool) (m : ℕ) (xs : List X) → ((x y : X) → f x ≡ f y → R x y) → ((x : X) → length (f x) ≡ m) → AreApart R xs → length xs ≤ 2 ^ m
+pub few_values : {X : Type 0} (R : X → X → Type 0) (f : X → List Bool) (m : ℕ) (xs : List X) → ((x y : X) → f x ≡ f y → R x y) → ((x : X) → length (f x) ≡ m) → AreUnlike R xs → length xs ≤ 2 ^ m
 few_values R f m [] alike long apart = omega arith
 few_values R f m (first ∷ xs) alike long apart =
     let every = first ∷ xs in
@@ -114,7 +114,7 @@ width_within (it ∷ others) name made generated =
     omega arith
 
 pub few_sets : SmallNeedFewSets
-few_sets all_of none_of limits name made generated small (texts, many, apart) =
+few_sets all_of none_of limits name made generated small (texts, many, lines, apart) =
     let patterns = all_of ++ none_of in
     let few = few_values (λ text other. All (λ automata. LeadsAlike text other (at automata name)) (automata_of patterns)) (sets patterns name) (width patterns name) texts
     (sets_alike patterns name) (sets_long patterns name) apart in
@@ -151,7 +151,7 @@ anything_alike component (Some automaton) text other made anything line other_li
     (accepts_means component automaton text line.scalars made).1 (anything made.known text line) ∙ sym ((accepts_means component automaton other other_line.scalars made).1 (anything made.known other other_line))
 
 -- No two values of those of which `P` holds are alike.
-apart_among : {X : Type 0} (P : X → Type 0) (R : X → X → Type 0) (xs : List X) → All P xs → AreApart R xs → AreApart (λ x y. P x → P y → R x y) xs
+apart_among : {X : Type 0} (P : X → Type 0) (R : X → X → Type 0) (xs : List X) → All P xs → AreUnlike R xs → AreUnlike (λ x y. P x → P y → R x y) xs
 apart_among P R [] all apart = tt
 apart_among P R (x ∷ xs) all (first, apart) =
     let rest = All-tail P x xs all in
@@ -212,7 +212,7 @@ small_automata patterns lack small (pattern, there, (none, lacks)) many =
     let is = All-contains (λ (it : PatternAutomata). IsSmall (at it.parts.components lack.component)) patterns pattern small has in
     let size = is.small in
     let states = parts_states (options_view component.options) (parts_view component.parts.items) in
-    elim (subst (λ reason. LacksBy component reason) many lacks) [
+    elim (subst (λ reason. LacksBy component reason) many lacks).1 [
       | inl custom ↦ absurd (custom is.generated)
       | inr above ↦ absurd (omega arith)
     ]

@@ -1,8 +1,8 @@
 -- Conditions on eight texts, and what candidates divide.
-use Rattle.std.proofs.Common.{◌≡◌, ℕ, ◌+◌, ◌<◌, Bool, true, false, List, [], ◌∷◌, ◌++◌, length, refl, sym, subst, ap, ◌∙◌, ◌⊎◌, inl, inr, ◌↔◌, arith, append_assoc, eqb-true, get_or, drop, if◌then◌else◌, take, Option, Some, None}
+use Rattle.std.proofs.Common.{◌≡◌, ℕ, ◌+◌, Bool, true, false, List, [], ◌∷◌, ◌++◌, refl, sym, subst, ap, ◌∙◌, ◌⊎◌, inl, inr, ◌↔◌, append_assoc, eqb-true, get_or, drop, if◌then◌else◌, take, Option, Some, None}
 use Rattle.std.proofs.lemmas.Bool.{eqb-false, false≢true}
 use Rattle.std.proofs.lemmas.List.{take-append-drop}
-use Rattle.std.proofs.lemmas.List.Elements.{All-append, All-cons, All-contains, All-head, All-nil, All-push, All-tail, All-weaker, Contains-append_cases, Contains-append_left, Contains-append_right, Contains-get_or, Contains-push, Contains-push_cases}
+use Rattle.std.proofs.lemmas.List.Elements.{All-append, All-cons, All-contains, All-head, All-nil, All-push, All-tail, All-weaker, Contains-append_left, Contains-append_right, Contains-get_or, Contains-push, Contains-push_cases}
 use Rattle.std.specs.List.{All, Contains}
 use Rattle.std.specs.Option.{IsSome, option_or}
 use Rattle.std.specs.Prelude.{◌==◌, IfErr, IfOk, IfSome, IsTrue, Result, Ok, Err, not}
@@ -10,7 +10,7 @@ use Rattle.std.specs.declared.alloc.Global.{Global}
 use Rattle.std.specs.declared.vec.Vec.{Vec}
 use Rattle.urlpattern_compare.specs.Candidates.{AlikeBy, AreCandidates, AreFirstTexts, AreLines, HasManySetsAt, IsAmong, IsCandidateOf, IsFirstText, IsFoundAt, IsInside, IsSplit, IsWithText, MeetsAt, MeetsEach, ShareBy, TextAt, negated, text_at}
 use Rattle.urlpattern_compare.specs.Conditions.{Meets, accepts, is_as, is_met}
-use Rattle.urlpattern_compare.specs.TextSearch.{AreApart, IsFoundText, IsLine}
+use Rattle.urlpattern_compare.specs.TextSearch.{AreUnlike, IsFoundText, IsLine}
 use Rattle.urlpattern_compare.specs.declared.candidates.Candidate.{Candidate}
 use Rattle.urlpattern_compare.specs.declared.candidates.NoTexts.{NoTexts}
 use Rattle.urlpattern_compare.specs.declared.candidates.NoTexts.TheVariants as lacking
@@ -205,12 +205,12 @@ inside_longer old more texts (it, has, met) = (it, Contains-append_left old more
 
 -- ---- candidates that are apart
 
-pub apart_weaker : {X : Type 0} (R S : X → X → Type 0) (xs : List X) → ((x y : X) → S x y → R x y) → AreApart R xs → AreApart S xs
+pub apart_weaker : {X : Type 0} (R S : X → X → Type 0) (xs : List X) → ((x y : X) → S x y → R x y) → AreUnlike R xs → AreUnlike S xs
 apart_weaker R S [] weaker apart = tt
 apart_weaker R S (x ∷ xs) weaker (first, apart) =
     (All-weaker (λ other. ¬ R x other) (λ other. ¬ S x other) (λ other none same. none (weaker x other same)) xs first, apart_weaker R S xs weaker apart)
 
-pub apart_append : {X : Type 0} (R : X → X → Type 0) (xs ys : List X) → AreApart R xs → AreApart R ys → All (λ x. All (λ y. ¬ R x y) ys) xs → AreApart R (xs ++ ys)
+pub apart_append : {X : Type 0} (R : X → X → Type 0) (xs ys : List X) → AreUnlike R xs → AreUnlike R ys → All (λ x. All (λ y. ¬ R x y) ys) xs → AreUnlike R (xs ++ ys)
 apart_append R [] ys apart others cross = others
 apart_append R (x ∷ xs) ys (first, apart) others cross = (
   All-append (λ other. ¬ R x other) xs ys first (All-head (λ it. All (λ y. ¬ R it y) ys) x xs cross),

@@ -2,9 +2,10 @@
 use Rattle.std.proofs.Common.{◌≡◌, ◌≢◌, ℕ, Bool, true, false, List, [], ◌∷◌, ◌++◌, ◌∙◌, ap, ap₂, append-nil, codes, inl, map, refl, subst, sym, Option, Some, None}
 use Rattle.std.proofs.lemmas.Bool.{false≢true}
 use Rattle.std.specs.Prelude.{◌&&◌, not}
+use Rattle.urlpattern_compare.proofs.StateSets.{contains_head, contains_tail}
 use Rattle.urlpattern_compare.specs.Comparing.{IsKnown}
 use Rattle.urlpattern_compare.specs.MeantTexts.{MeansText, folded_options}
-use Rattle.urlpattern_compare.specs.TextSearch.{with_cases}
+use Rattle.urlpattern_compare.specs.Exits.{HasCases}
 use Rattle.urlpattern_meaning.specs.Matching.{folded_character}
 use Rattle.urlpattern_expressions.specs.SimpleExpressions.{AreSimple}
 use Rattle.urlpattern_syntax.specs.Options.{OptionsView, default_options}
@@ -55,15 +56,11 @@ the_delimiter_is_folded = refl
 -- ---- classes of characters
 
 -- Where case is ignored, a test that names `a` tells `A` from other characters too.
-both_cases_are_marked : with_cases true (codes "\n") 97 ≡ codes "\naA"
-both_cases_are_marked = refl
+both_cases_are_named : HasCases true (10 ∷ 97 ∷ 65 ∷ []) 97
+both_cases_are_named = (contains_tail 10 97 (97 ∷ 65 ∷ []) (contains_head 97 (65 ∷ [])), contains_tail 10 65 (97 ∷ 65 ∷ []) (contains_tail 97 65 (65 ∷ []) (contains_head 65 [])))
 
-one_case_is_marked : with_cases false (codes "\n") 97 ≡ codes "\na"
-one_case_is_marked = refl
-
--- A character without case is marked once.
-no_letter_is_marked_once : with_cases true (codes "\n") 47 ≡ codes "\n/"
-no_letter_is_marked_once = refl
+one_case_is_named : HasCases false (10 ∷ 97 ∷ []) 97
+one_case_is_named = contains_tail 10 97 (97 ∷ []) (contains_head 97 [])
 
 -- ---- engines
 
@@ -73,4 +70,4 @@ unknown component ignored keeps known = false≢true (sym known.case ∙ ap₂ (
 
 -- Where case is kept, no engine matters.
 known : (component : ComponentParts) → AreSimple (parts_view component.parts.items) → component.options.ignore_case ≡ false → IsKnown component
-known component simple kept = record { told = record { simple = simple; by_case = inl kept }; case = ap (λ (ignores : Bool). ignores && not component.honours_case) kept }
+known component simple kept = record { parts = record { simple = simple; by_case = inl kept }; case = ap (λ (ignores : Bool). ignores && not component.honours_case) kept }

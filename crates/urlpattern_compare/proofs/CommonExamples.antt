@@ -2,7 +2,7 @@
 use Rattle.std.proofs.Common.{◌≡◌, ℕ, Bool, true, false, List, [], ◌∷◌, arith, codes, refl, subst, sym}
 use Rattle.std.proofs.lemmas.Bool.{false≢true}
 use Rattle.std.proofs.lemmas.List.Elements.{All-cons, All-head, All-nil}
-use Rattle.std.specs.List.{All}
+use Rattle.std.specs.List.{All, filter}
 use Rattle.urlpattern_compare.proofs.ComponentLemmas.{wildcard_means}
 use Rattle.urlpattern_compare.specs.Candidates.{AreLines, TextAt}
 use Rattle.urlpattern_compare.specs.CommonLaws.{MatchesAnything}
@@ -11,7 +11,7 @@ use Rattle.urlpattern_compare.specs.Comparing.{IsKnown, anything_part}
 use Rattle.urlpattern_compare.specs.Conditions.{states_by}
 use Rattle.urlpattern_compare.specs.MeantTexts.{MeansText}
 use Rattle.urlpattern_compare.specs.Searching.{is_in}
-use Rattle.urlpattern_compare.specs.TextSearch.{AreApart, with_named_from}
+use Rattle.urlpattern_compare.specs.TextSearch.{AreUnlike}
 use Rattle.urlpattern_compare.specs.declared.common_texts.PatternAutomata.{PatternAutomata}
 use Rattle.urlpattern_compare.specs.declared.parts_automaton.Edge.{Edge}
 use Rattle.urlpattern_compare.specs.declared.parts_automaton.Test.TheVariants.{AnyBut, Only}
@@ -43,20 +43,17 @@ after_another = refl
 ends : is_in (states_by edges start (codes "a")) 0 ≡ true
 ends = refl
 
--- At the start an `a` alone counts, and after it a line feed alone.
-at_the_start : with_named_from false (codes "\n") start edges ≡ codes "\na"
+-- At the start, the edges of state 2 alone leave the set.
+at_the_start : filter (λ (edge : Edge). is_in start edge.from) edges ≡ record { from = 2; test = Only 97; to = 0 } ∷ record { from = 2; test = Only 97; to = 1 } ∷ []
 at_the_start = refl
 
-after_the_first : with_named_from false (codes "\n") (true ∷ true ∷ false ∷ []) edges ≡ codes "\n"
-after_the_first = refl
+-- ---- values that are unlike
 
--- ---- values that are apart
+two_are_unlike : AreUnlike (λ (x y : ℕ). x ≡ y) (1 ∷ 2 ∷ [])
+two_are_unlike = (All-cons (λ (m : ℕ). ¬ (1 ≡ m)) 2 [] (λ e. omega (arith, e)) (All-nil (λ (m : ℕ). ¬ (1 ≡ m))), (All-nil (λ (m : ℕ). ¬ (2 ≡ m)), tt))
 
-two_are_apart : AreApart (λ (x y : ℕ). x ≡ y) (1 ∷ 2 ∷ [])
-two_are_apart = (All-cons (λ (m : ℕ). ¬ (1 ≡ m)) 2 [] (λ e. omega (arith, e)) (All-nil (λ (m : ℕ). ¬ (1 ≡ m))), (All-nil (λ (m : ℕ). ¬ (2 ≡ m)), tt))
-
-one_is_not_apart_from_itself : (n : ℕ) → ¬ AreApart (λ (x y : ℕ). x ≡ y) (n ∷ n ∷ [])
-one_is_not_apart_from_itself n apart = All-head (λ (m : ℕ). ¬ (n ≡ m)) n [] apart.0 refl
+one_is_not_unlike_itself : (n : ℕ) → ¬ AreUnlike (λ (x y : ℕ). x ≡ y) (n ∷ n ∷ [])
+one_is_not_unlike_itself n apart = All-head (λ (m : ℕ). ¬ (n ≡ m)) n [] apart.0 refl
 
 -- ---- how many texts are tried
 

@@ -1,5 +1,5 @@
 -- Common texts of patterns, by what the automata of their components accept.
-use Rattle.std.proofs.Common.{◌≡◌, ℕ, zero, suc, ◌<◌, Bool, true, false, List, [], ◌∷◌, ◌++◌, length, refl, sym, subst, ap, ◌∙◌, ◌⊎◌, inl, inr, ◌↔◌, arith, get_or, map, Option, Some, None}
+use Rattle.std.proofs.Common.{◌≡◌, ℕ, zero, suc, ◌<◌, Bool, true, List, [], ◌∷◌, ◌++◌, length, refl, sym, subst, ap, ◌∙◌, inl, inr, ◌↔◌, arith, get_or, map, Option, Some, None}
 use Rattle.std.proofs.lemmas.Bool.{false≢true}
 use Rattle.std.proofs.lemmas.List.Elements.{All-cons, All-contains, All-contains_itself, All-head, All-nil, All-tail}
 use Rattle.std.proofs.lemmas.Option.{slice_get-get_or, slice_get-map}
@@ -11,15 +11,15 @@ use Rattle.std.specs.declared.alloc.AllocError.{AllocError}
 use Rattle.std.specs.declared.alloc.Global.{Global}
 use Rattle.urlpattern_compare.proofs.CandidateLemmas.{all_back, all_front}
 use Rattle.urlpattern_compare.proofs.PartsRead.{made_within, meaning_accepted}
-use Rattle.urlpattern_compare.proofs.StateSets.{leads_moved, leads_starts, length_moved, length_starts}
+use Rattle.urlpattern_compare.proofs.StateSets.{LeadsIn, leads_moved, leads_starts, length_moved, length_starts}
 use Rattle.urlpattern_compare.proofs.WorkLemmas.{made_states}
 use Rattle.urlpattern_compare.specs.Automata.{AcceptsText, IsWithin}
-use Rattle.urlpattern_compare.specs.Candidates.{AreLines, TextAt, text_at}
+use Rattle.urlpattern_compare.specs.Candidates.{AreLines, TextAt}
 use Rattle.urlpattern_compare.specs.CommonTexts.{AreAutomata, AreCommon, AreMeanings, AreTaken, HasAutomata, IsAutomatonOf, IsAutomatonOrLacks, IsLack, IsLackOf, IsSameIn, IsSure, LacksBy, MeanAlike, MeansByParts, MeansEach, PatternMeaning, Takes, TakesAll, TakesEach, parts_of, string_at}
 use Rattle.urlpattern_compare.specs.Comparing.{AreSame, IsKnown, IsUnknownBy, MeansIn}
 use Rattle.urlpattern_compare.specs.Conditions.{accepts, states_by}
-use Rattle.urlpattern_compare.specs.Making.{HasManyStates, IsMadeOf}
-use Rattle.urlpattern_compare.specs.Searching.{LeadsIn, is_in, moved, starts_of}
+use Rattle.urlpattern_compare.specs.Making.{MayHaveManyStates, IsMadeOf}
+use Rattle.urlpattern_compare.specs.Searching.{is_in, moved, starts_of}
 use Rattle.urlpattern_compare.specs.TextSearch.{IsLine}
 use Rattle.urlpattern_compare.specs.declared.common_texts.Lack.{Lack}
 use Rattle.urlpattern_compare.specs.declared.common_texts.PatternAutomata.{PatternAutomata}
@@ -60,7 +60,7 @@ made_means component automaton text good known is =
     let options = options_view component.options in
     let parts = parts_view component.parts.items in
     let here = accepts_text automaton text (made_within options parts automaton is) in
-    let meant = meaning_accepted options parts automaton known.told.by_case is text good in
+    let meant = meaning_accepted options parts automaton known.parts.by_case is text good in
     (λ has. meant.0 (here.1 has), λ means. here.0 (meant.1 means))
 
 -- The automaton of a component accepts the texts that its parts mean.
@@ -216,9 +216,9 @@ only_many component known reasons.TooMany is = is
 
 pub automaton_found : (component : ComponentParts) (result : Result (Option PartsAutomaton) AllocError) → IsKnown component →
     IfOk result (λ found. IfSome found (IsMadeOf (options_view component.options) (parts_view component.parts.items))) →
-    IfOk result (λ found. IfNone found (HasManyStates (options_view component.options) (parts_view component.parts.items))) → IfOk result (IsAutomatonOrLacks component)
+    IfOk result (λ found. IfNone found (MayHaveManyStates (options_view component.options) (parts_view component.parts.items))) → IfOk result (IsAutomatonOrLacks component)
 automaton_found component (Err e) known is many = is
-automaton_found component (Ok None) known is many = (reasons.TooMany, many)
+automaton_found component (Ok None) known is many = (reasons.TooMany, (known, many))
 automaton_found component (Ok (Some automaton)) known is many = record {
   known = known;
   means = λ text good. made_means component automaton text good known is;

@@ -3,8 +3,8 @@ use Rattle.std.proofs.Common.{◌≡◌, ◌≢◌, ◌∙◌, ℕ, Bool, true, 
 use Rattle.std.proofs.lemmas.Bool.{false≢true}
 use Rattle.std.proofs.lemmas.List.Elements.{All-cons, All-nil}
 use Rattle.std.specs.Prelude.{◌==◌, ◌&&◌, IfNone, IfSome, IsTrue, not}
-use Rattle.urlpattern_compare.proofs.AnswerLemmas.{told_generated}
-use Rattle.urlpattern_compare.specs.Answers.{IsCovering, IsOverlap, IsReason, IsUntold}
+use Rattle.urlpattern_compare.proofs.AnswerLemmas.{generated_known, known_generated}
+use Rattle.urlpattern_compare.specs.Answers.{IsCovering, IsOverlap, IsReason, AreKnown, AreUnknownBy}
 use Rattle.urlpattern_compare.specs.MeantTexts.{MeansText}
 use Rattle.urlpattern_compare.specs.declared.coverage.Covering.{Covering}
 use Rattle.urlpattern_compare.specs.declared.coverage.Covering.TheVariants as coverings
@@ -14,6 +14,7 @@ use Rattle.urlpattern_compare.specs.declared.coverage.Reason.{Reason}
 use Rattle.urlpattern_compare.specs.declared.coverage.Reason.TheVariants as reasons
 use Rattle.urlpattern_compare.specs.Comparing.{IsComponentOverlap, IsExample, IsKnown, IsReasonAlone, IsReasonToMiss, IsReasonToShare, IsUnknownBy, MatchesEveryLine, MayMissLine, anything_part, misses_case}
 use Rattle.urlpattern_compare.specs.ComparingSteps.{IsCoveringByMeaning}
+use Rattle.urlpattern_compare.specs.TextSearch.{IsLine}
 use Rattle.urlpattern_expressions.proofs.SimpleLemmas.{generated_simple}
 use Rattle.urlpattern_expressions.specs.SimpleExpressions.{AreSimple}
 use Rattle.urlpattern_meaning.specs.PartMeaning.{AreGenerated}
@@ -44,10 +45,10 @@ wildcard_means options text line =
 -- ---- reasons
 
 -- Where parts do not tell which texts they match, nothing is known of the component.
-pub untold_unknown : (component : ComponentParts) (reason : Reason) → IsUntold (options_view component.options) (parts_view component.parts.items) reason → IsUnknownBy component reason
-untold_unknown component reasons.CustomExpression is = (λ known. is.0 known.told.simple, is.1)
-untold_unknown component reasons.IgnoredCase is = (λ known. is.0 (told_generated (options_view component.options) (parts_view component.parts.items) known.told is.1), is.1)
-untold_unknown component reasons.TooMany is = is
+pub parts_unknown : (component : ComponentParts) (reason : Reason) → AreUnknownBy (options_view component.options) (parts_view component.parts.items) reason → IsUnknownBy component reason
+parts_unknown component reasons.CustomExpression is = (λ known. is.0 known.parts.simple, is.1)
+parts_unknown component reasons.IgnoredCase is = (λ known. is.0 (known_generated (options_view component.options) (parts_view component.parts.items) known.parts is.1), is.1)
+parts_unknown component reasons.TooMany is = is
 
 -- What the options and the flag `i` decide of a component.
 case_ignored : (ignored honours : Bool) → (ignored && not honours) ≡ true → ignored ≡ true
@@ -71,13 +72,13 @@ missed_unknown component missed = (
 )
 
 -- A reason that is true of the parts of two components is true of the components.
-reason_shared : (component other : ComponentParts) (reason : Reason) →
+reason_shared : (component other : ComponentParts) (reason : Reason) → IsKnown component → IsKnown other →
     IsReason (options_view component.options) (parts_view component.parts.items) (options_view other.options) (parts_view other.parts.items) reason → IsReasonToShare component other reason
-reason_shared component other reasons.CustomExpression (inl is) = inl (untold_unknown component reasons.CustomExpression is)
-reason_shared component other reasons.CustomExpression (inr is) = inr (untold_unknown other reasons.CustomExpression is)
-reason_shared component other reasons.IgnoredCase (inl is) = inl (untold_unknown component reasons.IgnoredCase is)
-reason_shared component other reasons.IgnoredCase (inr is) = inr (untold_unknown other reasons.IgnoredCase is)
-reason_shared component other reasons.TooMany is = is
+reason_shared component other reasons.CustomExpression known other_known (inl is) = inl (parts_unknown component reasons.CustomExpression is)
+reason_shared component other reasons.CustomExpression known other_known (inr is) = inr (parts_unknown other reasons.CustomExpression is)
+reason_shared component other reasons.IgnoredCase known other_known (inl is) = inl (parts_unknown component reasons.IgnoredCase is)
+reason_shared component other reasons.IgnoredCase known other_known (inr is) = inr (parts_unknown other reasons.IgnoredCase is)
+reason_shared component other reasons.TooMany known other_known is = (known, other_known, is)
 
 pub first_unknown : (component other : ComponentParts) (reason : Reason) → IsUnknownBy component reason → IsReasonToShare component other reason
 first_unknown component other reasons.CustomExpression is = inl is
@@ -114,19 +115,23 @@ anything_generated = All-cons (λ (part : PartView). part.kind ≢ PartType.Rege
 anything_simple : AreSimple (anything_part ∷ [])
 anything_simple = generated_simple (anything_part ∷ []) anything_generated
 
-own_alone : (component : ComponentParts) (reason : Reason) → IsReason (options_view component.options) (parts_view component.parts.items) default_options (anything_part ∷ []) reason → IsReasonAlone component reason
-own_alone component reasons.CustomExpression (inl is) = untold_unknown component reasons.CustomExpression is
-own_alone component reasons.CustomExpression (inr is) = absurd (is.0 anything_simple)
-own_alone component reasons.IgnoredCase (inl is) = untold_unknown component reasons.IgnoredCase is
-own_alone component reasons.IgnoredCase (inr is) = absurd (is.0 anything_generated)
-own_alone component reasons.TooMany is = is
+-- A full wildcard tells which texts it matches.
+pub anything_known : (component : ComponentParts) → parts_view component.parts.items ≡ anything_part ∷ [] → AreKnown (options_view component.options) (parts_view component.parts.items)
+anything_known component are = subst (AreKnown (options_view component.options)) (sym are) (generated_known (options_view component.options) (anything_part ∷ []) anything_generated)
 
-own_missed : (component : ComponentParts) (reason : Reason) → IsReason default_options (anything_part ∷ []) (options_view component.options) (parts_view component.parts.items) reason → IsReasonToMiss component reason
-own_missed component reasons.CustomExpression (inl is) = absurd (is.0 anything_simple)
-own_missed component reasons.CustomExpression (inr is) = untold_unknown component reasons.CustomExpression is
-own_missed component reasons.IgnoredCase (inl is) = absurd (is.0 anything_generated)
-own_missed component reasons.IgnoredCase (inr is) = untold_unknown component reasons.IgnoredCase is
-own_missed component reasons.TooMany is = is
+own_alone : (component : ComponentParts) (reason : Reason) → IsKnown component → IsReason (options_view component.options) (parts_view component.parts.items) default_options (anything_part ∷ []) reason → IsReasonAlone component reason
+own_alone component reasons.CustomExpression known (inl is) = parts_unknown component reasons.CustomExpression is
+own_alone component reasons.CustomExpression known (inr is) = absurd (is.0 anything_simple)
+own_alone component reasons.IgnoredCase known (inl is) = parts_unknown component reasons.IgnoredCase is
+own_alone component reasons.IgnoredCase known (inr is) = absurd (is.0 anything_generated)
+own_alone component reasons.TooMany known is = (known, is)
+
+own_missed : (component : ComponentParts) (reason : Reason) → IsKnown component → IsReason default_options (anything_part ∷ []) (options_view component.options) (parts_view component.parts.items) reason → IsReasonToMiss component reason
+own_missed component reasons.CustomExpression known (inl is) = absurd (is.0 anything_simple)
+own_missed component reasons.CustomExpression known (inr is) = parts_unknown component reasons.CustomExpression is
+own_missed component reasons.IgnoredCase known (inl is) = absurd (is.0 anything_generated)
+own_missed component reasons.IgnoredCase known (inr is) = parts_unknown component reasons.IgnoredCase is
+own_missed component reasons.TooMany known is = (known, is)
 
 -- ---- results of lists of parts
 
@@ -136,7 +141,7 @@ pub covering_known : (component asked : ComponentParts) (covering : Covering) �
 covering_known component asked coverings.Covered known asked_known is = record { known = known; asked_known = asked_known; within = is }
 covering_known component asked (coverings.NotCovered text) known asked_known is =
     record { known = known; meant = record { known = asked_known; means = is.0; line = is.2 }; not_meant = is.1 }
-covering_known component asked (coverings.Unknown reason) known asked_known is = reason_shared asked component reason is
+covering_known component asked (coverings.Unknown reason) known asked_known is = reason_shared asked component reason asked_known known is
 
 pub overlap_known : (component other : ComponentParts) (overlap : Overlap) → IsKnown component → IsKnown other →
     IsOverlap (options_view component.options) (parts_view component.parts.items) (options_view other.options) (parts_view other.parts.items) overlap →
@@ -144,40 +149,40 @@ pub overlap_known : (component other : ComponentParts) (overlap : Overlap) → I
 overlap_known component other overlaps.Apart known other_known is = record { known = known; other_known = other_known; apart = is }
 overlap_known component other (overlaps.Common text) known other_known is =
     (record { known = known; means = is.0; line = is.2 }, record { known = other_known; means = is.1; line = is.2 })
-overlap_known component other (overlaps.Unknown reason) known other_known is = reason_shared component other reason is
+overlap_known component other (overlaps.Unknown reason) known other_known is = reason_shared component other reason known other_known is
 
 -- A component that covers a full wildcard means each line.
 pub each_line : (component anything : ComponentParts) → IsKnown component → parts_view anything.parts.items ≡ anything_part ∷ [] →
     IsCovering (options_view component.options) (parts_view component.parts.items) (options_view anything.options) (parts_view anything.parts.items) coverings.Covered → MatchesEveryLine component
 each_line component anything known are is = record {
   known = known;
-  takes = λ text fine line. is text fine line (subst (λ parts. MeansText (options_view anything.options) parts text) (sym are) (wildcard_means (options_view anything.options) text line));
+  takes = λ text line. is text line (subst (λ parts. MeansText (options_view anything.options) parts text) (sym are) (wildcard_means (options_view anything.options) text line.plain));
 }
 
 -- A component that does not cover a full wildcard misses a line.
 pub line_missed : (component anything : ComponentParts) (text : List ℕ) →
-    MeansText (options_view anything.options) (parts_view anything.parts.items) text × (¬ MeansText (options_view component.options) (parts_view component.parts.items) text) × IsTrue (lacks line_feed text)
+    MeansText (options_view anything.options) (parts_view anything.parts.items) text × (¬ MeansText (options_view component.options) (parts_view component.parts.items) text) × IsLine text
     → MayMissLine component
 line_missed component anything text is = inl (text, is.2, is.1)
 
-reason_with_anything : (component anything : ComponentParts) (reason : Reason) → options_view anything.options ≡ default_options → parts_view anything.parts.items ≡ anything_part ∷ [] →
+reason_with_anything : (component anything : ComponentParts) (reason : Reason) → IsKnown component → options_view anything.options ≡ default_options → parts_view anything.parts.items ≡ anything_part ∷ [] →
     IsReason (options_view component.options) (parts_view component.parts.items) (options_view anything.options) (parts_view anything.parts.items) reason → IsReasonAlone component reason
-reason_with_anything component anything reason options are is =
+reason_with_anything component anything reason known options are is =
     let own = options_view component.options in
     let parts = parts_view component.parts.items in
-    own_alone component reason
+    own_alone component reason known
     (subst (λ (o : OptionsView). IsReason own parts o (anything_part ∷ []) reason) options
     (subst (λ (ps : List PartView). IsReason own parts (options_view anything.options) ps reason) are is))
 
 -- A component of which it is not known whether it covers a full wildcard may miss a line.
-pub line_doubted : (component anything : ComponentParts) (reason : Reason) → options_view anything.options ≡ default_options → parts_view anything.parts.items ≡ anything_part ∷ [] →
+pub line_doubted : (component anything : ComponentParts) (reason : Reason) → IsKnown component → options_view anything.options ≡ default_options → parts_view anything.parts.items ≡ anything_part ∷ [] →
     IsCovering (options_view component.options) (parts_view component.parts.items) (options_view anything.options) (parts_view anything.parts.items) (coverings.Unknown reason) → MayMissLine component
-line_doubted component anything reason options are is =
+line_doubted component anything reason known options are is =
     let own = options_view component.options in
     let parts = parts_view component.parts.items in
     inr (
       reason,
-      own_missed component reason
+      own_missed component reason known
           (subst (λ (o : OptionsView). IsReason o (anything_part ∷ []) own parts reason) options
           (subst (λ (ps : List PartView). IsReason (options_view anything.options) ps own parts reason) are is)),
     )
@@ -188,7 +193,7 @@ pub example_known : (component anything : ComponentParts) (overlap : Overlap) �
     IsOverlap (options_view component.options) (parts_view component.parts.items) (options_view anything.options) (parts_view anything.parts.items) overlap → IsExample component overlap
 example_known component anything overlaps.Apart known options are is = record {
   known = known;
-  takes_none = λ text fine line means. is text fine line means (subst (λ parts. MeansText (options_view anything.options) parts text) (sym are) (wildcard_means (options_view anything.options) text line));
+  takes_none = λ text line means. is text line means (subst (λ parts. MeansText (options_view anything.options) parts text) (sym are) (wildcard_means (options_view anything.options) text line.plain));
 }
 example_known component anything (overlaps.Common text) known options are is = record { known = known; means = is.0; line = is.2 }
-example_known component anything (overlaps.Unknown reason) known options are is = reason_with_anything component anything reason options are is
+example_known component anything (overlaps.Unknown reason) known options are is = reason_with_anything component anything reason known options are is

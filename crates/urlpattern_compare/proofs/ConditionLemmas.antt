@@ -1,7 +1,7 @@
 -- What a text does to several automata.
-use Rattle.std.proofs.Common.{◌≡◌, ℕ, zero, suc, ◌+◌, ◌≤◌, Bool, true, false, List, [], ◌∷◌, ◌++◌, length, map, refl, sym, subst, ap, ap₂, ◌∙◌, ◌↔◌, arith, append_assoc, append-nil, take, drop, take_at, drop_at, length-append, length-drop, length-take-le, replicate, if◌then◌else◌}
+use Rattle.std.proofs.Common.{◌≡◌, ℕ, zero, suc, ◌+◌, ◌≤◌, Bool, true, false, List, [], ◌∷◌, ◌++◌, length, map, refl, sym, ap, ap₂, ◌∙◌, ◌↔◌, arith, append_assoc, append-nil, take, drop, take_at, drop_at, length-append, length-drop, length-take-le, replicate, if◌then◌else◌}
 use Rattle.std.proofs.lemmas.List.Elements.{All-cons, All-head, All-nil, All-tail}
-use Rattle.std.specs.List.{All, list_any}
+use Rattle.std.specs.List.{list_any}
 use Rattle.std.specs.Prelude.{◌&&◌, ◌||◌, IsTrue, not, slice_set}
 use Rattle.urlpattern_compare.specs.Automata.{passes}
 use Rattle.urlpattern_compare.specs.Conditions.{Meets, are_met, are_open, is_as, is_met, joint_after, joint_moved, joint_starts, states_after, states_by}

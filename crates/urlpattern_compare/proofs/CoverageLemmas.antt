@@ -8,14 +8,14 @@ use Rattle.std.specs.declared.alloc.Global.{Global}
 use Rattle.std.specs.declared.vec.Vec.{Vec}
 use Rattle.urlpattern_compare.proofs.CommonLemmas.{accepts_text}
 use Rattle.urlpattern_compare.proofs.PartsRead.{made_within, meaning_accepted}
-use Rattle.urlpattern_compare.specs.Answers.{IsFoundBy, IsReason, IsSought, IsTold, IsUntold, LeadBothAlike, answer_of}
+use Rattle.urlpattern_compare.specs.Answers.{IsFoundBy, IsReason, IsSought, AreKnown, AreUnknownBy, LeadBothAlike, answer_of}
 use Rattle.urlpattern_compare.specs.Automata.{IsWhether}
 use Rattle.urlpattern_compare.specs.Examples.{IsExampleOf}
 use Rattle.urlpattern_compare.specs.Conditions.{accepts, is_as, is_met, states_after}
 use Rattle.urlpattern_compare.specs.Making.{IsMadeOf}
 use Rattle.urlpattern_compare.specs.MeantTexts.{MeansText}
 use Rattle.urlpattern_compare.specs.Searching.{IsMostSets}
-use Rattle.urlpattern_compare.specs.TextSearch.{AreApart, IsFoundText, LeadAlike}
+use Rattle.urlpattern_compare.specs.TextSearch.{AreUnlike, IsFoundText, LeadAlike}
 use Rattle.urlpattern_compare.specs.declared.condition.Condition.{Condition}
 use Rattle.urlpattern_compare.specs.declared.coverage.Answer.{Answer}
 use Rattle.urlpattern_compare.specs.declared.coverage.Answer.TheVariants as answers
@@ -45,7 +45,7 @@ not_asked true false never = refl
 not_asked false true never = refl
 not_asked false false never = absurd (never refl)
 
-apart_weaker : {X : Type 0} (R S : X → X → Type 0) → ((x y : X) → S x y → R x y) → (xs : List X) → AreApart R xs → AreApart S xs
+apart_weaker : {X : Type 0} (R S : X → X → Type 0) → ((x y : X) → S x y → R x y) → (xs : List X) → AreUnlike R xs → AreUnlike S xs
 apart_weaker R S within [] apart = tt
 apart_weaker {X} R S within (x ∷ others) apart = (
   λ k d lt alike. apart.0 k d lt (within x _ alike),
@@ -85,7 +85,7 @@ module _ (one other : PartsAutomaton) (is_accepted : Bool) (first second : Condi
   )
   found_two most Nothing is_most none = λ text line is. other_unmet text (λ met.
       none text line (All-cons (IsMet text) first (second ∷ []) (if_one text is) (All-cons (IsMet text) second [] met (All-nil (IsMet text)))))
-  found_two most TooMany is_most (texts, many, apart) = (most, is_most, texts, many, apart_weaker (LeadAlike (first ∷ second ∷ [])) (LeadBothAlike one other) lead_alike texts apart)
+  found_two most TooMany is_most (texts, many, lines, apart) = (most, is_most, (texts, many, lines, apart_weaker (LeadAlike (first ∷ second ∷ [])) (LeadBothAlike one other) lead_alike texts apart))
 
 pub found_by : (one other : PartsAutomaton) (is_accepted : Bool) (first second : Condition) (conditions : List Condition) (most : ℕ) (found : Found) →
     conditions ≡ first ∷ second ∷ [] → first.automaton.now ≡ one → first.is_accepted ≡ true → second.automaton.now ≡ other → second.is_accepted ≡ is_accepted →
@@ -95,15 +95,15 @@ found_by one other is_accepted first second conditions most found are is_one acc
 
 -- ---- results
 
-pub first_untold : (options : OptionsView) (parts : List PartView) (other_options : OptionsView) (others : List PartView) (reason : Reason) → IsUntold options parts reason → IsReason options parts other_options others reason
-first_untold options parts other_options others reasons.CustomExpression is = inl is
-first_untold options parts other_options others reasons.IgnoredCase is = inl is
-first_untold options parts other_options others reasons.TooMany is = absurd is
+pub first_unknown_parts : (options : OptionsView) (parts : List PartView) (other_options : OptionsView) (others : List PartView) (reason : Reason) → AreUnknownBy options parts reason → IsReason options parts other_options others reason
+first_unknown_parts options parts other_options others reasons.CustomExpression is = inl is
+first_unknown_parts options parts other_options others reasons.IgnoredCase is = inl is
+first_unknown_parts options parts other_options others reasons.TooMany is = absurd is
 
-pub other_untold : (options : OptionsView) (parts : List PartView) (other_options : OptionsView) (others : List PartView) (reason : Reason) → IsUntold other_options others reason → IsReason options parts other_options others reason
-other_untold options parts other_options others reasons.CustomExpression is = inr is
-other_untold options parts other_options others reasons.IgnoredCase is = inr is
-other_untold options parts other_options others reasons.TooMany is = absurd is
+pub other_unknown_parts : (options : OptionsView) (parts : List PartView) (other_options : OptionsView) (others : List PartView) (reason : Reason) → AreUnknownBy other_options others reason → IsReason options parts other_options others reason
+other_unknown_parts options parts other_options others reasons.CustomExpression is = inr is
+other_unknown_parts options parts other_options others reasons.IgnoredCase is = inr is
+other_unknown_parts options parts other_options others reasons.TooMany is = absurd is
 
 -- Whether the parts mean the text, by whether their automaton accepts it.
 whether_means : (asked found : Bool) (Means : Type 0) → IsTrue found ↔ Means → found ≡ asked → IsWhether asked Means
@@ -111,45 +111,45 @@ whether_means true found Means same is = same.0 is
 whether_means false found Means same is = λ means. false≢true (sym is ∙ same.1 means)
 
 -- An automaton accepts the texts that its parts mean.
-accepts_meant : (options : OptionsView) (parts : List PartView) (automaton : PartsAutomaton) → IsTold options parts → IsMadeOf options parts automaton → (text : List ℕ) → IsTrue (all_scalars text) →
+accepts_meant : (options : OptionsView) (parts : List PartView) (automaton : PartsAutomaton) → AreKnown options parts → IsMadeOf options parts automaton → (text : List ℕ) → IsTrue (all_scalars text) →
     IsTrue (accepts automaton text) ↔ MeansText options parts text
 accepts_meant options parts automaton told same text good =
     let here = accepts_text automaton text (made_within options parts automaton same) in
     let there = meaning_accepted options parts automaton told.by_case same text good in
     (λ is. there.0 (here.1 is), λ means. here.0 (there.1 means))
 
-module _ (options : OptionsView) (parts : List PartView) (other_options : OptionsView) (others : List PartView) (one other : PartsAutomaton) (told : IsTold options parts) (other_told : IsTold other_options others)
+module _ (options : OptionsView) (parts : List PartView) (other_options : OptionsView) (others : List PartView) (one other : PartsAutomaton) (told : AreKnown options parts) (other_told : AreKnown other_options others)
     (same : IsMadeOf options parts one) (other_same : IsMadeOf other_options others other) where
   found_answer : (is_meant : Bool) (found : Found) → IsFoundBy one other is_meant found → IsSought options parts other_options others is_meant (answer_of found)
   found_answer is_meant (Text text) (is, other_is, line) =
-      ((accepts_meant options parts one told same text.items line.scalars).0 is, whether_means is_meant (accepts other text.items) (MeansText other_options others text.items) (accepts_meant other_options others other other_told other_same text.items line.scalars) other_is, line.plain)
-  found_answer is_meant Nothing none = λ text fine plain means.
-      whether_means (not is_meant) (accepts other text) (MeansText other_options others text) (accepts_meant other_options others other other_told other_same text fine) (none text (record { scalars = fine; plain = plain }) ((accepts_meant options parts one told same text fine).1 means))
+      ((accepts_meant options parts one told same text.items line.scalars).0 is, whether_means is_meant (accepts other text.items) (MeansText other_options others text.items) (accepts_meant other_options others other other_told other_same text.items line.scalars) other_is, line)
+  found_answer is_meant Nothing none = λ text line means.
+      whether_means (not is_meant) (accepts other text) (MeansText other_options others text) (accepts_meant other_options others other other_told other_same text line.scalars) (none text line ((accepts_meant options parts one told same text line.scalars).1 means))
   found_answer is_meant TooMany many = inr (one, other, same, other_same, many)
 
 pub found_parts : (options : OptionsView) (parts : List PartView) (other_options : OptionsView) (others : List PartView) (is_meant : Bool) (one other : PartsAutomaton) (found : Found) (answer : Answer) →
-    answer ≡ answer_of found → IsTold options parts → IsTold other_options others → IsMadeOf options parts one → IsMadeOf other_options others other → IsFoundBy one other is_meant found →
+    answer ≡ answer_of found → AreKnown options parts → AreKnown other_options others → IsMadeOf options parts one → IsMadeOf other_options others other → IsFoundBy one other is_meant found →
     IsSought options parts other_options others is_meant answer
 found_parts options parts other_options others is_meant one other found answer e told other_told same other_same is =
     subst (IsSought options parts other_options others is_meant) (sym e) (found_answer options parts other_options others one other told other_told same other_same is_meant found is)
 
 -- A text that is made of the parts alone.
 pub example_sought : (options : OptionsView) (parts : List PartView) (other_options : OptionsView) (others : List PartView) (is_meant : Bool) (other : PartsAutomaton) (text : Vec ℕ Global) →
-    IsTold other_options others → IsMadeOf other_options others other → IsExampleOf options parts text.items × (accepts other text.items ≡ is_meant) → IsSought options parts other_options others is_meant (answers.Text text)
+    AreKnown other_options others → IsMadeOf other_options others other → IsExampleOf options parts text.items × (accepts other text.items ≡ is_meant) → IsSought options parts other_options others is_meant (answers.Text text)
 example_sought options parts other_options others is_meant other text told same (is, found) = (
   is.means,
   whether_means is_meant (accepts other text.items) (MeansText other_options others text.items) (accepts_meant other_options others other told same text.items is.line.scalars) found,
-  is.line.plain,
+  is.line,
 )
 
 -- ---- lists of parts that match no text in common
 
 pub apart_nothing : (options : OptionsView) (parts : List PartView) (other_options : OptionsView) (others : List PartView) (is_meant : Bool) → is_meant ≡ true →
     ((text : List ℕ) → MeansText options parts text → ¬ MeansText other_options others text) → IsSought options parts other_options others is_meant answers.Nothing
-apart_nothing options parts other_options others true e apart = λ text fine plain means. apart text means
+apart_nothing options parts other_options others true e apart = λ text line means. apart text means
 apart_nothing options parts other_options others false e apart = absurd cc
 
 pub apart_text : (options : OptionsView) (parts : List PartView) (other_options : OptionsView) (others : List PartView) (is_meant : Bool) (text : Vec ℕ Global) → is_meant ≡ false →
     ((text : List ℕ) → MeansText options parts text → ¬ MeansText other_options others text) → IsExampleOf options parts text.items → IsSought options parts other_options others is_meant (answers.Text text)
 apart_text options parts other_options others true text e apart is = absurd cc
-apart_text options parts other_options others false text e apart is = (is.means, apart text.items is.means, is.line.plain)
+apart_text options parts other_options others false text e apart is = (is.means, apart text.items is.means, is.line)

@@ -1,8 +1,6 @@
 -- A component that decides a comparison leaves no doubt.
 use Rattle.std.proofs.Common.{ℕ, List, Option, Some, None, inl, inr, refl}
-use Rattle.std.proofs.lemmas.Str.{scalars-chars, IsUtf8-string_bytes}
-use Rattle.std.specs.Prelude.{IsSomeAnd, IsTrue, String, string_bytes}
-use Rattle.std.specs.Str.{all_scalars}
+use Rattle.std.specs.Prelude.{IsSomeAnd, String}
 use Rattle.std.specs.declared.alloc.Global.{Global}
 use Rattle.urlpattern_compare.proofs.SameParts.{same_within}
 use Rattle.urlpattern_compare.specs.Comparing.{AreApart, AreSame, IsCommonText, IsComponentCovered, IsKnown, IsOnlyIn, IsReasonFor, IsReasonToShare}
@@ -25,21 +23,18 @@ known_reason component other reasons.IgnoredCase known other_known (inl is) = ab
 known_reason component other reasons.IgnoredCase known other_known (inr is) = absurd (is.0 known)
 known_reason component other reasons.TooMany known other_known is = is
 
-uncovered : (component asked : ComponentParts) (text : List ℕ) → IsTrue (all_scalars text) → IsOnlyIn component asked text → ¬ IsComponentCovered component asked
-uncovered component asked text fine only (inl each) = only.not_meant (each.takes text fine only.meant.line)
-uncovered component asked text fine only (inr (inl within)) = only.not_meant (within.within text fine only.meant.line only.meant.means)
-uncovered component asked text fine only (inr (inr same)) = only.not_meant ((same_within component asked same only.known).within text fine only.meant.line only.meant.means)
-
-pub fine_text : (text : String Global) → IsTrue (all_scalars (text_of text))
-fine_text text = scalars-chars (string_bytes text) (IsUtf8-string_bytes text)
+uncovered : (component asked : ComponentParts) (text : List ℕ) → IsOnlyIn component asked text → ¬ IsComponentCovered component asked
+uncovered component asked text only (inl each) = only.not_meant (each.takes text only.meant.line)
+uncovered component asked text only (inr (inl within)) = only.not_meant (within.within text only.meant.line only.meant.means)
+uncovered component asked text only (inr (inr same)) = only.not_meant ((same_within component asked same only.known).within text only.meant.line only.meant.means)
 
 unparted : (component asked : ComponentParts) (found : Option (String Global)) → AreSame component asked → ¬ IsSomeAnd found (λ text. IsOnlyIn component asked (text_of text))
 unparted component asked None same only = only
-unparted component asked (Some text) same only = uncovered component asked (text_of text) (fine_text text) only (inr (inr same))
+unparted component asked (Some text) same only = uncovered component asked (text_of text) only (inr (inr same))
 
 uncommon : (component other : ComponentParts) (found : Option (String Global)) → AreApart component other → IsCommonText component other found → IsReasonToShare component other reasons.TooMany
 uncommon component other None apart (same, doubted) = known_reason other component doubted.0 apart.other_known apart.known doubted.1
-uncommon component other (Some text) apart both = absurd (apart.apart (text_of text) (fine_text text) both.0.line both.0.means both.1.means)
+uncommon component other (Some text) apart both = absurd (apart.apart (text_of text) both.0.line both.0.means both.1.means)
 
 -- ---- two patterns
 
@@ -51,11 +46,11 @@ equal_covered pattern asked (answers.NotCovered parting) same is =
 equal_covered pattern asked (answers.Unknown name reason) same is = absurd (is.doubt.1 (same name))
 
 pub parted_known : PartedAreKnown
-parted_known pattern asked parted text fine only name reason is =
+parted_known pattern asked parted text only name reason is =
     let component = at pattern.components parted in
     let other = at asked.components parted in
     elim (is.may_cover parted) [
-      | inl covered ↦ absurd (uncovered component other text fine only covered)
+      | inl covered ↦ absurd (uncovered component other text only covered)
       | inr doubt ↦ known_reason component other doubt.0 only.known only.meant.known doubt.1.0
     ]
 

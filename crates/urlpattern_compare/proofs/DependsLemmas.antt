@@ -1,8 +1,8 @@
 -- Meanings by which common texts exist, and meanings by which they do not.
-use Rattle.std.proofs.Common.{◌≡◌, ◌∙◌, ◌⊎◌, ◌↔◌, ◌<◌, ℕ, Bool, true, false, List, [], ◌∷◌, ◌++◌, Option, Some, None, ap, arith, get_or, inl, inr, length, map, refl, subst, sym}
+use Rattle.std.proofs.Common.{◌≡◌, ◌∙◌, ◌⊎◌, ◌↔◌, ℕ, Bool, true, false, List, [], ◌∷◌, ◌++◌, Option, Some, None, ap, arith, get_or, inl, inr, map, refl, sym}
 use Rattle.std.proofs.lemmas.Bool.{false≢true}
 use Rattle.std.proofs.lemmas.Bool.Decides.{same_from_decides}
-use Rattle.std.proofs.lemmas.List.Elements.{All-append, All-cons, All-contains, All-contains_itself, All-head, All-map, All-nil, All-tail, Contains-append_cases, Contains-append_left, Contains-append_right, Contains-get_or}
+use Rattle.std.proofs.lemmas.List.Elements.{All-append, All-cons, All-contains, All-head, All-map, All-nil, All-tail, Contains-append_cases, Contains-append_right, Contains-get_or}
 use Rattle.std.proofs.lemmas.Option.{get_or_from_slice_get, slice_get-get_or, slice_get_within}
 use Rattle.std.specs.List.{All, Contains}
 use Rattle.std.specs.Option.{IsSome}
@@ -15,13 +15,12 @@ use Rattle.urlpattern_compare.proofs.SameParts.{same_flips, same_within}
 use Rattle.urlpattern_compare.proofs.StateSets.{contains_head}
 use Rattle.urlpattern_compare.specs.Candidates.{AreLines, TextAt}
 use Rattle.urlpattern_compare.specs.CommonLaws.{MeaningsExist}
-use Rattle.urlpattern_compare.specs.CommonTexts.{AreAutomata, AreCommon, AreMeanings, AreTaken, Depends, IsAutomatonOrLacks, IsLack, IsSureIn, LacksBy, MayBeCommon, MayBeNothing, MeanAlike, MeansByParts, MeansEach, PatternMeaning, SomeAreTaken, SomeHasManyStates, Takes, TakesIn, parts_of}
+use Rattle.urlpattern_compare.specs.CommonTexts.{AreAutomata, AreMeanings, AreTaken, Depends, IsAutomatonOrLacks, IsLack, IsSureIn, LacksBy, MayBeCommon, MayBeNothing, MeanAlike, MeansByParts, MeansEach, PatternMeaning, SomeAreTaken, SomeMayHaveManyStates, Takes, TakesIn, parts_of}
 use Rattle.urlpattern_compare.specs.Comparing.{AreSame, IsKnown, MeansIn}
 use Rattle.urlpattern_compare.specs.Conditions.{accepts}
 use Rattle.urlpattern_compare.specs.TextSearch.{IsLine}
 use Rattle.urlpattern_compare.specs.declared.common_texts.Lack.{Lack}
 use Rattle.urlpattern_compare.specs.declared.common_texts.PatternAutomata.{PatternAutomata}
-use Rattle.urlpattern_compare.specs.declared.coverage.Reason.{Reason}
 use Rattle.urlpattern_compare.specs.declared.coverage.Reason.TheVariants as reasons
 use Rattle.urlpattern_compare.specs.declared.parts_automaton.PartsAutomaton.{PartsAutomaton}
 use Rattle.urlpattern_components.proofs.EightLemmas.{of_each}
@@ -66,7 +65,7 @@ said_alike free other_free component other (Some automaton) (Some another) text 
     let to = same_within component other same made.known in
     let from = same_within other component (same_flips component other same) other_made.known in
     same_from_decides (accepts automaton text) (accepts another text) own
-    (λ has. to.within text line.scalars line.plain (its.0 has), λ means. its.1 (from.within text line.scalars line.plain means))
+    (λ has. to.within text line (its.0 has), λ means. its.1 (from.within text line means))
 
 takes_said : (free : Bool) (found : Option PartsAutomaton) (text : List ℕ) → IsTrue free → Takes found text → IsTrue (said free found text)
 takes_said free None text is takes = is
@@ -262,11 +261,11 @@ settled_or component None (reasons.IgnoredCase, lacks) = inl (inr (λ known. lac
 settled_or component None (reasons.TooMany, lacks) = inr (λ some. false≢true some, lacks)
 settled_or component (Some automaton) made = inl (inl refl)
 
-pub settled_or_many : (patterns : List PatternAutomata) → All AreAutomata patterns → All AreSettled patterns ⊎ SomeHasManyStates patterns
+pub settled_or_many : (patterns : List PatternAutomata) → All AreAutomata patterns → All AreSettled patterns ⊎ SomeMayHaveManyStates patterns
 settled_or_many patterns made =
-    all_or AreSettled (λ it. AreAutomata it × Contains patterns it) (SomeHasManyStates patterns) patterns
+    all_or AreSettled (λ it. AreAutomata it × Contains patterns it) (SomeMayHaveManyStates patterns) patterns
     (λ it (automata, (k, lt, there)).
-    elim (all_or (λ name. IsSettled (at it.parts.components name) (at it.automata name)) (λ name. Unit {0}) (SomeHasManyStates patterns) components
+    elim (all_or (λ name. IsSettled (at it.parts.components name) (at it.automata name)) (λ name. Unit {0}) (SomeMayHaveManyStates patterns) components
     (λ name present. elim (settled_or (at it.parts.components name) (at it.automata name) (automata name)) [
       | inl settled ↦ inl settled
       | inr (none, many) ↦ inr (

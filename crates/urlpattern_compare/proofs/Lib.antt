@@ -1,7 +1,8 @@
 pub mod StateSets
 pub mod CharacterClasses
 pub mod NamedCharacters
-pub mod ConditionClasses
+pub mod ExitClasses
+pub mod ExitLemmas
 pub mod ConditionLemmas
 pub mod PlaceLemmas
 pub mod CandidateLemmas
@@ -29,7 +30,7 @@ pub mod DecidedLemmas
 pub mod CommonLemmas
 pub mod CoverageLemmas
 pub mod SameDecided
-pub mod PartedLemmas
+pub mod ApartLemmas
 pub mod DependsLemmas
 pub mod TakenLemmas
 pub mod Numbers

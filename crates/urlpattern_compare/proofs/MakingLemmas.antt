@@ -8,7 +8,7 @@ use Rattle.urlpattern_compare.proofs.CandidateLemmas.{all_back}
 use Rattle.urlpattern_compare.proofs.PartsRead.{many_states}
 use Rattle.urlpattern_compare.proofs.WorkLemmas.{all_unshaped, many_folded}
 use Rattle.urlpattern_compare.specs.Cells.{cells_of}
-use Rattle.urlpattern_compare.specs.Making.{HasManyStates, IsMadeOf, IsPartAdded, IsPartLarge, IsShaped, Made, ShapedPart, folded_shaped, made, made_view, with_part, with_shape}
+use Rattle.urlpattern_compare.specs.Making.{MayHaveManyStates, IsMadeOf, IsPartAdded, IsPartLarge, IsShaped, Made, ShapedPart, folded_shaped, made, made_view, with_part, with_shape}
 use Rattle.urlpattern_compare.specs.MeantTexts.{folded_options, folded_part, folded_parts}
 use Rattle.urlpattern_compare.specs.declared.cells.Cell.{Cell}
 use Rattle.urlpattern_compare.specs.declared.parts_automaton.PartsAutomaton.{PartsAutomaton}
@@ -132,7 +132,7 @@ generated_or_not (part ∷ parts) = by (one part.kind) (generated_or_not parts)
     by (inr other) (inr not_all) = inr (λ are. not_all (All-tail (λ (it : PartView). it.kind ≢ PartType.Regexp) part parts are))
 
 -- A custom part is among the parts.
-custom_among : (options : OptionsView) (parts left before : List PartView) (part : PartView) (so_far : Made) → IsMadeSoFar options parts left so_far → left ≡ before ++ part ∷ [] → part.kind ≡ PartType.Regexp → HasManyStates options parts
+custom_among : (options : OptionsView) (parts left before : List PartView) (part : PartView) (so_far : Made) → IsMadeSoFar options parts left so_far → left ≡ before ++ part ∷ [] → part.kind ≡ PartType.Regexp → MayHaveManyStates options parts
 custom_among options parts left before part so_far is cut custom = inl (λ are.
     let views = map (λ (it : ShapedPart). it.0) is.shaped in
     let all = subst AreGenerated (is.cut ∙ ap (λ (l : List PartView). l ++ views) cut) are in
@@ -140,7 +140,7 @@ custom_among options parts left before part so_far is cut custom = inl (λ are.
 
 -- A part that is too large, or before which too many states were made.
 large_among : (options : OptionsView) (parts left before : List PartView) (part : PartView) (so_far : Made) → IsMadeSoFar options parts left so_far → left ≡ before ++ part ∷ [] →
-    IsPartLarge (folded_options options) (folded_part options.ignore_case part) so_far → HasManyStates options parts
+    IsPartLarge (folded_options options) (folded_part options.ignore_case part) so_far → MayHaveManyStates options parts
 large_among options parts left before part so_far is cut large = elim (generated_or_not parts) [
   | inr custom ↦ inl custom
   | inl generated ↦
@@ -159,7 +159,7 @@ large_among options parts left before part so_far is cut large = elim (generated
 
 -- A part that was not added.
 pub not_added : (options : OptionsView) (parts left before : List PartView) (part : PartView) (so_far : Made) → IsMadeSoFar options parts left so_far → left ≡ before ++ part ∷ [] →
-    (part.kind ≡ PartType.Regexp) ⊎ IsPartLarge (folded_options options) (folded_part options.ignore_case part) so_far → HasManyStates options parts
+    (part.kind ≡ PartType.Regexp) ⊎ IsPartLarge (folded_options options) (folded_part options.ignore_case part) so_far → MayHaveManyStates options parts
 not_added options parts left before part so_far is cut why = elim why [
   | inl custom ↦ custom_among options parts left before part so_far is cut custom
   | inr large ↦ large_among options parts left before part so_far is cut large

@@ -1,14 +1,14 @@
 -- Open candidates, and eight texts that were tried.
-use Rattle.std.proofs.Common.{◌≡◌, ℕ, ◌+◌, ◌<◌, true, false, List, [], ◌∷◌, ◌++◌, length, refl, sym, subst, ap, ◌∙◌, ◌⊎◌, inl, inr, arith, get_or, Option, Some, None}
+use Rattle.std.proofs.Common.{◌≡◌, ℕ, ◌+◌, ◌<◌, List, [], ◌∷◌, ◌++◌, length, refl, sym, subst, ◌∙◌, ◌⊎◌, inl, inr, arith, get_or, Option, None}
 use Rattle.std.proofs.lemmas.Bool.{false≢true}
-use Rattle.std.proofs.lemmas.List.Elements.{All-append, All-cons, All-contains, All-head, All-nil, All-tail, All-weaker, Contains-append_cases, Contains-append_left, Contains-append_right, Contains-get_or, Contains-push_cases}
+use Rattle.std.proofs.lemmas.List.Elements.{All-append, All-cons, All-contains, All-nil, All-weaker, Contains-append_cases, Contains-append_left, Contains-append_right, Contains-get_or, Contains-push_cases}
 use Rattle.std.specs.List.{All, Contains}
 use Rattle.std.specs.Option.{IsSome, option_or}
 use Rattle.std.specs.Prelude.{IfSome}
 use Rattle.std.specs.declared.alloc.Global.{Global}
 use Rattle.std.specs.declared.vec.Vec.{Vec}
 use Rattle.urlpattern_compare.specs.Candidates.{AlikeBy, AreCandidates, AreLines, HasManySetsAt, HasManyTexts, IsAmong, IsAnswer, IsCandidateOf, IsInside, IsSplit, MeetAlike, MeetsEach, ShareBy, TextAt, all_conditions, text_at}
-use Rattle.urlpattern_compare.specs.TextSearch.{AreApart}
+use Rattle.urlpattern_compare.specs.TextSearch.{AreUnlike}
 use Rattle.urlpattern_compare.specs.declared.candidates.Candidate.{Candidate}
 use Rattle.urlpattern_compare.specs.declared.candidates.Limits.{Limits}
 use Rattle.urlpattern_compare.specs.declared.condition.Condition.{Condition}
@@ -40,9 +40,9 @@ pub record AreOpen (first : List Condition) (refused : List (Vec Condition Globa
   pub each : All (IsOpen first (all_conditions first refused)) candidates
   pub tried_lines : All AreLines tried
   pub met : All (MeetsEach first) tried
-  pub tried_apart : AreApart (MeetAlike refused) tried
+  pub tried_apart : AreUnlike (MeetAlike refused) tried
   pub far : All (λ it. All (λ one. ¬ IsNear refused one it) tried) candidates
-  pub apart : AreApart (ShareAll refused) candidates
+  pub apart : AreUnlike (ShareAll refused) candidates
 
 -- Each answer is in an open candidate, unless a search was given up.
 pub record IsDividing (first : List Condition) (refused : List (Vec Condition Global)) (limits : Limits) (candidates : List Candidate) (tried : List TextAt) (left : ℕ)
@@ -79,7 +79,7 @@ alike_at refused them texts others there alike = All-contains (λ (it : Vec Cond
 
 -- ---- a candidate is tried
 
-apart_pushed : {X : Type 0} (R : X → X → Type 0) (xs : List X) (y : X) → AreApart R (xs ++ y ∷ []) → AreApart R xs × All (λ x. ¬ R x y) xs
+apart_pushed : {X : Type 0} (R : X → X → Type 0) (xs : List X) (y : X) → AreUnlike R (xs ++ y ∷ []) → AreUnlike R xs × All (λ x. ¬ R x y) xs
 apart_pushed R [] y apart = (tt, All-nil (λ x. ¬ R x y))
 apart_pushed R (x ∷ xs) y (first, apart) =
     let rest = apart_pushed R xs y apart in
@@ -105,7 +105,7 @@ module _ (first : List Condition) (refused : List (Vec Condition Global)) (rest 
   tried_met : All (MeetsEach first) (texts_now ∷ tried)
   tried_met = All-cons (MeetsEach first) texts_now tried (parent_open.within texts_now parent_open.met) opened.met
 
-  tried_apart : AreApart (MeetAlike refused) (texts_now ∷ tried)
+  tried_apart : AreUnlike (MeetAlike refused) (texts_now ∷ tried)
   tried_apart = (λ k d lt alike. parent_far k d lt (texts_now, parent_open.met, alike_back refused texts_now (get_or tried k d) alike), opened.tried_apart)
 
   module _ (them : Vec Condition Global) (there : Contains refused them) (taken : MeetsEach them.items texts_now) where
@@ -132,7 +132,7 @@ module _ (first : List Condition) (refused : List (Vec Condition Global)) (rest 
         (λ (texts, met, alike). unshared k d lt (texts, texts_now, met, parent_open.met, alike_back refused texts_now texts alike))
         (all_front (λ (one : Candidate). All (λ other. ¬ IsNear refused other one) tried) rest (parent ∷ []) opened.far k d lt)
 
-    opened_more : (more : List Candidate) → All (IsCandidateOf parent.conditions.items them.items) more → AreApart (ShareBy them.items) more → AreOpen first refused (rest ++ more) (texts_now ∷ tried)
+    opened_more : (more : List Candidate) → All (IsCandidateOf parent.conditions.items them.items) more → AreUnlike (ShareBy them.items) more → AreOpen first refused (rest ++ more) (texts_now ∷ tried)
     opened_more more children apart =
         let (rest_apart, unshared) = apart_pushed (ShareAll refused) rest parent opened.apart in
         record {

@@ -1,5 +1,5 @@
 -- The texts that the cells of parts read, and the texts that parts mean.
-use Rattle.std.proofs.Common.{◌≡◌, ◌≢◌, ℕ, zero, suc, ◌+◌, true, List, [], ◌∷◌, ◌++◌, Some, None, map, refl, sym, subst, ap, ◌∙◌, ◌↔◌, append_assoc, reverse}
+use Rattle.std.proofs.Common.{◌≡◌, ◌≢◌, ℕ, zero, suc, true, List, [], ◌∷◌, ◌++◌, Some, None, map, refl, sym, subst, ap, ◌∙◌, ◌↔◌, append_assoc, reverse}
 use Rattle.std.proofs.lemmas.List.Elements.{All-head, All-tail}
 use Rattle.std.specs.List.{All, list_all}
 use lib.Utf8.{scalars}

@@ -6,8 +6,10 @@ use Rattle.std.specs.Prelude.{IsSomeAnd, String, option_map}
 use Rattle.std.specs.declared.alloc.Global.{Global}
 use Rattle.urlpattern_compare.specs.declared.coverage.Covering.{Covering}
 use Rattle.urlpattern_compare.specs.declared.coverage.Covering.TheVariants as coverings
+use Rattle.urlpattern_compare.specs.declared.coverage.Overlap.{Overlap}
+use Rattle.urlpattern_compare.specs.declared.coverage.Overlap.TheVariants as overlaps
 use Rattle.urlpattern_compare.specs.declared.coverage.Reason.{Reason}
-use Rattle.urlpattern_compare.specs.Comparing.{IsComponentCovered, IsComponentCovering, IsOnlyIn, IsOverlapReason, IsReasonToDoubt, IsReasonToPart, MayCover, MayOverlap}
+use Rattle.urlpattern_compare.specs.Comparing.{IsComponentCovered, IsComponentCovering, IsComponentOverlap, IsOnlyIn, IsOverlapReason, IsReasonToDoubt, IsReasonToPart, IsReasonToShare, MayCover, MayOverlap}
 use Rattle.urlpattern_compare.specs.ComparingSteps.{AreCommonOrDoubtful, IsCommonOrDoubtful, IsExampleIn, IsFirstUncovered, IsTextWith, first_or}
 use Rattle.urlpattern_compare.specs.declared.first_uncovered.FirstUncovered.{FirstUncovered}
 use Rattle.urlpattern_compare.specs.declared.first_uncovered.FirstUncovered.TheVariants as firsts
@@ -19,6 +21,12 @@ use Rattle.urlpattern_components.specs.declared.eight.ComponentName.{ComponentNa
 use Rattle.urlpattern_components.specs.declared.eight.Eight.{Eight}
 use Rattle.urlpattern_syntax.specs.Text.{text_of}
 use Rattle.urlpattern_syntax.specs.declared.parts.ComponentParts.{ComponentParts}
+
+-- The reason why it is not known whether two components overlap.
+pub overlap_unknown : (component other own its : ComponentParts) (overlap : Overlap) (reason : Reason) → own ≡ component → its ≡ other → overlap ≡ overlaps.Unknown reason → IsComponentOverlap own its overlap →
+    IsReasonToShare component other reason
+overlap_unknown component other own its overlap reason own_is its_is e is =
+    subst (IsComponentOverlap component other) e (subst (λ o. IsComponentOverlap component o overlap) its_is (subst (λ o. IsComponentOverlap o its overlap) own_is is))
 
 abbrev pub IsCoveredIn : (pattern asked : PatternParts) → ComponentName → Type 0
 IsCoveredIn pattern asked name = IsComponentCovered (at pattern.components name) (at asked.components name)

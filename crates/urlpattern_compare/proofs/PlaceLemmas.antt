@@ -1,5 +1,5 @@
 -- The places that a search for a text visits.
-use Rattle.std.proofs.Common.{◌≡◌, ◌≢◌, ℕ, ◌+◌, ◌<◌, ◌≤◌, Bool, true, false, List, [], ◌∷◌, ◌++◌, length, refl, sym, subst, ap, ◌∙◌, ◌↔◌, arith, append_assoc, append-nil, eq-eqb, get_or, length-append, map, take}
+use Rattle.std.proofs.Common.{◌≡◌, ◌≢◌, ℕ, ◌+◌, ◌<◌, Bool, true, false, List, [], ◌∷◌, ◌++◌, length, refl, sym, subst, ap, ◌∙◌, arith, append_assoc, eq-eqb, get_or, length-append, map, take}
 use Rattle.std.proofs.lemmas.Bool.{and_from, and_parts, false≢true, ne_eqb}
 use Rattle.std.proofs.lemmas.List.{get_or_append_left, length-map, take-append-le}
 use Rattle.std.proofs.lemmas.List.Elements.{All-contains, All-head, All-map, All-more, All-nil, All-push, All-tail, All-weaker, Contains-append_left, Contains-get_or}
@@ -8,7 +8,9 @@ use Rattle.std.specs.List.{All, Contains}
 use Rattle.std.specs.{Char.IsScalar, Str.all_scalars}
 use Rattle.std.specs.Prelude.{◌&&◌, ◌==◌, IsTrue, not}
 use Rattle.urlpattern_compare.specs.Conditions.{Meets, are_met, are_open, joint_after, joint_moved, joint_starts}
-use Rattle.urlpattern_compare.specs.TextSearch.{AreApart, AreClassesAt, ArePlaces, HasManySets, IsExtendedBy, IsFollowedIn, IsLine, IsPassedBy, IsPlaced, IsPlaceOf, IsPlaceSeen, LeadAlike}
+use Rattle.urlpattern_compare.specs.Exits.{AreClasses, AreExits}
+use Rattle.urlpattern_compare.specs.declared.exits.Exits.{Exits}
+use Rattle.urlpattern_compare.specs.TextSearch.{AreUnlike, ArePlaces, HasManySets, IsExtendedBy, IsFollowedIn, IsLine, IsPassedBy, IsPlaced, IsPlaceOf, IsPlaceSeen, LeadAlike}
 use Rattle.urlpattern_compare.specs.declared.condition.Condition.{Condition}
 use Rattle.urlpattern_compare.specs.declared.text_search.Place.{Place}
 use Rattle.urlpattern_syntax.specs.Text.{lacks, line_feed}
@@ -16,7 +18,7 @@ use Rattle.urlpattern_compare.proofs.ConditionLemmas.{after_by, alike_after, joi
 
 -- ---- values that are apart
 
-pub apart_more : {X : Type 0} (R : X → X → Type 0) (xs : List X) (y : X) → AreApart R xs → All (λ x. ¬ R x y) xs → AreApart R (xs ++ y ∷ [])
+pub apart_more : {X : Type 0} (R : X → X → Type 0) (xs : List X) (y : X) → AreUnlike R xs → All (λ x. ¬ R x y) xs → AreUnlike R (xs ++ y ∷ [])
 apart_more R [] y apart none = (All-nil (λ other. ¬ R y other), tt)
 apart_more R (x ∷ xs) y (first, apart) none = (
   All-push (λ other. ¬ R x other) xs y first (All-head (λ it. ¬ R it y) x xs none),
@@ -24,7 +26,7 @@ apart_more R (x ∷ xs) y (first, apart) none = (
 )
 
 pub apart_map : {X Y : Type 0} (R : X → X → Type 0) (S : Y → Y → Type 0) (f : X → Y) (P : X → Type 0) (xs : List X) → All P xs → ((x y : X) → P x → P y → S (f x) (f y) → R x y) →
-    AreApart R xs → AreApart S (map f xs)
+    AreUnlike R xs → AreUnlike S (map f xs)
 apart_map R S f P [] all alike apart = tt
 apart_map R S f P (x ∷ xs) all alike (first, apart) = (
   All-map (λ other. ¬ S (f x) other) f xs (λ k d lt. λ same. first k d lt (alike x (get_or xs k d) (All-head P x xs all) (All-tail P x xs all k d lt) same)),
@@ -97,6 +99,7 @@ pub many_sets : (conditions : List Condition) (places : List Place) (most : ℕ)
 many_sets conditions places most are many = (
   map (λ (place : Place). place.text.items) places,
   subst (λ n. most < n) (sym (length-map places (λ (place : Place). place.text.items))) many,
+  All-map IsLine (λ (place : Place). place.text.items) places (λ k d lt. (are.placed k d lt).line),
   apart_map (λ (place other : Place). place.flags.items ≡ other.flags.items) (LeadAlike conditions) (λ (place : Place). place.text.items) (IsPlaced conditions) places are.placed
       (λ one other here there alike. here.flags ∙ alike_after conditions one.text.items other.text.items alike ∙ sym there.flags)
       are.apart,
@@ -107,11 +110,11 @@ abbrev pub IsFollowed : List Condition → (places : List Place) → Place → T
 IsFollowed conditions places place = (c : ℕ) → IsScalar c → c ≢ line_feed → IsPassedBy conditions c places place
 
 -- A place that is followed by one character of each class is followed by each.
-pub followed_all : (conditions : List Condition) (classes : List ℕ) (places : List Place) (place : Place) → AreClassesAt conditions place.flags.items classes → IsFollowedIn conditions classes places place →
-    IsFollowed conditions places place
-followed_all conditions classes places place are followed c scalar plain =
+pub followed_all : (conditions : List Condition) (exits : List Exits) (classes : List ℕ) (places : List Place) (place : Place) → AreExits conditions place.flags.items exits → AreClasses exits classes →
+    IsFollowedIn conditions classes places place → IsFollowed conditions places place
+followed_all conditions exits classes places place lead are followed c scalar plain =
     let (same, listed, other_feed, alike) = are c scalar plain in
-    subst (λ f. IsTrue (are_open conditions f) → IsPlaceSeen places f) alike (followed same listed other_feed)
+    subst (λ f. IsTrue (are_open conditions f) → IsPlaceSeen places f) (sym (lead same) ∙ alike ∙ lead c) (followed same listed other_feed)
 
 -- The place does not meet the conditions, and each place to which it leads is seen.
 pub record IsDoneIn (conditions : List Condition) (places : List Place) (place : Place) : Type 0 where

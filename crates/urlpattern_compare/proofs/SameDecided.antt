@@ -1,13 +1,11 @@
 -- Whether two components are equal but for names is decided.
-use Rattle.std.proofs.Common.{◌≡◌, ◌∙◌, ◌⊎◌, ℕ, zero, suc, Bool, true, false, List, [], ◌∷◌, Option, Some, None, ap, arith, inl, inr, length, refl, sym, true≢false}
+use Rattle.std.proofs.Common.{◌≡◌, ◌∙◌, ℕ, zero, suc, Bool, true, false, List, [], ◌∷◌, Option, Some, None, ap, arith, inl, inr, length, refl, sym, true≢false}
 use Rattle.std.proofs.Math.Bool.{Bool-discrete}
 use Rattle.std.proofs.Math.Decide.{ℕ_discrete}
 use Rattle.std.proofs.lemmas.Bool.{false≢true}
 use Rattle.std.proofs.lemmas.Slice.Eq.{bytes_eq-Decides}
 use Rattle.std.specs.List.{list_any}
-use Rattle.std.specs.Prelude.{Decides, IsSome, IsTrue, bytes_eq}
-use Rattle.urlpattern_compare.proofs.AnswerLemmas.{custom, generated}
-use Rattle.urlpattern_compare.specs.Answers.{is_custom_part}
+use Rattle.std.specs.Prelude.{Decides, IsTrue, bytes_eq}
 use Rattle.urlpattern_compare.specs.Comparing.{AreSame, IsCaseKeptOrGenerated, unnamed}
 use Rattle.urlpattern_syntax.specs.Options.{OptionsView, options_view}
 use Rattle.urlpattern_syntax.specs.Parts.{PartView}
@@ -15,6 +13,8 @@ use Rattle.urlpattern_syntax.specs.declared.parser.PartModifier.{PartModifier}
 use Rattle.urlpattern_syntax.specs.declared.parser.PartType.{PartType}
 use Rattle.urlpattern_syntax.specs.declared.parser.RegexSyntax.{RegexSyntax}
 use Rattle.urlpattern_syntax.specs.declared.parts.ComponentParts.{ComponentParts}
+use Rattle.urlpattern_expressions.proofs.SimpleLemmas.{none_custom, some_custom}
+use Rattle.urlpattern_expressions.specs.SimpleExpressions.{is_custom_part}
 
 -- ---- decisions
 
@@ -168,10 +168,10 @@ dec_kept component = by component.options.ignore_case refl (list_any is_custom_p
   where
     by : (ignored : Bool) → component.options.ignore_case ≡ ignored → (some : Bool) → list_any is_custom_part component.parts.items ≡ some → Dec (IsCaseKeptOrGenerated component)
     by false e some f = yes (inl e)
-    by true e false f = yes (inr (generated component.parts.items f))
+    by true e false f = yes (inr (none_custom component.parts.items f))
     by true e true f = no (λ either. elim either [
       | inl kept ↦ true≢false (sym e ∙ kept)
-      | inr made ↦ custom component.parts.items f made
+      | inr made ↦ some_custom component.parts.items f made
     ])
 
 pub dec_same : (component other : ComponentParts) → Dec (AreSame component other)

@@ -8,15 +8,16 @@ use Rattle.std.specs.Str.{chars}
 use Rattle.std.specs.Cmp.Lexicographic.{bytes_decides}
 use Rattle.std.specs.String.{string_eq}
 use Rattle.std.specs.declared.alloc.Global.{Global}
-use Rattle.urlpattern_compare.specs.Answers.{IsTold, is_custom_part}
-use Rattle.urlpattern_compare.proofs.AnswerLemmas.{custom, generated, told_generated}
+use Rattle.urlpattern_compare.specs.Answers.{AreKnown}
+use Rattle.urlpattern_compare.proofs.AnswerLemmas.{known_generated}
 use Rattle.urlpattern_compare.proofs.NamelessParts.{all_nameless, generated_renamed, means_renamed, simple_renamed, unnamed_views}
 use Rattle.urlpattern_compare.specs.Comparing.{AreSame, IsCaseKeptOrGenerated, IsKnown, MeansAllOf, misses_case}
 use Rattle.urlpattern_compare.specs.EqualParts.{AreEqual}
 use Rattle.urlpattern_compare.specs.MeantTexts.{MeansText}
 use Rattle.urlpattern_syntax.specs.declared.parts.ComponentParts.{ComponentParts}
 use Rattle.urlpattern_syntax.proofs.StringTexts.{text_bytes}
-use Rattle.urlpattern_expressions.specs.SimpleExpressions.{AreSimple, HasSimpleExpression, is_simple}
+use Rattle.urlpattern_expressions.proofs.SimpleLemmas.{none_custom, some_custom}
+use Rattle.urlpattern_expressions.specs.SimpleExpressions.{AreSimple, HasSimpleExpression, is_custom_part, is_simple}
 use Rattle.urlpattern_syntax.specs.declared.parser.Part.{Part}
 use Rattle.urlpattern_syntax.specs.declared.parser.PartType.{PartType}
 use Rattle.urlpattern_syntax.specs.{Options.OptionsView, Options.options_view, Parts.PartView, Parts.parts_view, Text.text_of}
@@ -83,19 +84,19 @@ simple_or_not (part ∷ parts) = both (part_simple_or_not part.kind part.value) 
 -- The texts that the parts mean are known, or not.
 pub known_or_not : (component : ComponentParts) → IsKnown component ⊎ ¬ IsKnown component
 known_or_not component =
-    by (told_or_not (list_any is_custom_part component.parts.items) refl component.options.ignore_case refl (simple_or_not (parts_view component.parts.items))) (misses_case component) refl
+    by (parts_known_or_not (list_any is_custom_part component.parts.items) refl component.options.ignore_case refl (simple_or_not (parts_view component.parts.items))) (misses_case component) refl
   where
-    by : IsTold (options_view component.options) (parts_view component.parts.items) ⊎ ¬ IsTold (options_view component.options) (parts_view component.parts.items) → (missed : Bool) → misses_case component ≡ missed → IsKnown component ⊎ ¬ IsKnown component
-    by (inr untold) missed f = inr (λ known. untold known.told)
+    by : AreKnown (options_view component.options) (parts_view component.parts.items) ⊎ ¬ AreKnown (options_view component.options) (parts_view component.parts.items) → (missed : Bool) → misses_case component ≡ missed → IsKnown component ⊎ ¬ IsKnown component
+    by (inr unsure) missed f = inr (λ known. unsure known.parts)
     by (inl told) true f = inr (λ known. true≢false (sym f ∙ known.case))
-    by (inl told) false f = inl (record { told = told; case = f })
+    by (inl told) false f = inl (record { parts = told; case = f })
 
-    told_or_not : (some : Bool) → list_any is_custom_part component.parts.items ≡ some → (ignored : Bool) → component.options.ignore_case ≡ ignored → AreSimple (parts_view component.parts.items) ⊎ ¬ AreSimple (parts_view component.parts.items) →
-        IsTold (options_view component.options) (parts_view component.parts.items) ⊎ ¬ IsTold (options_view component.options) (parts_view component.parts.items)
-    told_or_not some e ignored f (inr complex) = inr (λ told. complex told.simple)
-    told_or_not some e false f (inl simple) = inl (record { simple = simple; by_case = inl f })
-    told_or_not true e true f (inl simple) = inr (λ told. custom component.parts.items e (told_generated (options_view component.options) (parts_view component.parts.items) told f))
-    told_or_not false e true f (inl simple) = inl (record { simple = simple; by_case = inr (generated component.parts.items e) })
+    parts_known_or_not : (some : Bool) → list_any is_custom_part component.parts.items ≡ some → (ignored : Bool) → component.options.ignore_case ≡ ignored → AreSimple (parts_view component.parts.items) ⊎ ¬ AreSimple (parts_view component.parts.items) →
+        AreKnown (options_view component.options) (parts_view component.parts.items) ⊎ ¬ AreKnown (options_view component.options) (parts_view component.parts.items)
+    parts_known_or_not some e ignored f (inr complex) = inr (λ told. complex told.simple)
+    parts_known_or_not some e false f (inl simple) = inl (record { simple = simple; by_case = inl f })
+    parts_known_or_not true e true f (inl simple) = inr (λ told. some_custom component.parts.items e (known_generated (options_view component.options) (parts_view component.parts.items) told f))
+    parts_known_or_not false e true f (inl simple) = inl (record { simple = simple; by_case = inr (none_custom component.parts.items e) })
 
 -- Where case is ignored, `IsCaseKeptOrGenerated` says that no part is custom.
 pub settled_by : (component : ComponentParts) (some : Bool) → component.options.ignore_case ≡ true → some ≡ list_any is_custom_part component.parts.items → IsTrue (not some) ↔ IsCaseKeptOrGenerated component
@@ -103,10 +104,10 @@ settled_by component true ignored e = (
   λ never. absurd (true≢false (sym never)),
   λ kept_or_generated. elim kept_or_generated [
     | inl kept ↦ absurd (true≢false (sym ignored ∙ kept))
-    | inr generated ↦ absurd (custom component.parts.items (sym e) generated)
+    | inr generated ↦ absurd (some_custom component.parts.items (sym e) generated)
   ],
 )
-settled_by component false ignored e = (λ is. inr (generated component.parts.items (sym e)), λ kept_or_generated. refl)
+settled_by component false ignored e = (λ is. inr (none_custom component.parts.items (sym e)), λ kept_or_generated. refl)
 
 -- Two components are equal in either order.
 pub same_flips : (component other : ComponentParts) → AreSame component other → AreSame other component
@@ -145,15 +146,15 @@ same_within component asked same known =
     record {
       known = known;
       asked_known = record {
-        told = record {
-          simple = simple_renamed others parts (sym nameless) known.told.simple;
-          by_case = elim known.told.by_case [
+        parts = record {
+          simple = simple_renamed others parts (sym nameless) known.parts.simple;
+          by_case = elim known.parts.by_case [
             | inl kept ↦ inl (sym (ap (λ (o : OptionsView). o.ignore_case) same.options) ∙ kept)
             | inr generated ↦ inr (generated_renamed others parts (sym nameless) generated)
           ];
         };
         case = sym (same_missed component asked same) ∙ known.case;
       };
-      within = λ text fine line means.
+      within = λ text line means.
           subst (λ (o : OptionsView). MeansText o parts text) (sym same.options) (means_renamed (options_view asked.options) parts others nameless text means);
     }

@@ -5,7 +5,7 @@ use Rattle.std.proofs.lemmas.List.Elements.{All-head, All-tail, Contains-push_ca
 use Rattle.std.specs.List.{All, Contains}
 use Rattle.std.specs.Prelude.{◌&&◌, IsTrue, slice_set}
 use Rattle.urlpattern_compare.specs.Automata.{AcceptsText, IsWithin, Leads, passes}
-use Rattle.urlpattern_compare.specs.Searching.{LeadsIn, is_in, moved, starts_of, with_moves, with_states}
+use Rattle.urlpattern_compare.specs.Searching.{is_in, moved, starts_of, with_moves, with_states}
 use Rattle.urlpattern_compare.specs.declared.parts_automaton.PartsAutomaton.{PartsAutomaton}
 use Rattle.urlpattern_compare.specs.declared.parts_automaton.Edge.{Edge}
 use Rattle.urlpattern_meaning.specs.Matching.{folded_character}
@@ -29,6 +29,10 @@ contains_more xs i d x lt has = Contains-push_cases (take i xs) (get_or xs i d) 
 -- All elements.
 pub contains_all : {X : Type 0} (xs : List X) (i : ℕ) (x : X) → length xs ≤ i → Contains xs x → Contains (take i xs) x
 contains_all xs i x le has = subst (λ l. Contains l x) (sym (take_all i xs le)) has
+
+-- The edges lead from a state of the set to state 0 by the text.
+abbrev pub LeadsIn : List Edge → (flags : List Bool) → (text : List ℕ) → Type 0
+LeadsIn edges flags text = (state : ℕ) × IsTrue (is_in flags state) × Leads edges state text
 
 -- ---- a further state
 

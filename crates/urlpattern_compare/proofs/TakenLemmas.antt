@@ -1,8 +1,7 @@
 -- Conditions that are made of patterns, and what a search for them says of the patterns.
-use Rattle.std.proofs.Common.{◌≡◌, ℕ, ◌+◌, ◌<◌, Bool, true, false, List, [], ◌∷◌, ◌++◌, length, refl, sym, subst, ap, ◌∙◌, ◌⊎◌, inl, inr, ◌↔◌, append_assoc, append-nil, arith, get_or, map, Option, Some, None, take, take_all, ◌≤◌}
-use Rattle.std.proofs.lemmas.Bool.{false≢true}
+use Rattle.std.proofs.Common.{◌≡◌, ℕ, ◌+◌, ◌<◌, Bool, true, List, [], ◌∷◌, ◌++◌, length, refl, sym, subst, ap, ◌∙◌, ◌⊎◌, inl, inr, ◌↔◌, append_assoc, append-nil, arith, get_or, map, Option, Some, take, take_all, ◌≤◌}
 use Rattle.std.proofs.lemmas.List.{map-append, take_more}
-use Rattle.std.proofs.lemmas.List.Elements.{All-append, All-cons, All-contains, All-head, All-nil, All-push, All-tail, All-weaker, Contains-append_left, Contains-append_right, Contains-get_or, Contains-push}
+use Rattle.std.proofs.lemmas.List.Elements.{All-append, All-cons, All-contains, All-head, All-nil, All-push, All-tail, All-weaker, Contains-append_left, Contains-append_right, Contains-push}
 use Rattle.std.specs.List.{All, Contains}
 use Rattle.std.specs.Prelude.{IsTrue}
 use Rattle.std.specs.declared.alloc.Global.{Global}
@@ -10,8 +9,8 @@ use Rattle.std.specs.declared.vec.Vec.{Vec}
 use Rattle.urlpattern_compare.proofs.CandidateLemmas.{MeetsOne, all_back, all_front, all_last, apart_weaker}
 use Rattle.urlpattern_compare.proofs.CommonLemmas.{all_unmap}
 use Rattle.urlpattern_compare.proofs.StateSets.{contains_cons, contains_head, contains_tail}
-use Rattle.urlpattern_compare.specs.Candidates.{AreLines, HasManySetsAt, HasManyTexts, IsAmong, IsAnswer, IsFoundTexts, MeetAlike, MeetsEach, TextAt, all_conditions, text_at}
-use Rattle.urlpattern_compare.specs.CommonTexts.{AcceptsAlike, AreAdded, AreConditionsOf, AreLists, AreTaken, HasAutomata, IsConditionOf, IsFoundTaken, IsSure, LeadsAlike, NeedsManySets, NeedsManyTexts, TakeAlike, TakesAll, TakesEach, TakesNone}
+use Rattle.urlpattern_compare.specs.Candidates.{HasManySetsAt, HasManyTexts, IsFoundTexts, MeetAlike, MeetsEach, TextAt, all_conditions, text_at}
+use Rattle.urlpattern_compare.specs.CommonTexts.{AcceptsAlike, AreAdded, AreConditionsOf, AreLists, HasAutomata, IsConditionOf, IsFoundTaken, IsSure, LeadsAlike, NeedsManySets, NeedsManyTexts, TakeAlike, TakesAll, TakesEach, TakesNone}
 use Rattle.urlpattern_compare.specs.Conditions.{accepts, is_as, is_met, states_after}
 use Rattle.urlpattern_compare.specs.TextSearch.{LeadAlike}
 use Rattle.urlpattern_compare.specs.declared.candidates.FoundTexts.{FoundTexts}
@@ -193,9 +192,10 @@ all_of_some all_of none_of is_sure first (list ∷ lists) on listed =
 
 -- Texts that lead all automata of a component alike lead those of conditions on it alike.
 pub sets_needed : (patterns : List PatternAutomata) (all : List Condition) (name : ComponentName) (most : ℕ) → All (IsOfSome patterns) all → HasManySetsAt all name most → NeedsManySets (automata_of patterns) name most
-sets_needed patterns all name most of_some (own, within, (texts, many, apart)) = (
+sets_needed patterns all name most of_some (own, within, (texts, many, lines, apart)) = (
   texts,
   many,
+  lines,
   apart_weaker (LeadAlike own) (λ text other. All (λ automata. LeadsAlike text other (at automata name)) (automata_of patterns)) texts
       (λ text other alike k d lt.
       let it = get_or own k d in

@@ -5,7 +5,7 @@ use Rattle.std.proofs.lemmas.List.Elements.{All-head, All-tail}
 use Rattle.std.specs.List.{All}
 use Rattle.urlpattern_compare.proofs.PartsRead.{part_count}
 use Rattle.urlpattern_compare.specs.Cells.{cells_of, text_cells}
-use Rattle.urlpattern_compare.specs.Making.{HasManyStates, IsMadeOf, IsShaped, Made, ShapedPart, folded_shaped, made, unshaped}
+use Rattle.urlpattern_compare.specs.Making.{MayHaveManyStates, IsMadeOf, IsShaped, Made, ShapedPart, folded_shaped, made, unshaped}
 use Rattle.urlpattern_compare.specs.MeantTexts.{folded_options, folded_part, folded_parts}
 use Rattle.urlpattern_compare.specs.WorkBounds.{part_size, parts_size}
 use Rattle.urlpattern_compare.specs.declared.cells.Cell.{Cell}
@@ -87,5 +87,5 @@ made_states options parts automaton generated is =
     ap (λ (it : Made). it.count) (is.view ∙ ap (made (folded_options options)) same) ∙ folded_states options parts
 
 -- The automaton of folded parts has as many states.
-pub many_folded : (options : OptionsView) (parts : List PartView) → MOST_STATES < (made (folded_options options) (unshaped (folded_parts options parts))).count → HasManyStates options parts
+pub many_folded : (options : OptionsView) (parts : List PartView) → MOST_STATES < (made (folded_options options) (unshaped (folded_parts options parts))).count → MayHaveManyStates options parts
 many_folded options parts many = inr (subst (λ (n : ℕ). MOST_STATES < n) (folded_states options parts ∙ sym (parts_states options parts)) many)

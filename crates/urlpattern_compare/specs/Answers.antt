@@ -1,13 +1,13 @@
 -- The results of comparing which texts two lists of parts match. Parts *mean* a text if they can
 -- match it, one after the other.
-use Rattle.std.specs.Prelude.{◌≡◌, ◌↔◌, ◌<◌, ℕ, Bool, true, false, not, ◌⊎◌, IfOk, IfSome, List, IsTrue, Option, Result, length}
+use Rattle.std.specs.Prelude.{◌≡◌, ◌↔◌, ℕ, Bool, true, false, not, ◌⊎◌, IfOk, IfSome, List, IsTrue, Option, Result}
 use Rattle.std.specs.Str.{all_scalars}
 use Rattle.urlpattern_compare.specs.Automata.{AcceptsText, IsWhether}
-use Rattle.urlpattern_compare.specs.Making.{HasManyStates, IsMadeOf}
+use Rattle.urlpattern_compare.specs.Making.{MayHaveManyStates, IsMadeOf}
 use Rattle.urlpattern_compare.specs.MeantTexts.{MeansText}
 use Rattle.urlpattern_compare.specs.Conditions.{accepts, states_after}
 use Rattle.urlpattern_compare.specs.Searching.{IsMostSets}
-use Rattle.urlpattern_compare.specs.TextSearch.{AreApart, IsLine}
+use Rattle.urlpattern_compare.specs.TextSearch.{AreMoreLines, IsLine}
 use Rattle.urlpattern_compare.specs.declared.parts_automaton.PartsAutomaton.{PartsAutomaton}
 use Rattle.urlpattern_compare.specs.declared.coverage.Answer.{Answer}
 use Rattle.urlpattern_compare.specs.declared.coverage.Answer.TheVariants as answers
@@ -24,8 +24,6 @@ use Rattle.urlpattern_meaning.specs.PartMeaning.{AreGenerated}
 use Rattle.urlpattern_syntax.specs.{Options.OptionsView, Options.options_view, Parts.PartView, Parts.parts_view}
 use Rattle.urlpattern_syntax.specs.declared.parser.Options.{Options}
 use Rattle.urlpattern_syntax.specs.declared.parser.Part.{Part}
-use Rattle.urlpattern_syntax.specs.declared.parser.PartType.{PartType}
-use Rattle.urlpattern_syntax.specs.Text.{lacks, line_feed}
 
 -- The texts lead each of the two automata to the same states.
 abbrev pub LeadBothAlike : (one other : PartsAutomaton) → (text another : List ℕ) → Type 0
@@ -38,8 +36,7 @@ LeadBothAlike one other text another =
 abbrev pub HaveManySets : (one other : PartsAutomaton) → Type 0
 HaveManySets one other =
     (most : ℕ) × IsMostSets one.states other.states most
-    × (texts : List (List ℕ)) × (most < length texts)
-    × AreApart (LeadBothAlike one other) texts
+    × AreMoreLines most (LeadBothAlike one other)
 
 -- The search for a text that the first list of parts matches, and that the second matches or does
 -- not, reaches too many sets of states.
@@ -49,11 +46,11 @@ IsSearchLong options parts other_options others =
     × HaveManySets one other
 
 -- The work of the search for a text that the first list of parts matches, and that the second
--- matches or does not, is too much: one of the two needs too many states, or the search reaches too
--- many sets of states.
+-- matches or does not, may be too much: one of the two may need too many states, or the search
+-- reaches too many sets of states.
 abbrev pub IsTooMuch : OptionsView → List PartView → OptionsView → List PartView → Type 0
 IsTooMuch options parts other_options others =
-    (HasManyStates options parts ⊎ HasManyStates other_options others)
+    (MayHaveManyStates options parts ⊎ MayHaveManyStates other_options others)
     ⊎ IsSearchLong options parts other_options others
 
 -- Case is kept, or no part is custom.
@@ -62,17 +59,18 @@ IsByCase options parts = (options.ignore_case ≡ false) ⊎ AreGenerated parts
 
 -- Parts tell which texts they match: custom expressions are simple, and case is kept if there is
 -- one.
-pub record IsTold (options : OptionsView) (parts : List PartView) : Type 0 where
+pub record AreKnown (options : OptionsView) (parts : List PartView) : Type 0 where
   pub simple : AreSimple parts
   pub by_case : IsByCase options parts
 
 -- `reason` is why parts do not tell which texts they match: case is kept, and a custom expression
 -- is not simple, or case is ignored, and a part is custom.
-abbrev pub IsUntold : OptionsView → List PartView → Reason → Type 0
-IsUntold options parts reasons.CustomExpression =
+abbrev pub AreUnknownBy : OptionsView → List PartView → Reason → Type 0
+AreUnknownBy options parts reasons.CustomExpression =
     (¬ AreSimple parts) × (options.ignore_case ≡ false)
-IsUntold options parts reasons.IgnoredCase = (¬ AreGenerated parts) × (options.ignore_case ≡ true)
-IsUntold options parts reasons.TooMany = ⊥
+AreUnknownBy options parts reasons.IgnoredCase =
+    (¬ AreGenerated parts) × (options.ignore_case ≡ true)
+AreUnknownBy options parts reasons.TooMany = ⊥
 
 -- `reason` is true of two lists of parts if no text is known that the first matches, and that the
 -- second matches or does not: the parts of one of the two do not tell, or the work is too much.
@@ -80,7 +78,7 @@ abbrev pub IsReason : OptionsView → List PartView → OptionsView → List Par
 IsReason options parts other_options others reasons.TooMany =
     IsTooMuch options parts other_options others
 IsReason options parts other_options others reason =
-    IsUntold options parts reason ⊎ IsUntold other_options others reason
+    AreUnknownBy options parts reason ⊎ AreUnknownBy other_options others reason
 
 -- What each result of `covers` says. Covered: the parts match each text without line feed that the
 -- asked parts match. NotCovered: only the asked parts match the text, which has no line feed.
@@ -88,12 +86,12 @@ IsReason options parts other_options others reason =
 abbrev pub IsCovering : OptionsView → List PartView
     → (asked_options : OptionsView) → (asked : List PartView) → Covering → Type 0
 IsCovering options parts asked_options asked coverings.Covered =
-    (text : List ℕ) → IsTrue (all_scalars text) → IsTrue (lacks line_feed text)
+    (text : List ℕ) → IsLine text
     → MeansText asked_options asked text → MeansText options parts text
 IsCovering options parts asked_options asked (coverings.NotCovered text) =
     MeansText asked_options asked text.items
     × (¬ MeansText options parts text.items)
-    × IsTrue (lacks line_feed text.items)
+    × IsLine text.items
 IsCovering options parts asked_options asked (coverings.Unknown reason) =
     IsReason asked_options asked options parts reason
 
@@ -102,12 +100,12 @@ IsCovering options parts asked_options asked (coverings.Unknown reason) =
 -- the two lists (`IsReason`).
 abbrev pub IsOverlap : OptionsView → List PartView → OptionsView → List PartView → Overlap → Type 0
 IsOverlap options parts other_options others overlaps.Apart =
-    (text : List ℕ) → IsTrue (all_scalars text) → IsTrue (lacks line_feed text)
+    (text : List ℕ) → IsLine text
     → MeansText options parts text → ¬ MeansText other_options others text
 IsOverlap options parts other_options others (overlaps.Common text) =
     MeansText options parts text.items
     × MeansText other_options others text.items
-    × IsTrue (lacks line_feed text.items)
+    × IsLine text.items
 IsOverlap options parts other_options others (overlaps.Unknown reason) =
     IsReason options parts other_options others reason
 
@@ -147,9 +145,9 @@ abbrev pub IsSought : OptionsView → List PartView → OptionsView → List Par
 IsSought options parts other_options others is_meant (answers.Text text) =
     MeansText options parts text.items
     × IsWhether is_meant (MeansText other_options others text.items)
-    × IsTrue (lacks line_feed text.items)
+    × IsLine text.items
 IsSought options parts other_options others is_meant answers.Nothing =
-    (text : List ℕ) → IsTrue (all_scalars text) → IsTrue (lacks line_feed text)
+    (text : List ℕ) → IsLine text
     → MeansText options parts text
     → IsWhether (not is_meant) (MeansText other_options others text)
 IsSought options parts other_options others is_meant (answers.Unknown reason) =
@@ -181,12 +179,3 @@ abbrev pub answer_of : Found → Answer
 answer_of (founds.Text text) = answers.Text text
 answer_of founds.Nothing = answers.Nothing
 answer_of founds.TooMany = answers.Unknown reasons.TooMany
-
--- Whether a part of this kind is a custom regular expression.
-abbrev pub is_custom_kind : PartType → Bool
-is_custom_kind PartType.Regexp = true
-is_custom_kind kind = false
-
--- Whether the part is a custom regular expression.
-abbrev pub is_custom_part : Part → Bool
-is_custom_part part = is_custom_kind part.kind

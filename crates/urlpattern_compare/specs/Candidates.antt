@@ -1,9 +1,9 @@
 -- Eight texts that meet conditions and, of each of several lists of conditions, do not meet one.
-use Rattle.std.specs.Prelude.{◌≡◌, ◌⊎◌, ◌+◌, ◌<◌, ℕ, All, Contains, IsTrue, List, [], ◌∷◌, ◌++◌, length, MatchOption, not, Option, Result, Ok, Err, Vec}
+use Rattle.std.specs.Prelude.{◌≡◌, ◌⊎◌, ◌<◌, ℕ, All, Contains, IsTrue, List, [], ◌∷◌, ◌++◌, length, MatchOption, not, Option, Result, Ok, Err, Vec}
 use Rattle.std.specs.List.{HoldsAt}
 use Rattle.std.specs.declared.alloc.Global.{Global}
-use Rattle.urlpattern_compare.specs.Conditions.{Meets, is_met}
-use Rattle.urlpattern_compare.specs.TextSearch.{AreApart, HasManySets, IsLine}
+use Rattle.urlpattern_compare.specs.Conditions.{is_met}
+use Rattle.urlpattern_compare.specs.TextSearch.{AreUnlike, HasManySets, IsLine}
 use Rattle.urlpattern_compare.specs.declared.candidates.Candidate.{Candidate}
 use Rattle.urlpattern_compare.specs.declared.candidates.FoundTexts.{FoundTexts}
 use Rattle.urlpattern_compare.specs.declared.candidates.FoundTexts.TheVariants as founds
@@ -144,7 +144,7 @@ abbrev pub AreCandidates : (conditions refused : List Condition) → (old new : 
 AreCandidates conditions refused old new =
     (more : List Candidate) × (new ≡ old ++ more)
     × All (IsCandidateOf conditions refused) more
-    × AreApart (ShareBy refused) more
+    × AreUnlike (ShareBy refused) more
 
 -- The eight texts meet the conditions of one of the candidates.
 abbrev pub IsInside : List Candidate → TextAt → Type 0
@@ -187,7 +187,7 @@ HasManyTexts first refused most =
     (found : List TextAt) × (most < length found)
     × All AreLines found
     × All (MeetsEach first) found
-    × AreApart (MeetAlike refused) found
+    × AreUnlike (MeetAlike refused) found
 
 -- What each result of `find_texts` says. Texts: the texts have no line feed, meet `first`, and do
 -- not meet some condition of each list of `refused`. Nothing: no eight texts without line feed do.

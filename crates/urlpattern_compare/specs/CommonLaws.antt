@@ -1,7 +1,7 @@
 -- Laws of common texts: that meanings exist, and how much work a question takes at most.
 use Rattle.std.specs.Prelude.{◌≢◌, ◌⊎◌, ◌++◌, ◌^◌, ◌≤◌, ℕ, All, Contains, List, length}
 use Rattle.std.specs.List.{sum_by}
-use Rattle.urlpattern_compare.specs.CommonTexts.{AreAutomata, AreMeanings, IsDoubt, IsLack, PatternMeaning, SomeHasManyStates, parts_of}
+use Rattle.urlpattern_compare.specs.CommonTexts.{AreAutomata, AreMeanings, IsDoubt, IsLack, PatternMeaning, SomeMayHaveManyStates, parts_of}
 use Rattle.urlpattern_compare.specs.Comparing.{IsKnown, MeansIn}
 use Rattle.urlpattern_compare.specs.TextSearch.{IsLine}
 use Rattle.urlpattern_compare.specs.WorkBounds.{component_size}
@@ -18,13 +18,13 @@ use Rattle.urlpattern_meaning.specs.PartMeaning.{AreGenerated}
 use Rattle.urlpattern_syntax.specs.Parts.{parts_view}
 use Rattle.urlpattern_syntax.specs.declared.parts.ComponentParts.{ComponentParts}
 
--- Some meanings exist of any patterns, unless a component needs too many states.
+-- Some meanings exist of any patterns, unless a component may need too many states.
 abbrev pub MeaningsExist : Type 0
 MeaningsExist =
     (all_of none_of : List PatternAutomata) → All AreAutomata all_of → All AreAutomata none_of
     → ((all none : List PatternMeaning)
     × AreMeanings (parts_of all_of) (parts_of none_of) all none)
-    ⊎ SomeHasManyStates (all_of ++ none_of)
+    ⊎ SomeMayHaveManyStates (all_of ++ none_of)
 
 -- The size of the component in all of the patterns.
 abbrev pub joint_size : List PatternAutomata → ComponentName → ℕ

@@ -5,8 +5,8 @@ use Rattle.std.specs.Str.{all_scalars}
 use Rattle.urlpattern_compare.specs.Candidates.{AreLines, MeetsEach, TextAt, text_at}
 use Rattle.urlpattern_compare.specs.Comparing.{AreSame, IsKnown, IsUnknownBy, MeansIn}
 use Rattle.urlpattern_compare.specs.Conditions.{accepts, states_after}
-use Rattle.urlpattern_compare.specs.Making.{HasManyStates}
-use Rattle.urlpattern_compare.specs.TextSearch.{AreApart, IsLine}
+use Rattle.urlpattern_compare.specs.Making.{MayHaveManyStates}
+use Rattle.urlpattern_compare.specs.TextSearch.{AreMoreLines, AreUnlike, IsLine}
 use Rattle.urlpattern_compare.specs.WorkBounds.{component_size}
 use Rattle.urlpattern_compare.specs.declared.candidates.FoundTexts.{FoundTexts}
 use Rattle.urlpattern_compare.specs.declared.candidates.FoundTexts.TheVariants as founds
@@ -83,9 +83,8 @@ LeadsAlike text other automaton =
 abbrev pub NeedsManySets : List (Eight (Option PartsAutomaton)) → ComponentName → (most : ℕ)
     → Type 0
 NeedsManySets patterns name most =
-    (texts : List (List ℕ)) × (most < length texts)
-    × AreApart
-    (λ text other. All (λ automata. LeadsAlike text other (at automata name)) patterns) texts
+    AreMoreLines most
+    (λ text other. All (λ automata. LeadsAlike text other (at automata name)) patterns)
 
 -- The automaton of the component accepts both texts or neither, if there is one.
 abbrev pub AcceptsAlike : (text other : List ℕ) → Option PartsAutomaton → Type 0
@@ -114,7 +113,7 @@ NeedsManyTexts all_of none_of most =
     (found : List TextAt) × (most < length found)
     × All AreLines found
     × All (λ texts. All (λ pattern. TakesAll pattern texts) all_of) found
-    × AreApart (TakeAlike (map (λ it. it.automata) none_of)) found
+    × AreUnlike (TakeAlike (map (λ it. it.automata) none_of)) found
 
 -- ---- the answer
 
@@ -127,10 +126,12 @@ pub record IsAutomatonOf (component : ComponentParts) (automaton : PartsAutomato
   pub size : AreGenerated (parts_view component.parts.items)
       → automaton.states ≡ component_size component
 
--- `reason` is why a component has no automaton.
+-- `reason` is why a component has no automaton: its parts do not tell which texts it matches, or
+-- they tell, and the automaton may need too many states.
 abbrev pub LacksBy : ComponentParts → Reason → Type 0
 LacksBy component reasons.TooMany =
-    HasManyStates (options_view component.options) (parts_view component.parts.items)
+    IsKnown component
+    × MayHaveManyStates (options_view component.options) (parts_view component.parts.items)
 LacksBy component reason = IsUnknownBy component reason
 
 -- The automaton of the component, or None if it has none.
@@ -205,18 +206,18 @@ MayBeNothing all_of none_of =
     (all none : List PatternMeaning) × AreMeanings all_of none_of all none
     × ((texts : TextAt) → ¬ AreCommon all none texts)
 
--- A component of one of the patterns needs too many states.
-abbrev pub SomeHasManyStates : List PatternAutomata → Type 0
-SomeHasManyStates all =
+-- A component of one of the patterns has no automaton, since it may need too many states.
+abbrev pub SomeMayHaveManyStates : List PatternAutomata → Type 0
+SomeMayHaveManyStates all =
     (lack : Lack) × IsLack all lack × (lack.reason ≡ reasons.TooMany)
 
--- Whether common texts exist depends on what unknown components match, or a component needs too
+-- Whether common texts exist depends on what unknown components match, or a component may need too
 -- many states.
 abbrev pub Depends : (all_of none_of : List PatternAutomata) → Type 0
 Depends all_of none_of =
     (MayBeCommon (parts_of all_of) (parts_of none_of)
     × MayBeNothing (parts_of all_of) (parts_of none_of))
-    ⊎ SomeHasManyStates (all_of ++ none_of)
+    ⊎ SomeMayHaveManyStates (all_of ++ none_of)
 
 -- A component is the doubt only where the question depends on what unknown components match.
 abbrev pub DependsIfUnknown : (all_of none_of : List PatternAutomata) → Common → Type 0

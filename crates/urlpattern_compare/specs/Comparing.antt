@@ -1,19 +1,18 @@
 -- How patterns are compared, by the texts that their parts match. Parts *mean* a text if they can
 -- match it, one after the other; the *asked* pattern is the one of which it is asked whether
 -- another pattern covers it. Only texts without line feed are compared.
-use Rattle.std.specs.Prelude.{◌≡◌, ◌⊎◌, ◌&&◌, ℕ, not, All, Bool, true, Option, List, [], ◌∷◌, IsSomeAnd, IsTrue, MatchOption, false, map, take, Some, String}
+use Rattle.std.specs.Prelude.{◌≡◌, ◌⊎◌, ◌&&◌, ℕ, not, All, Bool, true, Option, List, [], ◌∷◌, IsSomeAnd, MatchOption, false, map, take, Some, String}
 use Rattle.std.specs.declared.alloc.Global.{Global}
 use Rattle.std.specs.List.{slice_get}
-use Rattle.std.specs.Str.{all_scalars}
-use Rattle.urlpattern_compare.specs.Answers.{IsTold, IsTooMuch}
+use Rattle.urlpattern_compare.specs.Answers.{IsByCase, AreKnown, IsTooMuch}
 use Rattle.urlpattern_compare.specs.MeantTexts.{MeansText}
+use Rattle.urlpattern_compare.specs.TextSearch.{IsLine}
 use Rattle.urlpattern_compare.specs.declared.coverage.Covering.{Covering}
 use Rattle.urlpattern_compare.specs.declared.coverage.Covering.TheVariants as coverings
 use Rattle.urlpattern_compare.specs.declared.coverage.Overlap.{Overlap}
 use Rattle.urlpattern_compare.specs.declared.coverage.Overlap.TheVariants as overlaps
 use Rattle.urlpattern_compare.specs.declared.coverage.Reason.{Reason}
 use Rattle.urlpattern_compare.specs.declared.coverage.Reason.TheVariants as reasons
-use Rattle.urlpattern_meaning.specs.PartMeaning.{AreGenerated}
 use Rattle.urlpattern_syntax.specs.declared.parts.ComponentParts.{ComponentParts}
 use Rattle.urlpattern_compare.specs.declared.pattern_parts.Parting.{Parting}
 use Rattle.urlpattern_compare.specs.declared.pattern_parts.PatternCovering.{PatternCovering}
@@ -25,7 +24,7 @@ use Rattle.urlpattern_components.specs.declared.eight.ComponentName.{ComponentNa
 use Rattle.urlpattern_components.specs.Eight.{at}
 use Rattle.urlpattern_syntax.specs.Options.{default_options, options_view}
 use Rattle.urlpattern_syntax.specs.Parts.{PartView, part_view, parts_view}
-use Rattle.urlpattern_syntax.specs.Text.{lacks, line_feed, text_of}
+use Rattle.urlpattern_syntax.specs.Text.{text_of}
 use Rattle.urlpattern_syntax.specs.declared.parser.{Part.Part, PartModifier.PartModifier, PartType.PartType}
 
 -- ---- one component
@@ -43,7 +42,7 @@ misses_case component = component.options.ignore_case && not component.honours_c
 -- The parts tell which texts the component matches: custom expressions are simple, case is kept if
 -- there is one, and a match ignores case if the options do.
 pub record IsKnown (component : ComponentParts) : Type 0 where
-  pub told : IsTold (options_view component.options) (parts_view component.parts.items)
+  pub parts : AreKnown (options_view component.options) (parts_view component.parts.items)
   pub case : misses_case component ≡ false
 
 -- `reason` is why the parts do not tell which texts the component matches, as `IsKnown` says: case
@@ -57,16 +56,18 @@ IsUnknownBy component reasons.IgnoredCase =
 IsUnknownBy component reasons.TooMany = ⊥
 
 -- `reason` is a reason why it is not known whether a text exists that both components match: the
--- parts of one of them do not tell, or the search among the texts of the first is too much work.
+-- parts of one of them do not tell, or those of both tell, and the search among the texts of the
+-- first is too much work.
 abbrev pub IsReasonToShare : (component other : ComponentParts) → Reason → Type 0
 IsReasonToShare component other reasons.TooMany =
-    IsTooMuch (options_view component.options) (parts_view component.parts.items)
+    IsKnown component × IsKnown other
+    × IsTooMuch (options_view component.options) (parts_view component.parts.items)
     (options_view other.options) (parts_view other.parts.items)
 IsReasonToShare component other reason = IsUnknownBy component reason ⊎ IsUnknownBy other reason
 
 -- `reason` is a reason why it is not known whether a text exists that only the asked component
--- matches: the parts of one of the two do not tell, or the search among the texts of the asked one
--- is too much work.
+-- matches: the parts of one of the two do not tell, or those of both tell, and the search among the
+-- texts of the asked one is too much work.
 abbrev pub IsReasonFor : (component asked : ComponentParts) → Reason → Type 0
 IsReasonFor component asked = IsReasonToShare asked component
 
@@ -83,38 +84,37 @@ anything_part = record {
 }
 
 -- `reason` is a reason why no text is known that the component matches: its parts do not tell, or
--- the comparison with a full wildcard, which would find such a text, is too much work.
+-- they tell, and the comparison with a full wildcard, which would find such a text, is too much
+-- work.
 abbrev pub IsReasonAlone : ComponentParts → Reason → Type 0
 IsReasonAlone component reasons.TooMany =
-    IsTooMuch (options_view component.options) (parts_view component.parts.items) default_options
+    IsKnown component
+    × IsTooMuch (options_view component.options) (parts_view component.parts.items) default_options
     (anything_part ∷ [])
 IsReasonAlone component reason = IsUnknownBy component reason
 
 -- The component matches each text without line feed, as its parts tell.
 pub record MatchesEveryLine (component : ComponentParts) : Type 0 where
   pub known : IsKnown component
-  pub takes : (text : List ℕ) → IsTrue (all_scalars text) → IsTrue (lacks line_feed text)
-      → MeansIn component text
+  pub takes : (text : List ℕ) → IsLine text → MeansIn component text
 
 -- The component matches no text without line feed, as its parts tell.
 pub record MatchesNoLine (component : ComponentParts) : Type 0 where
   pub known : IsKnown component
-  pub takes_none : (text : List ℕ) → IsTrue (all_scalars text) → IsTrue (lacks line_feed text)
-      → ¬ MeansIn component text
+  pub takes_none : (text : List ℕ) → IsLine text → ¬ MeansIn component text
 
 -- The component matches each text without line feed that the asked one matches, as the parts of
 -- both tell.
 pub record MeansAllOf (component asked : ComponentParts) : Type 0 where
   pub known : IsKnown component
   pub asked_known : IsKnown asked
-  pub within : (text : List ℕ) → IsTrue (all_scalars text) → IsTrue (lacks line_feed text)
-      → MeansIn asked text → MeansIn component text
+  pub within : (text : List ℕ) → IsLine text → MeansIn asked text → MeansIn component text
 
 -- The component matches the text, which has no line feed, as its parts tell.
 pub record IsMeantBy (component : ComponentParts) (text : List ℕ) : Type 0 where
   pub known : IsKnown component
   pub means : MeansIn component text
-  pub line : IsTrue (lacks line_feed text)
+  pub line : IsLine text
 
 -- The asked component matches the text, which has no line feed, and the other component does not.
 pub record IsOnlyIn (component asked : ComponentParts) (text : List ℕ) : Type 0 where
@@ -126,8 +126,7 @@ pub record IsOnlyIn (component asked : ComponentParts) (text : List ℕ) : Type 
 pub record AreApart (component other : ComponentParts) : Type 0 where
   pub known : IsKnown component
   pub other_known : IsKnown other
-  pub apart : (text : List ℕ) → IsTrue (all_scalars text) → IsTrue (lacks line_feed text)
-      → MeansIn component text → ¬ MeansIn other text
+  pub apart : (text : List ℕ) → IsLine text → MeansIn component text → ¬ MeansIn other text
 
 -- The view of the part, without the name of its group.
 abbrev pub unnamed_view : Part → PartView
@@ -140,7 +139,7 @@ unnamed parts = map unnamed_view parts
 -- In the component, case is kept or no part is a custom regular expression.
 abbrev pub IsCaseKeptOrGenerated : ComponentParts → Type 0
 IsCaseKeptOrGenerated component =
-    (component.options.ignore_case ≡ false) ⊎ AreGenerated (parts_view component.parts.items)
+    IsByCase (options_view component.options) (parts_view component.parts.items)
 
 -- The two components are equal but for the names of groups, and honour the flag `i` alike. Case is
 -- kept, or no part is custom, so that two values that an engine made of one expression return equal
@@ -158,17 +157,19 @@ IsComponentCovered component asked =
     MatchesEveryLine component ⊎ (MeansAllOf component asked ⊎ AreSame component asked)
 
 -- `reason` is a reason why the component is not known to match each text without line feed: its
--- parts do not tell, or the search for a text that only a full wildcard matches is too much work.
+-- parts do not tell, or they tell, and the search for a text that only a full wildcard matches is
+-- too much work.
 abbrev pub IsReasonToMiss : ComponentParts → Reason → Type 0
 IsReasonToMiss component reasons.TooMany =
-    IsTooMuch default_options (anything_part ∷ []) (options_view component.options)
+    IsKnown component
+    × IsTooMuch default_options (anything_part ∷ []) (options_view component.options)
     (parts_view component.parts.items)
 IsReasonToMiss component reason = IsUnknownBy component reason
 
 -- The component does not match some text without line feed, or it is not known to match each.
 abbrev pub MayMissLine : ComponentParts → Type 0
 MayMissLine component =
-    ((text : List ℕ) × IsTrue (lacks line_feed text) × ¬ MeansIn component text)
+    ((text : List ℕ) × IsLine text × ¬ MeansIn component text)
     ⊎ ((reason : Reason) × IsReasonToMiss component reason)
 
 -- `reason` is a reason why it is not known whether the component covers the asked one: the reason

@@ -1,6 +1,6 @@
 -- Conditions on a text: that automata accept it, or reject it. What a text does to several automata
 -- is seen by the sets of states to which it leads them, one after the other in one list of flags.
-use Rattle.std.specs.Prelude.{◌≡◌, ℕ, ◌+◌, All, Bool, true, false, not, ◌&&◌, ◌||◌, List, [], ◌∷◌, ◌++◌, IsTrue, drop, map, take}
+use Rattle.std.specs.Prelude.{ℕ, All, Bool, true, false, not, ◌&&◌, ◌||◌, List, [], ◌∷◌, ◌++◌, IsTrue, drop, map, take}
 use Rattle.std.specs.List.{list_any}
 use Rattle.urlpattern_compare.specs.Searching.{is_in, moved, starts_of}
 use Rattle.urlpattern_compare.specs.declared.condition.Condition.{Condition}

@@ -1,6 +1,5 @@
 -- Comparisons of two patterns that a single component decides.
-use Rattle.std.specs.Prelude.{◌≡◌, ◌⊎◌, ℕ, IsTrue, List}
-use Rattle.std.specs.Str.{all_scalars}
+use Rattle.std.specs.Prelude.{◌≡◌, ◌⊎◌, ℕ, List}
 use Rattle.urlpattern_compare.specs.Comparing.{AreApart, AreSame, IsOnlyIn, IsPatternCovering, IsPatternOverlap, IsReasonFor, IsReasonToShare}
 use Rattle.urlpattern_compare.specs.declared.coverage.Reason.{Reason}
 use Rattle.urlpattern_compare.specs.declared.coverage.Reason.TheVariants.{TooMany}
@@ -22,18 +21,17 @@ EqualAreCovered =
     → IsPatternCovering pattern asked covering → covering ≡ answers.Covered
 
 -- Of two patterns that a text of the component `parted` parts, `covers` returns `Unknown` only if
--- to look for such a text would take too much work.
+-- to look for such a text may take too much work.
 abbrev pub PartedAreKnown : Type 0
 PartedAreKnown =
     (pattern asked : PatternParts) (parted : ComponentName) (text : List ℕ)
-    → IsTrue (all_scalars text)
     → IsOnlyIn (at pattern.components parted) (at asked.components parted) text
     → (name : ComponentName) (reason : Reason)
     → IsPatternCovering pattern asked (answers.Unknown name reason)
     → IsReasonFor (at pattern.components parted) (at asked.components parted) TooMany
 
 -- Of two patterns whose component `apart` is apart, `overlaps` returns `Apart`, unless to look for
--- a text that both components match would take too much work.
+-- a text that both components match may take too much work.
 abbrev pub ApartAreKnown : Type 0
 ApartAreKnown =
     (pattern other : PatternParts) (apart : ComponentName) (overlap : PatternOverlap)

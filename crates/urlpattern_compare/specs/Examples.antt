@@ -15,7 +15,7 @@ pub record IsExampleOf (options : OptionsView) (parts : List PartView) (text : L
 
 -- ---- steps
 
--- The character is no capital letter, and not the delimiter.
+-- The character is no capital letter, and not the delimiter, nor a line feed if there is none.
 pub record IsSegment (options : OptionsView) (c : ℕ) : Type 0 where
   pub lower : folded_character true c ≡ c
   pub other : c ≢ unwrap_or (folded_options options).delimiter line_feed

@@ -13,6 +13,8 @@ pub mod DecidedComparisons
 pub mod WorkBounds
 pub mod Conditions
 pub mod TextSearch
+pub mod Exits
+pub mod Moves
 pub mod Examples
 pub mod Fronts
 pub mod Candidates

@@ -202,15 +202,14 @@ IsPartAdded options part old new =
     (shape : Option Shape) × IsShaped part.kind part shape
     × (new ≡ with_part (folded_options options) old (folded_part options.ignore_case part) shape)
 
--- A part that is not custom has more than `MOST_STATES` cells, or the automaton before it has more
--- than so many states.
+-- A part that is not custom has more than `MOST_STATES` cells, or the automaton to which it is
+-- prepended has more than so many states.
 abbrev pub IsPartLarge : OptionsView → PartView → Made → Type 0
 IsPartLarge options part made =
     (MOST_STATES < length (cells_of options part.kind part)) ⊎ (MOST_STATES < made.count)
 
--- The automaton of the parts has more than `MOST_STATES` states, or a part is custom: the number of
--- states of an expression is that of the tree that the crate `regex_syntax` makes of it. Without a
--- custom part, an automaton has a state for each cell, and one more.
-abbrev pub HasManyStates : OptionsView → List PartView → Type 0
-HasManyStates options parts =
+-- The automaton of the parts may need too many states: a part is custom, since nothing says how
+-- large the tree of its expression is, or there are, without one, more than `MOST_STATES` cells.
+abbrev pub MayHaveManyStates : OptionsView → List PartView → Type 0
+MayHaveManyStates options parts =
     (¬ AreGenerated parts) ⊎ (MOST_STATES < (made options (unshaped parts)).count)

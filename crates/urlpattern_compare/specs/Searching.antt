@@ -1,7 +1,7 @@
 -- Sets of states of an automaton, and how far a search goes.
-use Rattle.std.specs.Prelude.{ℕ, ◌+◌, ◌≤◌, Bool, true, false, ◌&&◌, List, [], ◌∷◌, length, IsTrue, if◌then◌else◌, slice_set, replicate}
+use Rattle.std.specs.Prelude.{ℕ, ◌+◌, ◌≤◌, Bool, true, false, ◌&&◌, List, [], ◌∷◌, length, if◌then◌else◌, slice_set, replicate}
 use Rattle.std.specs.List.{slice_index_or}
-use Rattle.urlpattern_compare.specs.Automata.{Leads, passes}
+use Rattle.urlpattern_compare.specs.Automata.{passes}
 use Rattle.urlpattern_compare.specs.declared.parts_automaton.PartsAutomaton.{PartsAutomaton}
 use Rattle.urlpattern_compare.specs.declared.parts_automaton.Edge.{Edge}
 use Rattle.urlpattern_compare.specs.declared.search.TheConstants.{FEW_STATES, MOST_SETS, SETS_OF_FEW}
@@ -11,10 +11,6 @@ use Rattle.urlpattern_compare.specs.declared.search.TheConstants.{FEW_STATES, MO
 -- Whether the state is in the set, which has a flag for each state.
 abbrev pub is_in : List Bool → ℕ → Bool
 is_in flags state = slice_index_or flags state false
-
--- The edges lead from a state of the set to state 0 by the text.
-abbrev pub LeadsIn : List Edge → (flags : List Bool) → (text : List ℕ) → Type 0
-LeadsIn edges flags text = (state : ℕ) × IsTrue (is_in flags state) × Leads edges state text
 
 -- The set `flags` with the states added.
 abbrev pub with_states : (flags : List Bool) → (states : List ℕ) → List Bool

@@ -16,7 +16,8 @@ use urlpattern_components::{ComponentName, Eight};
 pub struct Limits {
     /// How many sets of states the automata of a component may have. A search keeps those it
     /// reaches in memory: each takes a byte for each state of these automata, and four bytes for
-    /// each character of a text that leads to it.
+    /// each character of a text that leads to it. For each set, a search looks at each edge of
+    /// these automata a few times, and at each set that it keeps.
     pub sets: usize,
     /// How many times eight texts may be tried.
     pub texts: usize,

@@ -1,108 +1,118 @@
-//! Classes of characters: two characters are of one class if they pass the same tests of automata.
+//! Classes of characters: two characters are of one class if they pass the same tests of exits.
 
-ghost use Rattle.std.specs.Prelude.{◌≡◌, ◌<◌, ◌≤◌, ◌++◌, ℕ, All, Contains, false, true, IfOk, IfNone, IfSome, OnOk, ◌∷◌, []};
+ghost use Rattle.std.specs.Prelude.{◌≡◌, ◌<◌, ◌≤◌, ℕ, All, Contains, false, true, IfOk, IfNone, IfSome, IsTrue, OnOk, ◌∷◌, []};
 ghost use Rattle.std.specs.Char.{IsScalar};
-ghost use Rattle.urlpattern_compare.specs.TextSearch.{AreClassesAt, HasFree, breaks_at, breaks_of, code_after, named_at, with_breaks_from, with_cases, with_mark, with_marks, with_named, with_named_from};
+ghost use Rattle.urlpattern_compare.specs.Exits.{AreClasses, AreKeptIn, HasBreaks, HasBreaksOf, HasCases, HasFree, HasNames, HasNamesOf, code_after};
 ghost use Rattle.urlpattern_syntax.specs.Text.{is_among, line_feed};
 
-use crate::condition::Condition;
-use crate::joint_states::split;
+use crate::exits::Exits;
+use crate::moves::unlike_classes;
 use crate::parts_automaton::{Edge, Test};
-use crate::states::is_in;
 use std::alloc::{AllocError, Global};
 
-/// Returns at least one character of each class that the automata of `conditions` tell apart in the
-/// sets of states `flags`: a line feed, the characters that the tests of the edges name that leave
-/// a state of these sets, in both cases where case is ignored, a further character, if one is left,
-/// and the first character that is left from each code on at which a range begins or has ended.
-pub(crate) fn classes_at(
-    alloc: Global,
-    conditions: &[Condition<'_>],
-    flags: &[bool],
-) -> Result<Vec<char>, AllocError>
-    ensures { IfOk result (λ classes. AreClassesAt conditions.now flags.now classes.items) }
+/// Returns at least one character of each class that the tests of the exits tell apart: a line
+/// feed, the characters that they name, in both cases where case is ignored, a further character,
+/// if one is left, and the first character that is left from each code on at which a range begins
+/// or has ended. Of many classes, one is returned for each sets of states to which they lead.
+pub(crate) fn classes_of(alloc: Global, exits: &[Exits]) -> Result<Vec<char>, AllocError>
+    ensures { IfOk result (λ classes. AreClasses exits.now classes.items) }
 {
-    let named = named_at(alloc, conditions, flags)?;
+    let named = named_by(alloc, exits)?;
     match other_than(&named) {
         Some(c) => {
-            let breaks = breaks_at(alloc, conditions, flags)?;
+            let breaks = breaks_of(alloc, exits)?;
             let mut classes = Vec::from_slice(alloc, &named)?;
             classes.push(c)?;
             add_free(&mut classes, &named, &breaks)?;
-            Ok(classes)
+            unlike_classes(alloc, exits, classes)
         }
         None => Ok(named),
     }
 }
 
-/// Returns a line feed and the characters that the tests of the edges name that leave a state of
-/// the sets `flags`.
-fn named_at(
-    alloc: Global,
-    conditions: &[Condition<'_>],
-    flags: &[bool],
-) -> Result<Vec<char>, AllocError>
-    ensures { IfOk result (λ marks.
-        marks.items ≡ named_at (line_feed ∷ []) conditions.now flags.now) }
+/// Returns a line feed and the characters that the tests of the exits name.
+fn named_by(alloc: Global, exits: &[Exits]) -> Result<Vec<char>, AllocError>
+    ensures feed { IfOk result (λ marks. Contains marks.items line_feed) }
+    ensures named { IfOk result (λ marks. All (HasNamesOf marks.items) exits.now) }
 {
     let mut marks = line_feed(alloc)?;
-    let mut left = flags;
-    for condition in conditions {
-        let automaton = condition.automaton;
-        let (own, others) = split(left, automaton.states);
-        add_named_from(&mut marks, automaton.ignore_case, &automaton.edges, own)?;
-        left = others;
+    for own in exits {
+        add_named_of(&mut marks, own.ignore_case, &own.edges)?;
     }
     Ok(marks)
 }
 
-/// Returns the codes at which the ranges begin, or have ended, of the edges that leave a state of
-/// the sets `flags`.
-fn breaks_at(
-    alloc: Global,
-    conditions: &[Condition<'_>],
-    flags: &[bool],
-) -> Result<Vec<u32>, AllocError>
-    ensures { IfOk result (λ breaks. breaks.items ≡ breaks_at [] conditions.now flags.now) }
+/// Returns the codes at which ranges of the exits begin, or have ended, in order, each once.
+fn breaks_of(alloc: Global, exits: &[Exits]) -> Result<Vec<u32>, AllocError>
+    ensures { IfOk result (λ breaks. All (HasBreaksOf breaks.items) exits.now) }
 {
     let mut breaks = Vec::new(alloc);
-    let mut left = flags;
-    for condition in conditions {
-        let automaton = condition.automaton;
-        let (own, others) = split(left, automaton.states);
-        add_breaks_from(&mut breaks, &automaton.edges, own)?;
-        left = others;
+    for own in exits {
+        add_breaks_of(&mut breaks, &own.edges)?;
     }
+    breaks.sort_unstable();
+    breaks.dedup();
     Ok(breaks)
 }
 
-/// Adds to `breaks` the codes at which the ranges begin, or have ended, of those of `edges` that
-/// leave a state of the set `from`.
-fn add_breaks_from(breaks: &mut Vec<u32>, edges: &[Edge], from: &[bool]) -> Result<(), AllocError>
-    ensures { OnOk result
-        (breaks.new.items ≡ with_breaks_from breaks.old.items from.now edges.now) }
+/// Adds the codes at which the ranges of the edges begin, or have ended.
+fn add_breaks_of(breaks: &mut Vec<u32>, edges: &[Edge]) -> Result<(), AllocError>
+    ensures kept { OnOk result (AreKeptIn breaks.old.items breaks.new.items) }
+    ensures added { OnOk result (All (λ edge. HasBreaks breaks.new.items edge.test) edges.now) }
 {
     for edge in edges {
-        if is_in(from, edge.from) {
-            add_breaks(breaks, edge.test)?;
-        }
+        add_breaks(breaks, *edge)?;
     }
     Ok(())
 }
 
-/// Adds to `breaks` the codes at which the range of the test begins, or has ended.
-fn add_breaks(breaks: &mut Vec<u32>, test: Test) -> Result<(), AllocError>
-    ensures { OnOk result (breaks.new.items ≡ breaks.old.items ++ breaks_of test) }
+/// Adds to `breaks` the codes at which the range of the edge begins, or has ended, and 0.
+fn add_breaks(breaks: &mut Vec<u32>, edge: Edge) -> Result<(), AllocError>
+    ensures kept { OnOk result (AreKeptIn breaks.old.items breaks.new.items) }
+    ensures added { OnOk result (HasBreaks breaks.new.items edge.test) }
 {
-    match test {
+    match edge.test {
         Test::Only(_) | Test::AnyBut(_) => Ok(()),
         Test::Within(first, last) => {
-            breaks.push(0)?;
-            breaks.push(first)?;
-            breaks.push(code_after(last))?;
-            Ok(())
+            add_break(breaks, 0)?;
+            add_break(breaks, first)?;
+            add_break(breaks, code_after(last))
         }
     }
+}
+
+/// Adds a code to `breaks`, unless it is the first or one of the last two, as that of an edge to
+/// another state is.
+fn add_break(breaks: &mut Vec<u32>, code: u32) -> Result<(), AllocError>
+    ensures kept { OnOk result (AreKeptIn breaks.old.items breaks.new.items) }
+    ensures added { OnOk result (Contains breaks.new.items code) }
+{
+    if is_at_an_end(breaks, code) {
+        return Ok(());
+    }
+    breaks.push(code)?;
+    Ok(())
+}
+
+/// Whether the code is the first of `breaks` or one of the last two.
+fn is_at_an_end(breaks: &[u32], code: u32) -> bool
+    ensures { IsTrue result → Contains breaks.now code }
+{
+    let count = breaks.len();
+    if is_at(breaks, 0, code) {
+        return true;
+    }
+    if is_at(breaks, count.saturating_sub(1), code) {
+        return true;
+    }
+    is_at(breaks, count.saturating_sub(2), code)
+}
+
+/// Whether `breaks` has the code at the index.
+fn is_at(breaks: &[u32], index: usize, code: u32) -> bool
+    ensures { IsTrue result → Contains breaks.now code }
+{
+    index < breaks.len() && breaks[index] == code
 }
 
 /// Returns the code after `last`, or 0 if no character has one.
@@ -119,8 +129,7 @@ fn code_after(last: u32) -> u32
 /// Adds to `classes` the first character from each of the codes `breaks` on that is not among
 /// `named`, if there is one.
 fn add_free(classes: &mut Vec<char>, named: &[char], breaks: &[u32]) -> Result<(), AllocError>
-    ensures kept { OnOk result ((c : ℕ) → Contains classes.old.items c
-        → Contains classes.new.items c) }
+    ensures kept { OnOk result (AreKeptIn classes.old.items classes.new.items) }
     ensures free { OnOk result (All (HasFree named.now classes.new.items) breaks.now) }
 {
     for code in breaks {
@@ -131,12 +140,11 @@ fn add_free(classes: &mut Vec<char>, named: &[char], breaks: &[u32]) -> Result<(
 
 /// Adds to `classes` the first character from `code` on that is not among `named`, if there is one.
 fn add_free_from(classes: &mut Vec<char>, named: &[char], code: u32) -> Result<(), AllocError>
-    ensures kept { OnOk result ((c : ℕ) → Contains classes.old.items c
-        → Contains classes.new.items c) }
+    ensures kept { OnOk result (AreKeptIn classes.old.items classes.new.items) }
     ensures free { OnOk result (HasFree named.now classes.new.items code) }
 {
     match other_within(named, code, u32::from(char::MAX) + 1) {
-        Some(c) => add_mark(classes, c),
+        Some(c) => add_unless_last(classes, c),
         None => Ok(()),
     }
 }
@@ -150,31 +158,37 @@ fn line_feed(alloc: Global) -> Result<Vec<char>, AllocError>
     Ok(marks)
 }
 
-/// Adds to `marks` the characters that the tests of those of `edges` name that leave a state of the
-/// set `from`, in both cases if case is ignored, each once.
-fn add_named_from(
-    marks: &mut Vec<char>,
-    ignore_case: bool,
-    edges: &[Edge],
-    from: &[bool],
-) -> Result<(), AllocError>
-    ensures { OnOk result
-        (marks.new.items ≡ with_named_from ignore_case marks.old.items from.now edges.now) }
+/// Adds to `marks` the characters that the tests of the edges name, in both cases if case is
+/// ignored, each once.
+fn add_named_of(marks: &mut Vec<char>, ignore_case: bool, edges: &[Edge]) -> Result<(), AllocError>
+    ensures kept { OnOk result (AreKeptIn marks.old.items marks.new.items) }
+    ensures added { OnOk result
+        (All (λ edge. HasNames ignore_case marks.new.items edge.test) edges.now) }
 {
     for edge in edges {
-        if is_in(from, edge.from) {
-            add_named(marks, ignore_case, edge.test)?;
-        }
+        add_named(marks, ignore_case, *edge)?;
     }
     Ok(())
 }
 
-/// Adds to `marks` the characters that the test names. If case is ignored, a test of ranges names
-/// all capital letters.
-fn add_named(marks: &mut Vec<char>, ignore_case: bool, test: Test) -> Result<(), AllocError>
-    ensures { OnOk result (marks.new.items ≡ with_named ignore_case marks.old.items test) }
+/// Adds `c` to `classes`, unless it is the last of them.
+fn add_unless_last(classes: &mut Vec<char>, c: char) -> Result<(), AllocError>
+    ensures kept { OnOk result (AreKeptIn classes.old.items classes.new.items) }
+    ensures added { OnOk result (Contains classes.new.items c) }
 {
-    match test {
+    if classes.last() != Some(&c) {
+        classes.push(c)?;
+    }
+    Ok(())
+}
+
+/// Adds to `marks` the characters that the test of the edge names. If case is ignored, a range
+/// names all capital letters.
+fn add_named(marks: &mut Vec<char>, ignore_case: bool, edge: Edge) -> Result<(), AllocError>
+    ensures kept { OnOk result (AreKeptIn marks.old.items marks.new.items) }
+    ensures added { OnOk result (HasNames ignore_case marks.new.items edge.test) }
+{
+    match edge.test {
         Test::Only(c) | Test::AnyBut(c) => add_cases(marks, ignore_case, c),
         Test::Within(..) => if ignore_case {
             add_marks(
@@ -191,9 +205,9 @@ fn add_named(marks: &mut Vec<char>, ignore_case: bool, test: Test) -> Result<(),
 }
 
 /// Adds the characters of `text` to `marks`, each once.
-#[tactic(auto, unfolding(crate::specs::TextSearch::with_marks))]
 fn add_marks(marks: &mut Vec<char>, text: &[char]) -> Result<(), AllocError>
-    ensures { OnOk result (marks.new.items ≡ with_marks marks.old.items text.now) }
+    ensures kept { OnOk result (AreKeptIn marks.old.items marks.new.items) }
+    ensures added { OnOk result (All (Contains marks.new.items) text.now) }
 {
     for c in text {
         add_mark(marks, *c)?;
@@ -203,7 +217,8 @@ fn add_marks(marks: &mut Vec<char>, text: &[char]) -> Result<(), AllocError>
 
 /// Adds `c` to `marks` and, if case is ignored, `c` in upper case.
 fn add_cases(marks: &mut Vec<char>, ignore_case: bool, c: char) -> Result<(), AllocError>
-    ensures { OnOk result (marks.new.items ≡ with_cases ignore_case marks.old.items c) }
+    ensures kept { OnOk result (AreKeptIn marks.old.items marks.new.items) }
+    ensures added { OnOk result (HasCases ignore_case marks.new.items c) }
 {
     add_mark(marks, c)?;
     if ignore_case {
@@ -214,7 +229,8 @@ fn add_cases(marks: &mut Vec<char>, ignore_case: bool, c: char) -> Result<(), Al
 
 /// Adds `c` to `marks`, if it is not among them.
 fn add_mark(marks: &mut Vec<char>, c: char) -> Result<(), AllocError>
-    ensures { OnOk result (marks.new.items ≡ with_mark marks.old.items c) }
+    ensures kept { OnOk result (AreKeptIn marks.old.items marks.new.items) }
+    ensures added { OnOk result (Contains marks.new.items c) }
 {
     if !is_among(marks, c) {
         marks.push(c)?;

@@ -2,7 +2,7 @@
 
 ghost use Rattle.urlpattern_compare.specs.CommonLaws.{FewNeedFewTexts, MeaningsExist, SmallHaveAutomata, SmallNeedFewSets, UsualAreWide};
 
-/// Some meanings exist of any patterns, unless a component needs too many states: ways in which
+/// Some meanings exist of any patterns, unless a component may need too many states: ways in which
 /// unknown components may match. So what a result of [`find_common`](crate::find_common) says of
 /// each is said of some.
 pub fn meanings_exist()

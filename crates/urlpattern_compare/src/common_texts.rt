@@ -7,13 +7,13 @@ ghost use Rattle.urlpattern_compare.specs.CommonTexts.{AreAdded, AreAutomata, Ar
 ghost use Rattle.urlpattern_compare.specs.EqualParts.{AreEqualParts};
 ghost use Rattle.urlpattern_syntax.specs.Text.{text_of};
 
+use crate::apart::{are_apart_by_fronts, is_apart_from};
 use crate::candidates::{FoundTexts, Limits, find_texts};
 use crate::component_coverage::unknown;
 use crate::condition::Condition;
 use crate::copies::copy_of;
 use crate::coverage::Reason;
 use crate::lacks::{first_lack, is_same_in, is_sure_of};
-use crate::parted::{are_parted, is_parted_from};
 use crate::parts_automaton::{PartsAutomaton, make};
 use crate::pattern_parts::{PatternParts, string_of};
 use std::alloc::{AllocError, Global};
@@ -31,8 +31,8 @@ pub enum Common {
     Unknown(Doubt),
 }
 
-/// A component without automaton, maybe one of several: nothing is known of it, or it needs too
-/// many states.
+/// A component without automaton, maybe one of several: nothing is known of it, or its automaton
+/// would be too large.
 #[derive(Clone, Copy, Debug, PartialEq, Eq)]
 pub struct Lack {
     /// The index of the pattern in its list.
@@ -63,8 +63,8 @@ pub enum Doubt {
 pub struct PatternAutomata {
     /// The parts of the pattern.
     pub parts: PatternParts,
-    /// The automata. `None`: nothing is known of the component, or its automaton has too many
-    /// states.
+    /// The automata. `None`: nothing is known of the component, or its automaton would be too large
+    /// ([`Reason::TooMany`](crate::Reason::TooMany)).
     pub automata: Eight<Option<PartsAutomaton>>,
 }
 
@@ -102,8 +102,8 @@ fn automata_of(
     Eight::try_from_fn(automaton)
 }
 
-/// Returns the automaton of the component. `None`: nothing is known of the component, or it needs
-/// too many states.
+/// Returns the automaton of the component. `None`: nothing is known of the component, or its
+/// automaton would be too large.
 fn automaton_of(
     alloc: Global,
     component: &ComponentParts,
@@ -165,13 +165,9 @@ fn texts_or_doubt<'a>(
     ensures depends { IfOk result
         (DependsIfUnknown (map (λ it. it.now) all_of.now) (map (λ it. it.now) none_of.now)) }
 {
-    let strings = strings_of(alloc, texts)?;
     match first_lack(alloc, &[], all_of)? {
-        Some(lack) => {
-            drop(strings);
-            Ok(Common::Unknown(Doubt::AllOf(lack)))
-        }
-        None => texts_if_known(alloc, all_of, none_of, limits, strings),
+        Some(lack) => Ok(Common::Unknown(Doubt::AllOf(lack))),
+        None => texts_if_known(alloc, all_of, none_of, limits, texts),
     }
 }
 
@@ -182,13 +178,13 @@ fn texts_if_known<'a>(
     all_of: &[&'a PatternAutomata],
     none_of: &[&'a PatternAutomata],
     limits: Limits,
-    texts: Eight<String>,
+    texts: &Eight<Vec<char>>,
 ) -> Result<Common, AllocError>
     requires all_of { All AreAutomata (map (λ it. it.now) all_of.now) }
     requires none_of { All AreAutomata (map (λ it. it.now) none_of.now) }
-    requires lines { AreLines (string_at texts) }
+    requires lines { AreLines (text_at texts.now) }
     requires taken { AreTaken (map (λ it. it.now) all_of.now) (map (λ it. it.now) none_of.now)
-        true (string_at texts) }
+        true (text_at texts.now) }
     requires known { All HasAutomata (map (λ it. it.now) all_of.now) }
     ensures answer { IfOk result
         (IsCommonAnswer (map (λ it. it.now) all_of.now) (map (λ it. it.now) none_of.now) limits) }
@@ -196,11 +192,8 @@ fn texts_if_known<'a>(
         (DependsIfUnknown (map (λ it. it.now) all_of.now) (map (λ it. it.now) none_of.now)) }
 {
     match first_lack(alloc, all_of, none_of)? {
-        Some(lack) => {
-            drop(texts);
-            certain_or(alloc, all_of, none_of, limits, lack)
-        }
-        None => Ok(Common::Texts(texts)),
+        Some(lack) => certain_or(alloc, all_of, none_of, limits, lack),
+        None => Ok(Common::Texts(strings_of(alloc, texts)?)),
     }
 }
 
@@ -260,7 +253,7 @@ fn find_taken<'a>(
         (IsFoundTaken (map (λ it. it.now) all_of.now) (map (λ it. it.now) none_of.now) is_sure
         limits) }
 {
-    if are_parted(all_of) {
+    if are_apart_by_fronts(all_of) {
         return Ok(FoundTexts::Nothing);
     }
     let first = accepting(alloc, all_of)?;
@@ -324,7 +317,7 @@ fn push_list<'a>(
     if !is_counted(is_sure, all_of, pattern) {
         return Ok(());
     }
-    if is_parted_from(all_of, pattern) {
+    if is_apart_from(all_of, pattern) {
         return Ok(());
     }
     let mut conditions = Vec::new(alloc);

@@ -11,7 +11,7 @@ ghost use Rattle.urlpattern_compare.specs.declared.search.TheConstants.{FEW_STAT
 /// A pattern with the same parts and options in each component is covered, with custom regular
 /// expressions too. `covers` is not `Unknown` if a text is known of a component that only the asked
 /// pattern matches, nor `overlaps` if a component of the two is apart, but where to compare that
-/// component would take too much work.
+/// component may take too much work.
 pub fn decided_comparisons_are_known()
     ensures equal { EqualAreCovered }
     ensures parted { PartedAreKnown }

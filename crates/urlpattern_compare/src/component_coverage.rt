@@ -7,9 +7,11 @@ ghost use Rattle.urlpattern_syntax.specs.Options.{default_options, options_view}
 ghost use Rattle.urlpattern_syntax.specs.Parts.{parts_view};
 ghost use Rattle.urlpattern_syntax.specs.Text.{text_of};
 
-use crate::coverage::{Covering, Overlap, Reason, covers, has_custom, overlaps, untold};
+use crate::coverage::{Covering, Overlap, Reason, covers_known, overlaps_known};
 use crate::examples::example_of;
+use crate::known_parts::unknown_parts;
 use std::alloc::{AllocError, Global};
+use urlpattern_expressions::has_custom;
 use urlpattern_syntax::ComponentParts;
 use urlpattern_syntax::parser::{Options, Part, PartModifier, PartType};
 
@@ -48,7 +50,7 @@ pub(crate) fn unknown(
     if misses_case(component) {
         return Ok(Some(Reason::IgnoredCase));
     }
-    match untold(alloc, &component.options, &component.parts)? {
+    match unknown_parts(alloc, &component.options, &component.parts)? {
         Some(reason) => Ok(Some(reason)),
         None => Ok(None),
     }
@@ -99,7 +101,7 @@ fn covers_anything(alloc: Global, component: &ComponentParts) -> Result<bool, Al
     ensures { IfOk result (DecidesEveryLine component.now) }
 {
     let anything = anything(alloc)?;
-    let covering = covers(
+    let covering = covers_known(
         alloc,
         &component.options,
         &component.parts,
@@ -170,7 +172,7 @@ fn covers_by_meaning(
     ensures { IfOk result (IsCoveringByMeaning component.now asked.now) }
 {
     match unknown_with(alloc, component, asked)? {
-        None => covers(
+        None => covers_known(
             alloc,
             &component.options,
             &component.parts,
@@ -190,7 +192,7 @@ pub(crate) fn component_overlaps(
     ensures { IfOk result (IsComponentOverlap component.now other.now) }
 {
     match unknown_with(alloc, component, other)? {
-        None => overlaps(
+        None => overlaps_known(
             alloc,
             &component.options,
             &component.parts,
@@ -225,7 +227,7 @@ fn common_with_anything(alloc: Global, component: &ComponentParts) -> Result<Ove
         return Ok(Overlap::Common(text));
     }
     let anything = anything(alloc)?;
-    overlaps(
+    overlaps_known(
         alloc,
         &component.options,
         &component.parts,

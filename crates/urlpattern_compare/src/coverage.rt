@@ -1,26 +1,22 @@
 //! Compares the texts that two lists of parts match.
 
 ghost use Rattle.std.specs.Prelude.{◌≡◌, ℕ, List, IfNone, IfOk, IfSome, IsTrue, false, true};
-ghost use Rattle.urlpattern_compare.specs.declared.coverage.Reason.TheVariants as reasons;
-ghost use Rattle.std.specs.List.{list_any};
-ghost use Rattle.urlpattern_compare.specs.Answers.{IsCoveringOf, IsFoundBy, IsOverlapOf, IsSoughtOf, IsTold, IsUntold, answer_of, is_custom_part};
+ghost use Rattle.urlpattern_compare.specs.Answers.{IsCovering, IsCoveringOf, IsFoundBy, IsOverlap, IsOverlapOf, IsSought, IsSoughtOf, AreKnown, answer_of};
 ghost use Rattle.urlpattern_compare.specs.{Conditions.accepts, Examples.IsExampleOf, MeantTexts.MeansText};
-ghost use Rattle.urlpattern_meaning.specs.PartMeaning.{AreGenerated};
-ghost use Rattle.urlpattern_syntax.specs.{Options.options_view, Parts.parts_view};
+ghost use Rattle.urlpattern_syntax.specs.{Options.OptionsView, Options.options_view, Parts.PartView, Parts.parts_view};
 
 use crate::accepting::accepts;
 use crate::condition::Condition;
 use crate::examples::example_of;
 use crate::fronts::fronts_part_ways;
 use crate::joint_states::is_as;
+use crate::known_parts::unknown_parts;
 use crate::parts_automaton::{PartsAutomaton, make};
 use crate::search::{Found, most_sets};
 use crate::text_search::find_text;
 use std::alloc::{AllocError, Global};
 use urlpattern_components::ComponentName;
-use urlpattern_expressions::are_simple;
-use urlpattern_syntax::error::OutOfMemory;
-use urlpattern_syntax::parser::{Options, Part, PartType};
+use urlpattern_syntax::parser::{Options, Part};
 
 /// Whether parts match each text without line feed that other parts, the asked ones, match.
 #[derive(Debug, Drop)]
@@ -54,9 +50,9 @@ pub enum Reason {
     /// component that does not honour the flag `i`, such as `regex::Regex`.
     IgnoredCase,
     /// The parts need more than [`MOST_STATES`](crate::MOST_STATES) states, an expression needs too
-    /// large a tree, or the search for a text that decides reaches more than
-    /// [`MOST_SETS`](crate::MOST_SETS) sets of states. Of two small components without custom
-    /// expressions it is never the reason, as
+    /// large a tree or more than [`MOST_EDGES`](crate::MOST_EDGES) edges, or the search for a text
+    /// that decides reaches more than [`MOST_SETS`](crate::MOST_SETS) sets of states. Of two small
+    /// components without custom expressions it is never the reason, as
     /// [`small_components_are_compared`](crate::comparing_laws) says.
     TooMany,
 }
@@ -85,10 +81,35 @@ pub fn covers(
     ensures { IfOk result (IsCoveringOf options.now parts.now asked_options.now asked.now) }
 {
     let answer = find_meant(alloc, asked_options, asked, options, parts, false)?;
+    Ok(covering_of(answer))
+}
+
+/// Returns what `covers` does, of parts that tell which texts they match.
+pub(crate) fn covers_known(
+    alloc: Global,
+    options: &Options,
+    parts: &[Part],
+    asked_options: &Options,
+    asked: &[Part],
+) -> Result<Covering, AllocError>
+    requires parts { AreKnown (options_view options.now) (parts_view parts.now) }
+    requires asked { AreKnown (options_view asked_options.now) (parts_view asked.now) }
+    ensures { IfOk result (IsCoveringOf options.now parts.now asked_options.now asked.now) }
+{
+    let answer = find_known(alloc, asked_options, asked, options, parts, false)?;
+    Ok(covering_of(answer))
+}
+
+/// Returns the result of `covers` for an answer about texts that only the asked parts match.
+fn covering_of(answer: Answer) -> Covering
+    ensures { (options asked_options : OptionsView) (parts asked : List PartView)
+        → IsSought asked_options asked options parts false answer
+        → IsCovering options parts asked_options asked result }
+{
     match answer {
-        Answer::Nothing => Ok(Covering::Covered),
-        Answer::Text(text) => Ok(Covering::NotCovered(text)),
-        Answer::Unknown(reason) => Ok(Covering::Unknown(reason)),
+        Answer::Nothing => Covering::Covered,
+        Answer::Text(text) => Covering::NotCovered(text),
+        Answer::Unknown(reason) => Covering::Unknown(reason),
     }
 }
 
@@ -105,10 +126,35 @@ pub fn overlaps(
     ensures { IfOk result (IsOverlapOf options.now parts.now other_options.now others.now) }
 {
     let answer = find_meant(alloc, options, parts, other_options, others, true)?;
+    Ok(overlap_of(answer))
+}
+
+/// Returns what `overlaps` does, of parts that tell which texts they match.
+pub(crate) fn overlaps_known(
+    alloc: Global,
+    options: &Options,
+    parts: &[Part],
+    other_options: &Options,
+    others: &[Part],
+) -> Result<Overlap, AllocError>
+    requires parts { AreKnown (options_view options.now) (parts_view parts.now) }
+    requires others { AreKnown (options_view other_options.now) (parts_view others.now) }
+    ensures { IfOk result (IsOverlapOf options.now parts.now other_options.now others.now) }
+{
+    let answer = find_known(alloc, options, parts, other_options, others, true)?;
+    Ok(overlap_of(answer))
+}
+
+/// Returns the result of `overlaps` for an answer about texts that both lists of parts match.
+fn overlap_of(answer: Answer) -> Overlap
+    ensures { (options other_options : OptionsView) (parts others : List PartView)
+        → IsSought options parts other_options others true answer
+        → IsOverlap options parts other_options others result }
+{
     match answer {
-        Answer::Nothing => Ok(Overlap::Apart),
-        Answer::Text(text) => Ok(Overlap::Common(text)),
-        Answer::Unknown(reason) => Ok(Overlap::Unknown(reason)),
+        Answer::Nothing => Overlap::Apart,
+        Answer::Text(text) => Overlap::Common(text),
+        Answer::Unknown(reason) => Overlap::Unknown(reason),
     }
 }
 
@@ -127,6 +173,25 @@ fn find_meant(
     match settled(alloc, options, parts, other_options, others, is_meant)? {
         Some(answer) => Ok(answer),
         None => search_meant(alloc, options, parts, other_options, others, is_meant),
+    }
+}
+
+/// Finds the text of `find_meant`, of parts that tell which texts they match.
+fn find_known(
+    alloc: Global,
+    options: &Options,
+    parts: &[Part],
+    other_options: &Options,
+    others: &[Part],
+    is_meant: bool,
+) -> Result<Answer, AllocError>
+    requires parts { AreKnown (options_view options.now) (parts_view parts.now) }
+    requires others { AreKnown (options_view other_options.now) (parts_view others.now) }
+    ensures { IfOk result (IsSoughtOf options.now parts.now other_options.now others.now is_meant) }
+{
+    match settled(alloc, options, parts, other_options, others, is_meant)? {
+        Some(answer) => Ok(answer),
+        None => search_known(alloc, options, parts, other_options, others, is_meant),
     }
 }
 
@@ -176,7 +241,7 @@ pub(crate) fn are_apart(
     fronts_part_ways(parts, others)
 }
 
-/// Finds the text of `find_meant`: the one that is made from `parts` alone, or by a search.
+/// Finds the text of `find_meant`, unless the parts of a list do not tell which texts they match.
 fn search_meant(
     alloc: Global,
     options: &Options,
@@ -187,14 +252,31 @@ fn search_meant(
 ) -> Result<Answer, AllocError>
     ensures { IfOk result (IsSoughtOf options.now parts.now other_options.now others.now is_meant) }
 {
-    match untold(alloc, options, parts)? {
+    match unknown_parts(alloc, options, parts)? {
         Some(reason) => return Ok(Answer::Unknown(reason)),
         None => {}
     }
-    match untold(alloc, other_options, others)? {
+    match unknown_parts(alloc, other_options, others)? {
         Some(reason) => return Ok(Answer::Unknown(reason)),
         None => {}
     }
+    search_known(alloc, options, parts, other_options, others, is_meant)
+}
+
+/// Finds the text of `find_meant`, of parts that tell which texts they match: the one that is made
+/// from `parts` alone, or by a search.
+fn search_known(
+    alloc: Global,
+    options: &Options,
+    parts: &[Part],
+    other_options: &Options,
+    others: &[Part],
+    is_meant: bool,
+) -> Result<Answer, AllocError>
+    requires parts { AreKnown (options_view options.now) (parts_view parts.now) }
+    requires others { AreKnown (options_view other_options.now) (parts_view others.now) }
+    ensures { IfOk result (IsSoughtOf options.now parts.now other_options.now others.now is_meant) }
+{
     let Some(other) = make(alloc, other_options, others)? else {
         return Ok(Answer::Unknown(Reason::TooMany));
     };
@@ -273,66 +355,4 @@ fn answer_of(found: Found) -> Answer
         Found::Nothing => Answer::Nothing,
         Found::TooMany => Answer::Unknown(Reason::TooMany),
     }
-}
-
-/// Returns why `parts` do not tell which texts they match: a custom regular expression is not
-/// simple, or case is ignored. `None`: the parts tell.
-pub(crate) fn untold(
-    alloc: Global,
-    options: &Options,
-    parts: &[Part],
-) -> Result<Option<Reason>, AllocError>
-    ensures told { IfOk result (λ found.
-        IfNone found (IsTold (options_view options.now) (parts_view parts.now))) }
-    ensures reason { IfOk result (λ found.
-        IfSome found (IsUntold (options_view options.now) (parts_view parts.now))) }
-{
-    if options.ignore_case {
-        return Ok(ignored(parts));
-    }
-    match are_simple(alloc, parts, false) {
-        Ok(are_simple) => Ok(complex(are_simple)),
-        Err(OutOfMemory) => Err(AllocError),
-    }
-}
-
-/// Returns why parts do not tell which texts they match where case is kept: a custom regular
-/// expression is not simple.
-fn complex(are_simple: bool) -> Option<Reason>
-    ensures told { IfNone result (IsTrue are_simple) }
-    ensures reason { IfSome result (λ reason.
-        (are_simple ≡ false) × (reason ≡ reasons.CustomExpression)) }
-{
-    if are_simple {
-        None
-    } else {
-        Some(Reason::CustomExpression)
-    }
-}
-
-/// Returns why `parts` do not tell which texts they match where case is ignored: one is custom.
-fn ignored(parts: &[Part]) -> Option<Reason>
-    ensures told { IfNone result (AreGenerated (parts_view parts.now)) }
-    ensures custom { IfSome result (λ reason.
-        (¬ AreGenerated (parts_view parts.now)) × (reason ≡ reasons.IgnoredCase)) }
-{
-    if has_custom(parts) {
-        Some(Reason::IgnoredCase)
-    } else {
-        None
-    }
-}
-
-/// Whether at least one of `parts` is a custom regular expression.
-pub(crate) fn has_custom(parts: &[Part]) -> bool
-    ensures { result ≡ list_any is_custom_part parts.now }
-{
-    parts.iter().any(|part| is_custom(part))
-}
-
-/// Whether the part is a custom regular expression.
-pub(crate) fn is_custom(part: &Part) -> bool
-    ensures { result ≡ is_custom_part part.now }
-{
-    matches!(part.kind, PartType::Regexp)
 }

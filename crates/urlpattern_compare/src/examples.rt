@@ -8,9 +8,9 @@ ghost use Rattle.urlpattern_compare.specs.TextSearch.{IsLine};
 ghost use Rattle.urlpattern_syntax.specs.{Options.OptionsView, Options.options_view, Parts.part_view, Parts.parts_view, Text.line_feed};
 
 use crate::cells::delimiter;
-use crate::coverage::is_custom;
 use crate::parts_automaton::may_miss;
 use std::alloc::{AllocError, Global};
+use urlpattern_expressions::is_custom;
 use urlpattern_syntax::parser::{Options, Part, PartType};
 
 /// Makes a text without line feed that `parts` match, one of the shortest. `None`: a part that is

@@ -2,11 +2,10 @@
 
 ghost use Rattle.std.specs.Prelude.{◌≡◌, IfOk, drop, take};
 ghost use Rattle.std.specs.List.{list_any};
-ghost use Rattle.urlpattern_compare.specs.Conditions.{are_met, are_open, is_as, joint_moved, joint_starts};
+ghost use Rattle.urlpattern_compare.specs.Conditions.{are_met, are_open, is_as, joint_starts};
 
 use crate::condition::Condition;
-use crate::folding::folded_character;
-use crate::states::{is_in, moved, set_of};
+use crate::states::{is_in, set_of};
 use std::alloc::{AllocError, Global};
 
 /// Returns the sets of the start states of the automata of `conditions`.
@@ -24,28 +23,6 @@ pub(crate) fn joint_starts(
             condition.automaton.states,
         )?;
         flags.extend_from_slice(&own)?;
-    }
-    Ok(flags)
-}
-
-/// Returns the sets of the states to which the character `c` leads the automata of `conditions`
-/// from the sets `from`.
-pub(crate) fn joint_moved(
-    alloc: Global,
-    conditions: &[Condition<'_>],
-    from: &[bool],
-    c: char,
-) -> Result<Vec<bool>, AllocError>
-    ensures { IfOk result (λ flags. flags.items ≡ joint_moved conditions.now from.now c) }
-{
-    let mut flags = Vec::with_capacity(alloc, from.len())?;
-    let mut left = from;
-    for condition in conditions {
-        let (own, others) = split(left, condition.automaton.states);
-        let folded = folded_character(condition.automaton.ignore_case, c);
-        let own_moved = moved(alloc, &condition.automaton.edges, own, folded)?;
-        flags.extend_from_slice(&own_moved)?;
-        left = others;
     }
     Ok(flags)
 }
@@ -94,14 +71,14 @@ pub(crate) fn has_state(flags: &[bool]) -> bool
     flags.iter().any(|flag| *flag)
 }
 
-/// Splits off the first `states` flags, or all if there are fewer.
-pub(crate) fn split(flags: &[bool], states: usize) -> (&[bool], &[bool])
-    ensures own { result.0.now ≡ take states flags.now }
-    ensures others { result.1.now ≡ drop states flags.now }
+/// Splits off the first `count` items, or all if there are fewer.
+pub(crate) fn split<T>(items: &[T], count: usize) -> (&[T], &[T])
+    ensures own { result.0.now ≡ take count items.now }
+    ensures others { result.1.now ≡ drop count items.now }
 {
-    if states < flags.len() {
-        flags.split_at(states)
+    if count < items.len() {
+        items.split_at(count)
     } else {
-        flags.split_at(flags.len())
+        items.split_at(items.len())
     }
 }

@@ -14,6 +14,7 @@
 #![tactic(auto)]
 
 mod accepting;
+mod apart;
 mod candidates;
 mod cells;
 mod classes;
@@ -24,17 +25,20 @@ mod component_coverage;
 mod condition;
 mod copies;
 mod coverage;
+mod edge_counts;
 mod equal_parts;
 mod examples;
+mod exits;
 mod first_cover;
 mod first_uncovered;
 mod folding;
 mod fronts;
 mod joint_states;
+mod known_parts;
 mod lacks;
+mod moves;
 mod order;
 pub mod order_laws;
-mod parted;
 mod parts_automaton;
 mod parts_hash;
 mod pattern_parts;
@@ -51,7 +55,7 @@ pub use copies::copy_of;
 pub use coverage::{Covering, Overlap, Reason, covers, overlaps};
 pub use first_cover::first_covering;
 pub use order::compare_parts;
-pub use parts_automaton::{Edge, MOST_STATES, PartsAutomaton, Test};
+pub use parts_automaton::{Edge, MOST_EDGES, MOST_STATES, PartsAutomaton, Test};
 pub use pattern_parts::{Parting, PatternCovering, PatternOverlap, PatternParts};
 pub use reaching::{Reach, reach_of, reach_of_each};
 pub use search::{FEW_STATES, Found, MOST_SETS};

@@ -3,17 +3,17 @@
 ghost use Rattle.std.specs.Prelude.{◌≡◌, ◌≢◌, ◌⊎◌, ◌≤◌, ◌<◌, ◌+◌, ◌++◌, [], IfNone, IfOk, IsTrue, None, OnOk, false, length};
 ghost use Rattle.urlpattern_compare.specs.{Answers.AcceptsMeaning, Answers.IfMade, Answers.IsByCase};
 ghost use Rattle.urlpattern_compare.specs.Automata.{IsWithin, passes};
-ghost use Rattle.urlpattern_compare.specs.Making.{HasManyStates, IsMadeOf, IsPartAdded, IsPartLarge, edges_to, made_view, may_miss, new_starts, repeats, with_cell, with_cells, with_copies, with_part, with_repeat_starts, with_shape};
+ghost use Rattle.urlpattern_compare.specs.Making.{MayHaveManyStates, IsMadeOf, IsPartAdded, IsPartLarge, edges_to, made_view, may_miss, new_starts, repeats, with_cell, with_cells, with_copies, with_part, with_repeat_starts, with_shape};
 ghost use Rattle.urlpattern_compare.specs.MeantTexts.{folded_options, folded_part};
 ghost use Rattle.urlpattern_expressions.specs.Shapes.{IsShapeOfPart, Shape, shape};
 ghost use Rattle.urlpattern_syntax.specs.{Options.options_view, Parts.part_view, Parts.parts_view};
 ghost use Rattle.urlpattern_syntax.specs.declared.parser.PartType.{PartType};
 
 use crate::cells::{Cell, cells_of, has_one};
-use crate::coverage::is_custom;
+use crate::edge_counts::edges_of;
 use crate::shapes::{add_tree, begins, size_of};
 use std::alloc::{AllocError, Global};
-use urlpattern_expressions::{Tree, part_tree};
+use urlpattern_expressions::{Tree, is_custom, part_tree};
 use urlpattern_syntax::error::OutOfMemory;
 use urlpattern_syntax::parser::{Options, Part, PartModifier};
 
@@ -23,6 +23,15 @@ use urlpattern_syntax::parser::{Options, Part, PartModifier};
 /// The part that exceeds the number is still added if it alone has no more states, so an automaton
 /// may have up to twice as many.
 pub const MOST_STATES: usize = 10_000;
+
+/// The number of edges beyond which no custom expression is added to an automaton: those of the
+/// automaton, and those that the expression would add. An edge takes 32 bytes, so such an automaton
+/// takes some five megabytes at most before a part is added that is not custom.
+///
+/// An expression has an edge from each of its characters or classes to each that may follow, for
+/// each range of the class: `\d` has one range, `[a-z0-9-]` three, and `\w` more than 700, so that
+/// `\w{1,64}` is compared, and `\w{1,100}` is not.
+pub const MOST_EDGES: usize = 150_000;
 
 /// A test of one character.
 #[derive(Clone, Copy, Debug, PartialEq, Eq)]
@@ -76,8 +85,8 @@ pub struct PartsAutomaton {
 
 impl PartsAutomaton {
     /// Makes the automaton of `parts`. `None`: the automaton would have more than [`MOST_STATES`]
-    /// states, or a custom expression has no tree. Automata with up to twice as many states may be
-    /// made.
+    /// states, or a custom expression has no tree or more than [`MOST_EDGES`] edges. Automata with
+    /// up to twice as many states may be made.
     ///
     /// The automaton accepts the texts that the parts match, if case is kept or no part is a custom
     /// regular expression.
@@ -88,14 +97,15 @@ impl PartsAutomaton {
     ) -> Result<Option<Self>, AllocError>
         ensures within { IfMade result IsWithin }
         ensures many { IfOk result (λ found.
-            IfNone found (HasManyStates (options_view options.now) (parts_view parts.now))) }
+            IfNone found (MayHaveManyStates (options_view options.now) (parts_view parts.now))) }
         ensures accepts { IsByCase (options_view options.now) (parts_view parts.now)
             → IfMade result (AcceptsMeaning (options_view options.now) (parts_view parts.now)) }
     {
         make(alloc, options, parts)
     }
 
-    /// Prepends a part. `false`: a custom part has no tree, or there are too many cells or states.
+    /// Prepends a part. `false`: a custom part has no tree, or there are too many cells, states or
+    /// edges.
     fn add_part(
         &mut self,
         alloc: Global,
@@ -140,7 +150,8 @@ impl PartsAutomaton {
         Ok(true)
     }
 
-    /// Prepends a custom part. `false`: the part has no tree, or there are too many states.
+    /// Prepends a custom part. `false`: the part has no tree, or there are too many states or
+    /// edges.
     fn add_custom(&mut self, alloc: Global, part: &Part) -> Result<bool, AllocError>
         requires { part.now.kind ≡ PartType.Regexp }
         ensures { IfOk result (λ added. IsTrue added
@@ -154,13 +165,17 @@ impl PartsAutomaton {
         }
     }
 
-    /// Prepends a tree. `false`: there are too many states.
+    /// Prepends a tree. `false`: there are too many states or edges.
     fn add_shape(&mut self, alloc: Global, tree: &Tree) -> Result<bool, AllocError>
         ensures { IfOk result (λ added. IsTrue added
             → made_view self.new ≡ with_shape (made_view self.old) (shape tree.now)) }
     {
         let size = size_of(tree);
         if size > MOST_STATES || self.states > MOST_STATES {
+            return Ok(false);
+        }
+        let edges = edges_of(tree).with(self.starts.len());
+        if self.edges.len().saturating_add(edges) > MOST_EDGES {
             return Ok(false);
         }
         add_tree(alloc, &mut self.edges, tree, self.states, &self.starts)?;
@@ -265,7 +280,8 @@ impl PartsAutomaton {
 }
 
 /// Makes the automaton of `parts`, from the last part to the first. `None`: the automaton would
-/// have more than [`MOST_STATES`] states.
+/// have more than [`MOST_STATES`] states, or a custom expression has no tree or more than
+/// [`MOST_EDGES`] edges.
 pub(crate) fn make(
     alloc: Global,
     options: &Options,
@@ -274,7 +290,7 @@ pub(crate) fn make(
     ensures made { IfMade result
         (IsMadeOf (options_view options.now) (parts_view parts.now)) }
     ensures many { IfOk result (λ found.
-        IfNone found (HasManyStates (options_view options.now) (parts_view parts.now))) }
+        IfNone found (MayHaveManyStates (options_view options.now) (parts_view parts.now))) }
 {
     let mut automaton = PartsAutomaton {
         edges: Vec::new(alloc),

@@ -14,7 +14,7 @@ pub(crate) fn is_in(flags: &[bool], state: usize) -> bool
 }
 
 /// Adds `state` to the set `flags`. A state for which the set has no flag is ignored.
-fn set_state(flags: &mut [bool], state: usize)
+pub(crate) fn set_state(flags: &mut [bool], state: usize)
     ensures { flags.new ≡ slice_set flags.old state true }
 {
     if state < flags.len() {
@@ -23,7 +23,7 @@ fn set_state(flags: &mut [bool], state: usize)
 }
 
 /// Returns the empty set, with a flag for each of `states` states.
-fn none(alloc: Global, states: usize) -> Result<Vec<bool>, AllocError>
+pub(crate) fn none(alloc: Global, states: usize) -> Result<Vec<bool>, AllocError>
     ensures { IfOk result (λ flags. flags.items ≡ replicate states false) }
 {
     vec![in alloc; false; states]

@@ -2,12 +2,14 @@
 
 ghost use Rattle.std.specs.Prelude.{◌≡◌, ◌≢◌, ◌↔◌, ℕ, All, Contains, IfOk, OnOk, IsTrue};
 ghost use Rattle.urlpattern_compare.specs.Conditions.{are_open, joint_starts};
+ghost use Rattle.urlpattern_compare.specs.Exits.{AreExits};
 ghost use Rattle.urlpattern_compare.specs.TextSearch.{ArePlaces, IsExtendedBy, IsFollowedIn, IsFoundText, IsPassedBy, IsPlaced, IsPlaceOf, IsPlaceSeen};
 ghost use Rattle.urlpattern_syntax.specs.Text.{line_feed};
 
-use crate::classes::classes_at;
+use crate::classes::classes_of;
 use crate::condition::Condition;
-use crate::joint_states::{are_met, are_open, joint_moved, joint_starts};
+use crate::exits::{Exits, exits_at, joint_moved_by};
+use crate::joint_states::{are_met, are_open, joint_starts};
 use crate::search::Found;
 use std::alloc::{AllocError, Global};
 
@@ -36,8 +38,9 @@ pub(crate) fn find_text(
         if are_met(conditions, &place.flags) {
             return Ok(Found::Text(place.text));
         }
-        let classes = classes_at(alloc, conditions, &place.flags)?;
-        follow(alloc, conditions, &classes, &place, &mut places)?;
+        let exits = exits_at(alloc, conditions, &place.flags)?;
+        let classes = classes_of(alloc, &exits)?;
+        follow(alloc, conditions, &exits, &classes, &place, &mut places)?;
         next += 1;
     }
     if next < places.len() {
@@ -66,14 +69,17 @@ fn first_places(alloc: Global, conditions: &[Condition<'_>]) -> Result<Vec<Place
     Ok(places)
 }
 
-/// Adds to `places` the new places that `place` leads to by one of the characters `classes`.
+/// Adds to `places` the new places that `place` leads to by one of the characters `classes`;
+/// `exits` are those of its sets.
 fn follow(
     alloc: Global,
     conditions: &[Condition<'_>],
+    exits: &[Exits],
     classes: &[char],
     place: &Place,
     places: &mut Vec<Place>,
 ) -> Result<(), AllocError>
+    requires exits { AreExits conditions.now place.now.flags.items exits.now }
     requires place { IsPlaced conditions.now place.now }
     requires places { ArePlaces conditions.now places.old.items }
     ensures places { OnOk result (ArePlaces conditions.now places.new.items) }
@@ -82,20 +88,23 @@ fn follow(
         (IsFollowedIn conditions.now classes.now places.new.items place.now) }
 {
     for c in classes {
-        follow_by(alloc, conditions, *c, place, places)?;
+        follow_by(alloc, conditions, exits, *c, place, places)?;
     }
     Ok(())
 }
 
-/// Adds to `places` the place that `place` leads to by the character `c`, if it is new. Adds
-/// nothing for a line feed, nor where an automaton that has to accept is left without a state.
+/// Adds to `places` the place that `place` leads to by the character `c`, if it is new; `exits` are
+/// those of its sets. Adds nothing for a line feed, nor where an automaton that has to accept is
+/// left without a state.
 fn follow_by(
     alloc: Global,
     conditions: &[Condition<'_>],
+    exits: &[Exits],
     c: char,
     place: &Place,
     places: &mut Vec<Place>,
 ) -> Result<(), AllocError>
+    requires exits { AreExits conditions.now place.now.flags.items exits.now }
     requires place { IsPlaced conditions.now place.now }
     requires places { ArePlaces conditions.now places.old.items }
     ensures places { OnOk result (ArePlaces conditions.now places.new.items) }
@@ -106,7 +115,7 @@ fn follow_by(
     if c == '\n' {
         return Ok(());
     }
-    let flags = joint_moved(alloc, conditions, &place.flags, c)?;
+    let flags = joint_moved_by(alloc, exits, c)?;
     if !are_open(conditions, &flags) {
         return Ok(());
     }
@@ -142,7 +151,7 @@ fn is_seen(places: &[Place], flags: &[bool]) -> bool
 }
 
 /// Whether two lists of flags are equal.
-fn are_same(flags: &[bool], others: &[bool]) -> bool
+pub(crate) fn are_same(flags: &[bool], others: &[bool]) -> bool
     ensures { IsTrue result ↔ flags.now ≡ others.now }
 {
     flags == others

@@ -2,7 +2,7 @@
 use Rattle.std.proofs.Common.{◌≡◌, ◌≢◌, ◌∙◌, ◌++◌, ℕ, List, [], ◌∷◌, append-nil, inl, inr, refl, subst, sym}
 use Rattle.std.proofs.lemmas.List.Elements.{All-cons, All-nil}
 use Rattle.std.specs.Prelude.{IsTrue}
-use Rattle.urlpattern_compare.proofs.AnswerLemmas.{generated_told}
+use Rattle.urlpattern_compare.proofs.AnswerLemmas.{generated_known}
 use Rattle.urlpattern_compare.proofs.CandidateLemmas.{name_cases}
 use Rattle.urlpattern_compare.proofs.ComponentLemmas.{none_missed, wildcard_means}
 use Rattle.urlpattern_compare.proofs.KeptCase.{kept_matches}
@@ -47,7 +47,7 @@ module _ (kind : PartType) (component : ComponentParts) (is : IsWildcard kind co
   pub known_wildcard : kind ≢ PartType.Regexp → IsKnown component
   known_wildcard other =
       let generated = subst AreGenerated (sym is.parts) (All-cons (λ (part : PartView). part.kind ≢ PartType.Regexp) (wildcard_part kind) [] other (All-nil (λ (part : PartView). part.kind ≢ PartType.Regexp))) in
-      record { told = generated_told (options_view component.options) (parts_view component.parts.items) generated; case = none_missed component is.case }
+      record { parts = generated_known (options_view component.options) (parts_view component.parts.items) generated; case = none_missed component is.case }
 
   pub means_in : (text : List ℕ) → MeansText default_options (wildcard_part kind ∷ []) text → MeansIn component text
   means_in text means =

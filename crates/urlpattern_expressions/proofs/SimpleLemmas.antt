@@ -92,10 +92,10 @@ generated_simple = generated_simple_by false
 
 -- ---- custom parts
 
-kind_other : (kind : PartType) → is_custom_kind kind ≡ false → kind ≢ PartType.Regexp
+pub kind_other : (kind : PartType) → is_custom_kind kind ≡ false → kind ≢ PartType.Regexp
 kind_other kind e same = let custom : is_custom_kind kind ≡ true = ap is_custom_kind same in absurd cc
 
-kind_custom : (kind : PartType) → is_custom_kind kind ≡ true → kind ≡ PartType.Regexp
+pub kind_custom : (kind : PartType) → is_custom_kind kind ≡ true → kind ≡ PartType.Regexp
 kind_custom PartType.Regexp e = refl
 kind_custom PartType.FixedText e = absurd cc
 kind_custom PartType.SegmentWildcard e = absurd cc
@@ -105,7 +105,7 @@ none_by : (part : Part) (parts : List Part) (b : Bool) → is_custom_part part �
 none_by part parts true e none later = absurd cc
 none_by part parts false e none later = All-cons IsNoCustom (part_view part) (parts_view parts) (kind_other part.kind e) (later none)
 
-none_custom : (parts : List Part) → list_any is_custom_part parts ≡ false → AreGenerated (parts_view parts)
+pub none_custom : (parts : List Part) → list_any is_custom_part parts ≡ false → AreGenerated (parts_view parts)
 none_custom [] none = All-nil IsNoCustom
 none_custom (part ∷ parts) none = none_by part parts (is_custom_part part) refl none (none_custom parts)
 
@@ -113,7 +113,7 @@ some_by : (part : Part) (parts : List Part) (b : Bool) → is_custom_part part �
 some_by part parts true e some later are = All-head IsNoCustom (part_view part) (parts_view parts) are (kind_custom part.kind e)
 some_by part parts false e some later are = later some (All-tail IsNoCustom (part_view part) (parts_view parts) are)
 
-some_custom : (parts : List Part) → list_any is_custom_part parts ≡ true → ¬ AreGenerated (parts_view parts)
+pub some_custom : (parts : List Part) → list_any is_custom_part parts ≡ true → ¬ AreGenerated (parts_view parts)
 some_custom [] some are = absurd cc
 some_custom (part ∷ parts) some are = some_by part parts (is_custom_part part) refl some (some_custom parts) are
 

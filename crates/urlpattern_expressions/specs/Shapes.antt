@@ -88,7 +88,8 @@ abbrev pub copied : (count : ℕ) → (one last : Shape) → Shape
 copied zero one last = last
 copied (suc count) one last = sequence one (copied count one last)
 
--- The shape, or the empty text.
+-- The shape, or the empty text. Which of the two comes first changes none of the texts: `greedy`,
+-- here and below, keeps the order of the pattern.
 abbrev pub optional : (greedy : Bool) → Shape → Shape
 optional greedy one = if greedy then choice one nothing else choice nothing one
 

@@ -13,17 +13,18 @@ use regex_syntax::ErrorKind;
 use std::alloc::{AllocError, Global};
 use urlpattern_syntax::error::OutOfMemory;
 
-/// The number of nodes that a tree may have.
+/// How many nodes may be made of an expression, not counting `Nothing`, and as many again for the
+/// rest of its part.
 pub(crate) const MOST_NODES: usize = 2_000;
 
 /// Returns the tree of a custom regular expression, where case is kept: it stands for the texts
 /// that the expression matches.
 ///
-/// `None`: the grammar of `regex` does not read the expression, a step of it reads no character, as
-/// `^`, or the tree would be too large.
+/// `None`: the grammar of `regex` does not read the expression, it has an assertion, as `^`, a
+/// byte, or a literal that is not ASCII, or the tree would be too large.
 ///
 /// The only error is that memory ran out.
-pub fn expression_tree(alloc: Global, expression: &str) -> Result<Option<Tree>, OutOfMemory>
+pub(crate) fn expression_tree(alloc: Global, expression: &str) -> Result<Option<Tree>, OutOfMemory>
     ensures { IfOk result (λ found. IfSome found (λ tree.
         IsShapeOf (chars expression.now) (shape tree))) }
 {

@@ -7,7 +7,8 @@ mod part_trees;
 mod simple;
 mod tree;
 
-pub use expression_trees::expression_tree;
 pub use part_trees::part_tree;
-pub use simple::{are_simple, config_for, has_meaning, has_meaning_by_case, is_simple};
+pub use simple::{
+    are_simple, config_for, has_custom, has_meaning, has_meaning_by_case, is_custom, is_simple,
+};
 pub use tree::Tree;

@@ -44,14 +44,14 @@ pub fn has_meaning_by_case(alloc: Global, component: &ComponentParts) -> Result<
 }
 
 /// Whether at least one of `parts` is a custom regular expression.
-fn has_custom(parts: &[Part]) -> bool
+pub fn has_custom(parts: &[Part]) -> bool
     ensures { result ≡ list_any is_custom_part parts.now }
 {
     parts.iter().any(|part| is_custom(part))
 }
 
 /// Whether the part is a custom regular expression.
-fn is_custom(part: &Part) -> bool
+pub fn is_custom(part: &Part) -> bool
     ensures { result ≡ is_custom_part part.now }
 {
     matches!(part.kind, PartType::Regexp)

@@ -24,7 +24,8 @@ pub enum Tree {
 /// Why there is no tree.
 #[derive(Debug, Drop)]
 pub(crate) enum NoTree {
-    /// The tree would be too large, or a step of the pattern reads no character.
+    /// The tree would be too large, or the pattern has an assertion, a byte, or a literal that is
+    /// not ASCII.
     Unfit,
     /// Memory ran out.
     OutOfMemory,

@@ -96,7 +96,7 @@ module _ {E : Type 0} (answer : E → List ℕ → Option Captures) where
       elim (known_or_not (at other.parts.components name)) [
         | inl known ↦
             let within = same_within (at other.parts.components name) (at it.parts.components name) flipped known in
-            (other_own name known text line).1 (within.within text line.characters line.no_line_feed ((own name within.asked_known text line).0 matched))
+            (other_own name known text line).1 (within.within text (record { scalars = line.characters; plain = line.no_line_feed }) ((own name within.asked_known text line).0 matched))
         | inr unknown ↦ alike name unknown flipped text line matched
       ]
 

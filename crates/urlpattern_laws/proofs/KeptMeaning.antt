@@ -38,7 +38,7 @@ matched_means answer settings compiled parts text by reads line case =
 -- Parts of known meaning are of a manner with a meaning.
 has_meaning : (settings : ParseSettings) (component : ComponentParts) → AreReadBySettings settings component → IsKnown component → settings.options.ignore_case ≡ false → HasMeaning settings
 has_meaning settings component are known case = record {
-  simple = λ others reads. subst (λ (ps : List PartView). AreSimple ps) (read_once settings (kept_parts component) others are.reads reads) known.told.simple;
+  simple = λ others reads. subst (λ (ps : List PartView). AreSimple ps) (read_once settings (kept_parts component) others are.reads reads) known.parts.simple;
   case_kept = case;
 }
 

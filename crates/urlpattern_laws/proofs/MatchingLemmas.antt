@@ -1,10 +1,10 @@
 -- The texts that patterns match, by their parts.
 use Rattle.std.proofs.Common.{◌≡◌, ◌∙◌, ◌↔◌, ◌⊎◌, ℕ, Bool, true, false, List, [], ◌∷◌, inl, inr, refl, sym, subst}
 use Rattle.std.proofs.lemmas.Bool.{false≢true}
-use Rattle.std.proofs.lemmas.Str.{scalars-chars, IsUtf8-string_bytes}
-use Rattle.std.specs.Prelude.{⊤, ◌&&◌, not, IsSomeAnd, MatchOption, Option, Some, None, String, string_bytes}
+use Rattle.std.specs.Prelude.{⊤, ◌&&◌, not, IsSomeAnd, MatchOption, Option, Some, None, String}
 use Rattle.std.specs.declared.alloc.Global.{Global}
 use Rattle.urlpattern_compare.specs.MeantTexts.{MeansText}
+use Rattle.urlpattern_compare.specs.TextSearch as compared
 use Rattle.urlpattern_matcher.specs.Components.{IsEngineOf, engine_flags, honours_case}
 use Rattle.urlpattern_matcher.specs.FirstWays.{Acceptance, ValuesReturnByFlags}
 use Rattle.urlpattern_matcher.specs.declared.regexp.RegExp.{Ghosts as Engine}
@@ -16,7 +16,7 @@ use Rattle.urlpattern_expressions.specs.{MatchedPartTexts.PartsMatch, PartCaptur
 use Rattle.urlpattern_pattern.proofs.MatchersDecide.{answered}
 use Rattle.urlpattern_pattern.specs.{ByText.EachReturnsFirstOfParts, Match.AreMatched, Patterns.PatternView, UrlPatterns.AreMadeOfParts}
 use Rattle.urlpattern_laws.specs.PartReadings.{ApartMatchNothing, AreItsParts, CommonAreMatched, CoveredAreMatched, CoveredByEngineAreMatched, CoveredByMeaningAreMatched, IsCoveredByMeaning, KnownAreCoveredByMeaning, OwnPartsMean, OwnPartsMeanWithCase, PartingsAreMatched, SameAreMatched}
-use Rattle.urlpattern_compare.proofs.AnswerLemmas.{told_generated}
+use Rattle.urlpattern_compare.proofs.AnswerLemmas.{known_generated}
 use Rattle.urlpattern_compare.proofs.KeptCase.{kept_matches}
 use Rattle.urlpattern_laws.proofs.FoldedMeaning.{fast_matches, ignored_matches, made_case}
 use Rattle.urlpattern_meaning.proofs.MatchingLaws.{IsFast}
@@ -75,7 +75,7 @@ own_parts_mean engine Accepted firsts taken pattern parts made name keeps known 
     let is = made name in
     let made_of = is.is_component.has_matcher in
     let case = sym (made_case (IsEngineOf engine false (engine_flags options)) options (parts_view kept.parts.items) matcher made_of) ∙ keeps in
-    first_matches engine Accepted firsts options (parts_view kept.parts.items) matcher made_of (record { simple = known.told.simple; case_kept = case }) (taken options matcher.inner is.has_engine.of_matcher) text line
+    first_matches engine Accepted firsts options (parts_view kept.parts.items) matcher made_of (record { simple = known.parts.simple; case_kept = case }) (taken options matcher.inner is.has_engine.of_matcher) text line
 
 -- Where case is ignored, the matchers that honour case match what their parts mean.
 abbrev IgnoredMatch : {E : Type 0} → Engine E → Type 0
@@ -100,11 +100,11 @@ any_parts_mean engine Accepted firsts match_ignored taken pattern parts made nam
     by false kept =
         let component = at parts.components name in
         first_matches engine Accepted firsts (options_view component.options) (parts_view component.parts.items) (pattern name).matcher (made name).is_component.has_matcher
-        (record { simple = known.told.simple; case_kept = kept }) (taken (options_view component.options) (pattern name).matcher.inner (made name).has_engine.of_matcher) text line
+        (record { simple = known.parts.simple; case_kept = kept }) (taken (options_view component.options) (pattern name).matcher.inner (made name).has_engine.of_matcher) text line
     by true ignored =
         let component = at parts.components name in
         match_ignored (options_view component.options) (parts_view component.parts.items) (pattern name).matcher (made name).is_component.has_matcher
-        (made name).has_engine.of_matcher (sym (made name).case ∙ honoured_if component.options.ignore_case component.honours_case ignored known.case) (told_generated (options_view component.options) (parts_view component.parts.items) known.told ignored) ignored text line
+        (made name).has_engine.of_matcher (sym (made name).case ∙ honoured_if component.options.ignore_case component.honours_case ignored known.case) (known_generated (options_view component.options) (parts_view component.parts.items) known.parts ignored) ignored text line
 
 -- A pattern over an engine that honours the flag `i` matches what its parts mean.
 pub all_parts_mean : {E : Type 0} (engine : Engine E) (Accepted : Acceptance E) → EachReturnsFirstOfParts engine Accepted → ValuesReturnByFlags engine →
@@ -127,13 +127,17 @@ keeping_parts_mean engine Accepted firsts keeps taken =
 
 -- ---- laws
 
+-- A line is one that is compared.
+compared_line : (text : List ℕ) → IsLine text → compared.IsLine text
+compared_line text line = record { scalars = line.characters; plain = line.no_line_feed }
+
 meant_component : {E : Type 0} (answer : E → List ℕ → Option Captures) (pattern asked : PatternView E) (parts asked_parts : PatternParts) (name : ComponentName) (text : List ℕ) →
     AreItsParts answer pattern parts → AreItsParts answer asked asked_parts → IsCoveredByMeaning (at parts.components name) (at asked_parts.components name) → IsLine text →
     IsMatched answer (asked name).matcher text → IsMatched answer (pattern name).matcher text
 meant_component answer pattern asked parts asked_parts name text are asked_are (inl each_line) line matched =
-    (are name each_line.known text line).1 (each_line.takes text line.characters line.no_line_feed)
+    (are name each_line.known text line).1 (each_line.takes text (compared_line text line))
 meant_component answer pattern asked parts asked_parts name text are asked_are (inr within) line matched =
-    (are name within.known text line).1 (within.within text line.characters line.no_line_feed ((asked_are name within.asked_known text line).0 matched))
+    (are name within.known text line).1 (within.within text (compared_line text line) ((asked_are name within.asked_known text line).0 matched))
 
 -- Equal parts cover by meaning, where the meaning is known.
 meant_or_same : (component asked : ComponentParts) → IsComponentCovered component asked → IsCoveredByMeaning component asked ⊎ (¬ IsKnown component × AreSame component asked)
@@ -157,7 +161,7 @@ nothing_matched : {E : Type 0} (answer : E → List ℕ → Option Captures) (as
     MatchesNoLine (at parts.components name) → (texts : Texts) → EachIsLine texts → ¬ AreMatched answer asked texts
 nothing_matched answer asked parts name are nothing texts lines matched =
     let line = lines name in
-    nothing.takes_none (at texts name) line.characters line.no_line_feed ((are name nothing.known (at texts name) line).0 (matched name))
+    nothing.takes_none (at texts name) (compared_line (at texts name) line) ((are name nothing.known (at texts name) line).0 (matched name))
 
 pub covered_matched : {E : Type 0} (answer : E → List ℕ → Option Captures) → CoveredAreMatched answer
 covered_matched answer pattern asked parts asked_parts are asked_are alike (inl (name, nothing)) texts lines matched =
@@ -186,7 +190,7 @@ covered_by_engine engine mean made pattern asked parts asked_parts by also cover
     (made pattern asked parts asked_parts by also) covered
 
 meant_line : (component : ComponentParts) (text : String Global) → IsMeantBy component (text_of text) → IsLine (text_of text)
-meant_line component text meant = record { characters = scalars-chars (string_bytes text) (IsUtf8-string_bytes text); no_line_feed = meant.line }
+meant_line component text meant = record { characters = meant.line.scalars; no_line_feed = meant.line.plain }
 
 -- A component matches a text that its parts mean.
 meant_text : {E : Type 0} (answer : E → List ℕ → Option Captures) (pattern : PatternView E) (parts : PatternParts) (name : ComponentName) (known : String Global) (text : List ℕ) →
@@ -240,5 +244,5 @@ partings_matched answer pattern asked parts asked_parts parting are asked_are is
 pub apart_matched : {E : Type 0} (answer : E → List ℕ → Option Captures) → ApartMatchNothing answer
 apart_matched answer pattern other parts other_parts name are other_are apart texts lines matched other_matched =
     let line = lines name in
-    apart.apart (at texts name) line.characters line.no_line_feed ((are name apart.known (at texts name) line).0 (matched name))
+    apart.apart (at texts name) (compared_line (at texts name) line) ((are name apart.known (at texts name) line).0 (matched name))
     ((other_are name apart.other_known (at texts name) line).0 (other_matched name))

@@ -81,8 +81,8 @@ module _ {E : Type 0} (engine : Engine E) where
         let mine = own name known text line in
         let others = also name there.asked_known text line in
         bools_equal (it.means name text) (other.means name text)
-        (λ is. others.1 (back.within text line.scalars line.plain (mine.0 is)))
-        (λ is. mine.1 (there.within text line.scalars line.plain (others.0 is)))
+        (λ is. others.1 (back.within text line (mine.0 is)))
+        (λ is. mine.1 (there.within text line (others.0 is)))
 
     unknown_alike : (it other : PatternMeaning) → IsMade it → IsMade other → (name : ComponentName) → ¬ IsKnown (at it.parts.components name)
         → AreSame (at it.parts.components name) (at other.parts.components name) → (text : List ℕ) → IsLine text → it.means name text ≡ other.means name text

@@ -18,6 +18,8 @@ mod writing;
 
 pub use json_reading::{PolicyJsonError, policy_of_json};
 pub use json_writing::json_of_policy;
+pub use lines::column_of;
+pub use outcome::{not_memory, place_in};
 pub use policy_fault::{FaultReason, PolicyFault, PolicyTextError};
 pub use reading::policy_of_text;
 pub use statement::{Setting, Statement, WordFault, statement_of};

@@ -15,7 +15,7 @@ pub(crate) fn lines_of(alloc: Global, text: &str) -> Result<Vec<&str>, AllocErro
 
 /// Returns the column of a line, from 1 on, at the byte index `into` of `part`, with which the line
 /// ends before the white space at its end.
-pub(crate) fn column_of(line: &str, part: &str, into: usize) -> usize
+pub fn column_of(line: &str, part: &str, into: usize) -> usize
     ensures { result ≡ column_of line.now part.now into }
 {
     let before = line.trim_end().len().saturating_sub(part.len());

@@ -90,7 +90,7 @@ fn rule_outcome<R: RegExp>(
 }
 
 /// Returns where a diagnosis is of a fault in the text: at its beginning, if another text is shown.
-fn place_in(text: &str, diagnosis: &Diagnosis) -> usize
+pub fn place_in(text: &str, diagnosis: &Diagnosis) -> usize
     ensures { result ≡ place_in text.now diagnosis.now }
 {
     if diagnosis.text.as_str() == text {
@@ -222,7 +222,7 @@ pub(crate) fn parsed_text(alloc: Global, text: &str) -> Result<ParsedBase, OutOf
 }
 
 /// Returns the error, unless it is that memory ran out.
-pub(crate) fn not_memory(error: Error) -> Result<Error, OutOfMemory>
+pub fn not_memory(error: Error) -> Result<Error, OutOfMemory>
     ensures { IfOk result (λ other. (other ≡ error) × (error_view error ≢ errors.OutOfMemory)) }
 {
     match error {

@@ -1,4 +1,5 @@
 //! Compiles rules and their conditions.
+
 ghost use Rattle.std.specs.Prelude.{◌≡◌, ◌++◌, IfOk, OnOk, map, option_map, string_bytes};
 ghost use Rattle.serde_json.specs.View.{view};
 ghost use Rattle.urlpattern_conditions.specs.ConditionViews.{condition_view, conditions_view};

@@ -1,5 +1,7 @@
 //! Why a call is rejected.
+
 ghost use Rattle.std.specs.Prelude.{◌≡◌};
+ghost use Rattle.urlpattern_route_rules.specs.FaultWords.{reason_text};
 
 use std::alloc::AllocError;
 use urlpattern_components::ComponentName;
@@ -23,10 +25,29 @@ pub enum PatternFault {
 pub enum RouteFault {
     /// The call has more rules than the limit.
     TooManyRules,
-    /// A member of the rule at this index is rejected.
+    /// A member of the rule at this index of the call is rejected.
     Member(usize, RouterFault),
-    /// A pattern of the rule at this index is rejected.
+    /// A pattern of the rule at this index of the call is rejected.
     Pattern(usize, PatternFault),
+}
+
+impl RouteFault {
+    /// Returns why the call is rejected, in words. Those for a member go after its name.
+    pub fn reason(&self) -> &str
+        ensures { result.now ≡ reason_text self.now }
+    {
+        match self {
+            Self::TooManyRules => "there are too many rules",
+            Self::Member(_, fault) => fault.reason.as_str(),
+            Self::Pattern(_, PatternFault::Rejected(diagnosis)) => &diagnosis.reason,
+            Self::Pattern(_, PatternFault::CustomExpression(_)) => {
+                "a condition may have no custom expression"
+            }
+            Self::Pattern(_, PatternFault::Name(_)) => {
+                "a condition may have a name in a hostname or a pathname only"
+            }
+        }
+    }
 }
 
 /// Why the rules of a call were not added.

@@ -1,4 +1,5 @@
 //! Compiles the pattern of a condition.
+
 ghost use Rattle.std.specs.Prelude.{◌≡◌, IfOk, IsTrue, is_some};
 ghost use Rattle.urlpattern_inputs.specs.InputValues.{init_view, input_view, of_init, of_text};
 ghost use Rattle.urlpattern_route_rules.specs.Patterns.{Allows, CompilesPattern, GivesInit, HasFault, base_of, component_fault, name_fault, no_options, part_fault, pattern_fault};

@@ -1,5 +1,6 @@
 //! The rules of a service worker.
-ghost use Rattle.std.specs.Prelude.{◌≡◌, ◌==◌, IfOk, [], length, map, option_copied, option_map, slice_get};
+
+ghost use Rattle.std.specs.Prelude.{◌≡◌, IfOk, [], length, map};
 ghost use Rattle.serde_json.specs.View.{view};
 ghost use Rattle.url.specs.Parts.{serialize};
 ghost use Rattle.urlpattern_conditions.specs.Tables.{DecidesBy};
@@ -26,10 +27,10 @@ use urlpattern_syntax::Error;
 /// condition holds of a request decides where its response comes from.
 #[derive(Debug, Drop)]
 pub struct RouterRules<R: RegExp = regex::Regex> {
-    /// The URL of the worker's script.
-    script: Url,
+    /// The URL of the worker's script, without a fragment, the base URL of patterns.
+    pub script: Url,
     /// The rules as they are given, each with its compiled condition.
-    table: ConditionTable<RouterRule, R>,
+    pub table: ConditionTable<RouterRule, R>,
 }
 
 impl<R: RegExp> RouterRules<R> {
@@ -105,8 +106,9 @@ impl<R: RegExp> RouterRules<R> {
         Ok((rules, faults))
     }
 
-    /// Returns the index of the rule that decides about a request, and the rule as it is given.
-    /// `None`: no rule's condition holds, and the handler of the event `fetch` gets the request.
+    /// Returns the index of the rule that decides about a request, among the rules of all calls,
+    /// and the rule as it is given. `None`: no rule's condition holds, and the handler of the event
+    /// `fetch` gets the request, or the network if there is none.
     pub fn decide(
         &self,
         alloc: Global,
@@ -147,31 +149,6 @@ impl<R: RegExp> RouterRules<R> {
         let names = [method, mode, destination, status];
         let names = &names;
         self.table.decide(alloc, &Request { texts, names })
-    }
-
-    /// The rule at an index, as it is given, if there is one.
-    pub fn rule(&self, index: usize) -> Option<&RouterRule>
-        ensures { option_copied result
-            ≡ option_map (λ rule. rule.value) (slice_get self.now.table.rules.items index) }
-    {
-        match self.table.rules.get(index) {
-            Some(rule) => Some(&rule.value),
-            None => None,
-        }
-    }
-
-    /// The number of rules.
-    pub fn len(&self) -> usize
-        ensures { result ≡ length self.now.table.rules.items }
-    {
-        self.table.rules.len()
-    }
-
-    /// Whether there is no rule.
-    pub fn is_empty(&self) -> bool
-        ensures { result ≡ (length self.now.table.rules.items == 0) }
-    {
-        self.table.rules.is_empty()
     }
 }
 

@@ -5,7 +5,7 @@ use Rattle.urlpattern_routes.specs.Conditions.{condition_faults}
 use Rattle.urlpattern_routes.specs.Faults.{fault}
 use Rattle.urlpattern_routes.specs.Methods.{normalized}
 use Rattle.urlpattern_routes.specs.Rules.{browser_limits, reading_of, readings_of}
-use Rattle.urlpattern_routes.specs.Views.{ConditionView, condition, network, no_conditions, of_or, of_request}
+use Rattle.urlpattern_routes.specs.Views.{ConditionView, network, no_conditions, of_or, of_request}
 use Rattle.urlpattern_routes.specs.declared.attribute.RouterAttribute.TheVariants.{Method}
 use Rattle.urlpattern_routes.specs.declared.fault.RouterMember.TheVariants as members
 use Rattle.urlpattern_routes.specs.declared.fault.RouterReason.TheVariants as reasons

@@ -2,6 +2,7 @@ pub mod Faults
 pub mod Methods
 pub mod Texts
 pub mod Names
+pub mod FaultWords
 pub mod Views
 pub mod Members
 pub mod Sources

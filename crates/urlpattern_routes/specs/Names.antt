@@ -1,5 +1,5 @@
 -- The attributes of a request that a condition may name, and their names.
-use Rattle.std.specs.Prelude.{◌≡◌, ℕ, Bool, not, List, [], ◌∷◌, Err, None, Ok, Option, Result, Some, codes, if◌then◌else◌}
+use Rattle.std.specs.Prelude.{◌≡◌, ◌++◌, ℕ, Bool, not, List, [], ◌∷◌, Err, None, Ok, Option, Result, Some, codes, if◌then◌else◌}
 use Rattle.std.specs.List.{list_any}
 use Rattle.std.specs.Str.{bytes_eq}
 use Rattle.serde_json.specs.Data.{Data}
@@ -31,19 +31,37 @@ member_name RunningStatus = codes "runningStatus"
 abbrev pub modes : List (List ℕ)
 modes = codes "cors" ∷ codes "navigate" ∷ codes "no-cors" ∷ codes "same-origin" ∷ []
 
--- The destinations of a request.
-abbrev pub destinations : List (List ℕ)
-destinations =
-    codes "" ∷ codes "audio" ∷ codes "audioworklet" ∷ codes "compression-dictionary"
-    ∷ codes "document" ∷ codes "embed" ∷ codes "fencedframe" ∷ codes "font" ∷ codes "frame"
-    ∷ codes "iframe" ∷ codes "image" ∷ codes "json" ∷ codes "manifest" ∷ codes "object"
-    ∷ codes "paintworklet" ∷ codes "report" ∷ codes "script" ∷ codes "serviceworker"
+-- The destinations of requests that rules get.
+abbrev pub routed_destinations : List (List ℕ)
+routed_destinations =
+    codes "" ∷ codes "audio" ∷ codes "compression-dictionary" ∷ codes "document"
+    ∷ codes "fencedframe" ∷ codes "font" ∷ codes "frame" ∷ codes "iframe" ∷ codes "image"
+    ∷ codes "json" ∷ codes "manifest" ∷ codes "report" ∷ codes "script" ∷ codes "serviceworker"
     ∷ codes "sharedworker" ∷ codes "speculationrules" ∷ codes "style" ∷ codes "text"
     ∷ codes "track" ∷ codes "video" ∷ codes "webbundle" ∷ codes "worker" ∷ codes "xslt" ∷ []
+
+-- The destinations of a request. Requests with the last four reach no rule.
+abbrev pub destinations : List (List ℕ)
+destinations =
+    routed_destinations
+    ++ codes "audioworklet" ∷ codes "embed" ∷ codes "object" ∷ codes "paintworklet" ∷ []
 
 -- Whether a service worker is running.
 abbrev pub statuses : List (List ℕ)
 statuses = codes "running" ∷ codes "not-running" ∷ []
+
+-- Methods that are often used.
+abbrev pub methods : List (List ℕ)
+methods =
+    codes "GET" ∷ codes "POST" ∷ codes "PUT" ∷ codes "DELETE" ∷ codes "HEAD" ∷ codes "PATCH"
+    ∷ codes "OPTIONS" ∷ []
+
+-- Names that requests have which rules get: some methods, or all names of another attribute.
+abbrev pub names_of : RouterAttribute → List (List ℕ)
+names_of Method = methods
+names_of Mode = modes
+names_of Destination = routed_destinations
+names_of RunningStatus = statuses
 
 -- Why a text is no name that is known. None: it is known.
 abbrev pub unless_known : (is_known : Bool) → Option RouterReason

@@ -1,9 +1,10 @@
 //! The attributes of a request that conditions name.
+
 ghost use Rattle.std.specs.List.{list_any};
-ghost use Rattle.std.specs.Prelude.{◌≡◌, IfOk, string_bytes};
+ghost use Rattle.std.specs.Prelude.{◌≡◌, IfOk, map, string_bytes};
 ghost use Rattle.std.specs.Str.{bytes_eq};
 ghost use Rattle.serde_json.specs.View.{view};
-ghost use Rattle.urlpattern_routes.specs.Names.{Reads, member_name, name_read, rejection, unless_known};
+ghost use Rattle.urlpattern_routes.specs.Names.{Reads, member_name, name_read, names_of, rejection, unless_known};
 
 use crate::Made;
 use crate::fault::RouterReason;
@@ -25,20 +26,21 @@ pub enum RouterAttribute {
     RunningStatus,
 }
 
+/// Methods that are often used.
+const METHODS: [&str; 7] = ["GET", "POST", "PUT", "DELETE", "HEAD", "PATCH", "OPTIONS"];
+
 /// The modes of a request.
 const MODES: [&str; 4] = ["cors", "navigate", "no-cors", "same-origin"];
 
 /// Whether a service worker is running.
 const STATUSES: [&str; 2] = ["running", "not-running"];
 
-/// The destinations of a request.
+/// The destinations of a request. No rule gets a request with one of the last four.
 const DESTINATIONS: [&str; 27] = [
     "",
     "audio",
-    "audioworklet",
     "compression-dictionary",
     "document",
-    "embed",
     "fencedframe",
     "font",
     "frame",
@@ -46,8 +48,6 @@ const DESTINATIONS: [&str; 27] = [
     "image",
     "json",
     "manifest",
-    "object",
-    "paintworklet",
     "report",
     "script",
     "serviceworker",
@@ -60,6 +60,10 @@ const DESTINATIONS: [&str; 27] = [
     "webbundle",
     "worker",
     "xslt",
+    "audioworklet",
+    "embed",
+    "object",
+    "paintworklet",
 ];
 
 impl RouterAttribute {
@@ -72,6 +76,19 @@ impl RouterAttribute {
             Self::Mode => "requestMode",
             Self::Destination => "requestDestination",
             Self::RunningStatus => "runningStatus",
+        }
+    }
+
+    /// Returns names that requests have which rules get: methods that are often used, or all names
+    /// of another attribute.
+    pub fn names(self) -> &'static [&'static str]
+        ensures { map (λ name. name.now) result.now ≡ names_of self }
+    {
+        match self {
+            Self::Method => &METHODS,
+            Self::Mode => &MODES,
+            Self::Destination => &DESTINATIONS[..23],
+            Self::RunningStatus => &STATUSES,
         }
     }
 

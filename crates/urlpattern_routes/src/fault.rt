@@ -1,5 +1,8 @@
 //! Why rules are rejected.
 
+ghost use Rattle.std.specs.Prelude.{◌≡◌};
+ghost use Rattle.urlpattern_routes.specs.FaultWords.{member_text, reason_text};
+
 use crate::attribute::RouterAttribute;
 
 /// The member of a rule or of a condition that is at fault.
@@ -54,4 +57,41 @@ pub struct RouterFault {
     pub member: RouterMember,
     /// Why the member is rejected.
     pub reason: RouterReason,
+}
+
+impl RouterMember {
+    /// Returns the name of the member in JSON.
+    pub fn as_str(self) -> &'static str
+        ensures { result.now ≡ member_text self }
+    {
+        match self {
+            Self::Condition => "condition",
+            Self::UrlPattern => "urlPattern",
+            Self::Attribute(attribute) => attribute.as_str(),
+            Self::Or => "or",
+            Self::Not => "not",
+            Self::Source => "source",
+        }
+    }
+}
+
+impl RouterReason {
+    /// Returns the reason in words, which go after the name of the member.
+    pub fn as_str(self) -> &'static str
+        ensures { result.now ≡ reason_text self }
+    {
+        match self {
+            Self::Missing => "is missing",
+            Self::TooDeep => "is within too many conditions",
+            Self::Empty => "has no member that is known",
+            Self::NotAlone => "has other members beside it",
+            Self::NotAnArray => "is no array",
+            Self::NotAText => "is no text",
+            Self::NotAPattern => "is no text, and no object with texts",
+            Self::NotAMethod => "is no method",
+            Self::ForbiddenMethod => "is CONNECT, TRACE or TRACK",
+            Self::UnknownName => "is none of its names",
+            Self::NoHandler => "needs a handler of fetch events",
+        }
+    }
 }

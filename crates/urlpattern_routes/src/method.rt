@@ -1,4 +1,5 @@
 //! Names of methods.
+
 ghost use Rattle.std.specs.Prelude.{◌≡◌, IfOk, string_bytes};
 ghost use Rattle.std.specs.List.{list_all, list_any};
 ghost use Rattle.urlpattern_routes.specs.Methods.{is_forbidden, is_method, is_same, is_token_byte, normalized};

@@ -1,4 +1,5 @@
 //! Reads rules from JSON, each with all of its faults.
+
 ghost use Rattle.std.specs.Prelude.{◌≡◌, IfOk, OnOk, map};
 ghost use Rattle.serde_json.specs.View.{view};
 ghost use Rattle.urlpattern_routes.specs.Faults.{fault_unless};

@@ -1,4 +1,5 @@
 //! Sources of responses.
+
 ghost use Rattle.std.specs.Prelude.{◌≡◌};
 ghost use Rattle.urlpattern_routes.specs.Sources.{source_text};
 ghost use Rattle.urlpattern_routes.specs.Views.{source_view};

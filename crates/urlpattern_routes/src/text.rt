@@ -1,4 +1,5 @@
 //! Texts in JSON.
+
 ghost use Rattle.std.specs.Prelude.{◌≡◌, IfOk, option_map, string_bytes};
 ghost use Rattle.serde_json.specs.View.{view};
 ghost use Rattle.urlpattern_routes.specs.Texts.{text_read};

@@ -1,4 +1,5 @@
 //! Writes rules as JSON.
+
 ghost use Rattle.std.specs.Prelude.{◌≡◌, IfOk, OnOk, codes, map, option_map};
 ghost use Rattle.urlpattern_inputs.specs.{InputJson.input_tree, InputValues.input_view, Trees.Gain};
 ghost use Rattle.serde_json.specs.View.{items_view, view};

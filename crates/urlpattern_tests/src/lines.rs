@@ -14,12 +14,14 @@ impl Rule for Short {
 
     fn answer(
         &self,
-        text: &str,
+        text: Option<&str>,
         line: &[u8],
         written: &mut Vec<u8>,
     ) -> Result<Verdict, AllocError> {
-        if text.len() > 3 {
-            return Ok(Verdict::Passed);
+        match text {
+            None => return Ok(Verdict::Rejected),
+            Some(text) if text.len() > 3 => return Ok(Verdict::Passed),
+            Some(_) => (),
         }
         written.extend_from_slice(line)?;
         Ok(Verdict::Selected)
@@ -40,7 +42,7 @@ fn a_line_that_is_too_long_is_rejected(rt: HostRuntime) -> Result<(), Fail> {
         numbered: true,
         flushed: false,
     };
-    match answer_lines(alloc, &Short, style, &mut input, &mut out, &mut err) {
+    match answer_lines(alloc, &Short, style, 1, &mut input, &mut out, &mut err) {
         Ok(tally) => {
             assert!(rt; tally.selected == 1 && tally.rejected == 1);
             assert!(rt; out.as_slice() == b"2:b\n".as_slice());

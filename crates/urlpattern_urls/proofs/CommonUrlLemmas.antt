@@ -9,7 +9,7 @@ use Rattle.std.specs.Option.{IsSome}
 use Rattle.std.specs.Prelude.{IsTrue, Result, String}
 use Rattle.std.specs.declared.alloc.Global.{Global}
 use Rattle.url.specs.Parts.{IsValid, Parts}
-use Rattle.urlpattern_compare.proofs.AnswerLemmas.{generated_told}
+use Rattle.urlpattern_compare.proofs.AnswerLemmas.{generated_known}
 use Rattle.urlpattern_compare.proofs.CandidateLemmas.{all_back, all_front, name_cases}
 use Rattle.urlpattern_compare.proofs.BoundLemmas.{small_automata}
 use Rattle.urlpattern_compare.proofs.ComponentLemmas.{anything_generated, none_missed}
@@ -76,7 +76,7 @@ has_few way name component is = elim (name_cases name (own_component way)) [
 
 few_known : (component : ComponentParts) → HasFew component → IsKnown component
 few_known component (parts, few, is) = record {
-  told = generated_told (options_view component.options) (parts_view component.parts.items) (subst AreGenerated (sym is.are) few.generated);
+  parts = generated_known (options_view component.options) (parts_view component.parts.items) (subst AreGenerated (sym is.are) few.generated);
   case = none_missed component is.case;
 }
 
@@ -167,8 +167,8 @@ known_alike it other own also name known same text line =
     let mine = own name known text line in
     let others = also name there.asked_known text line in
     both_ways (it.means name text) (other.means name text)
-    (λ is. others.1 (back.within text line.scalars line.plain (mine.0 is)))
-    (λ is. mine.1 (there.within text line.scalars line.plain (others.0 is)))
+    (λ is. others.1 (back.within text line (mine.0 is)))
+    (λ is. mine.1 (there.within text line (others.0 is)))
 
 alike_from : (it other : PatternMeaning) → IsByParts it → MeansByParts other → MeanAlike it other
 alike_from it other own also name same text line = known_alike it other own.by_parts also name (own.known name) same text line

@@ -11,5 +11,5 @@ mod unlike;
 mod url_reach;
 
 pub use common_url::CommonUrl;
-pub use unlike::{UrlFacts, no_url_is_unlike};
+pub use unlike::{UrlFacts, made_of, no_url_is_unlike, push_part};
 pub use url_reach::UrlReach;

@@ -122,14 +122,14 @@ fn no_slash(alloc: Global) -> Result<ComponentParts, AllocError>
     ensures { IfOk result (IsMadeOf (own_parts ways.NoSlash)) }
 {
     let mut parts = Vec::new(alloc);
-    push(
+    push_part(
         alloc,
         &mut parts,
         PartType::SegmentWildcard,
         "",
         PartModifier::None,
     )?;
-    push(
+    push_part(
         alloc,
         &mut parts,
         PartType::FullWildcard,
@@ -144,14 +144,14 @@ fn web(alloc: Global) -> Result<ComponentParts, AllocError>
     ensures { IfOk result (IsMadeOf web_parts) }
 {
     let mut parts = Vec::new(alloc);
-    push(
+    push_part(
         alloc,
         &mut parts,
         PartType::FixedText,
         "http",
         PartModifier::None,
     )?;
-    push(
+    push_part(
         alloc,
         &mut parts,
         PartType::FixedText,
@@ -166,7 +166,7 @@ fn anything(alloc: Global) -> Result<ComponentParts, AllocError>
     ensures { IfOk result (IsMadeOf (anything_part ∷ [])) }
 {
     let mut parts = Vec::new(alloc);
-    push(
+    push_part(
         alloc,
         &mut parts,
         PartType::FullWildcard,
@@ -177,7 +177,7 @@ fn anything(alloc: Global) -> Result<ComponentParts, AllocError>
 }
 
 /// Appends a part without name, prefix and suffix.
-fn push(
+pub fn push_part(
     alloc: Global,
     parts: &mut Vec<Part>,
     kind: PartType,
@@ -199,7 +199,7 @@ fn push(
 }
 
 /// Returns the component of these parts, with a slash as its delimiter.
-fn made_of(alloc: Global, parts: Vec<Part>) -> ComponentParts
+pub fn made_of(alloc: Global, parts: Vec<Part>) -> ComponentParts
     ensures { IsMadeOf (parts_view parts.items) result }
 {
     let options = Options {

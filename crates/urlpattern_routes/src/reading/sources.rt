@@ -1,4 +1,5 @@
 //! Reads sources from JSON.
+
 ghost use Rattle.std.specs.Prelude.{◌≡◌, IfOk, OnOk};
 ghost use Rattle.serde_json.specs.View.{view};
 ghost use Rattle.urlpattern_routes.specs.Names.{Reads};

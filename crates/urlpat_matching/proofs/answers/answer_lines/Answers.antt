@@ -14,7 +14,7 @@ returns-then-not-branch g c =
     let more = c.in_ok-read_line.field-0 in
     IfSome-weaker (g.In.Read.remaining c.args.input.now) _ _ (λ text inv.
     let says = IfSome-at (g.In.Read.remaining c.lines.input) inv.0 (λ rest. IsTrue more ↔ 0 < length rest) inv.2 c.in_ok-read_line.ensures.more in
-    (inv.1, completes-none Answers c.args.style text (c.lines.number + 1) inv.0 _ inv.1 (no-more more (length inv.0) c.if-not-branch.true says) inv.4, inv.3))
+    (inv.1, completes-none Answers c.args.style c.args.first text c.lines.number inv.0 _ inv.1 (no-more more (length inv.0) c.if-not-branch.true says) inv.4, inv.3))
     c.lines.invariant.1
 
 pub lines-preserved : goal.lines-preserved
@@ -33,14 +33,14 @@ lines-preserved g c =
           let kept = IfSome-at here rest (λ left. IsLineKept line (take_through 10 left)) inv.2 c.in_ok-read_line.ensures.kept in
           let left = IfSome-at here rest _ inv.2 c.in_ok-read_line.ensures.rest in
           let is = answers-line Answers line (take_through 10 rest) verdict answer.0 kept (subst (λ l. IsAnswerTo Answers l verdict answer.0) c.deref.ensures.value answer.2) in
-          let number = c.lines.number + 1 in
+          let number = c.lines.number in
           let piece = subst (λ text. Appends (g.Out.Write.contents c.lines.out) (g.Out.Write.contents c.write_labelled.new.out) (labelled c.args.style number text)) (c.deref-in-lines.ensures.value ∙ grown) c.in_ok-write_labelled.ensures in
-          let next = completes-next Answers c.args.style text number rest c.lines.tally.selected inv.1 answer.0 verdict (says.0 c.if-not-branch.false) inv.4 is in (
+          let next = completes-next Answers c.args.style c.args.first text number rest c.lines.tally.selected inv.1 answer.0 verdict (says.0 c.if-not-branch.false) inv.4 is in (
             drop_through 10 rest,
             inv.1 ++ labelled c.args.style number answer.0,
             left,
             appends-both _ _ _ inv.1 (labelled c.args.style number answer.0) inv.3 piece,
-            subst (λ selected. Completes Answers c.args.style text (number + 1) (drop_through 10 rest) selected (inv.1 ++ labelled c.args.style number answer.0)) (sym c.counted-tally.ensures) next,
+            subst (λ selected. Completes Answers c.args.style c.args.first text (number + 1) (drop_through 10 rest) selected (inv.1 ++ labelled c.args.style number answer.0)) (sym c.counted-tally.ensures) next,
           ))
           c.lines.invariant.1,
     )

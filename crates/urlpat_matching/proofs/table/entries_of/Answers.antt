@@ -1,21 +1,23 @@
-use Rattle.std.proofs.Common.{◌+◌, ◌≡◌, [], ◌++◌, ◌∷◌, All, length, length-append, append_assoc, append-nil, sym, ap, subst, refl, take, ◌∙◌, arith}
+use Rattle.std.proofs.Common.{◌+◌, ◌≡◌, [], ◌++◌, ◌∷◌, All, List, length, length-append, map, ℕ, append_assoc, append-nil, sym, ap, subst, refl, take, ◌∙◌, arith}
 use Rattle.std.proofs.lemmas.List.{take_at}
 use Rattle.std.proofs.lemmas.List.Elements.{All-append}
 use Rattle.std.specs.Str.{IsUtf8}
-use Rattle.urlpat_matching.proofs.EntryLemmas.{All-one, entries-more, line-there}
+use Rattle.bstr.specs.Text.{lines_of, without_terminator}
+use Rattle.urlpat_matching.proofs.EntryLemmas.{All-one, entries-more, line-there, mark-shorter}
 use Rattle.urlpat_matching.specs.Tables.{entries_from, line_entries, table_lines}
 use Rattle.urlpat_matching.proofs.table.entries_of.Goals as goal
 
 pub loop-line-init : goal.loop-line-init
 loop-line-init c =
-    ([], sym c.lines-line-items.ensures.value ∙ sym c.into_iter-line-iterator.ensures.into_iter_gives, refl, search c.new-entries.ensures.items, λ k d less. absurd (omega (arith, less)))
+    ([], ap (λ (text : List ℕ). map without_terminator (lines_of text)) (sym c.without_mark.ensures) ∙ sym c.lines-line-items.ensures.value ∙ sym c.into_iter-line-iterator.ensures.into_iter_gives, refl, search c.new-entries.ensures.items, λ k d less. absurd (omega (arith, less)))
 
 pub overflow_add-number : goal.overflow_add-number
 overflow_add-number c =
     let (before, are, counted, entries, text) = c.loop-line.invariant in
     let lines = c.in-Some.line.now ∷ c.next.new.self in
     let whole : table_lines c.args.table.now ≡ before ++ lines = are ∙ ap (λ rest. before ++ rest) c.in-Some.ensures.steps in
-    omega (arith, counted, ap length whole, length-append before lines, c.lines-line-items.ensures.len, ap length c.lines-line-items.ensures.value)
+    let same : table_lines c.args.table.now ≡ c.lines-line-items.result = ap (λ (text : List ℕ). map without_terminator (lines_of text)) (sym c.without_mark.ensures) ∙ sym c.lines-line-items.ensures.value in
+    omega (arith, counted, ap length whole, length-append before lines, c.lines-line-items.ensures.len, ap length same, ap length c.without_mark.ensures, mark-shorter c.args.table.now)
 
 pub returns-in_default-clause-refused : goal.returns-in_default-clause-refused
 returns-in_default-clause-refused c =

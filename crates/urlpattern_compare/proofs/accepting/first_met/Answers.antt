@@ -1,4 +1,4 @@
-use Rattle.std.proofs.Common.{◌≡◌, ◌∙◌, sym, subst, take_all}
+use Rattle.std.proofs.Common.{◌∙◌, sym, subst, take_all}
 use Rattle.std.proofs.lemmas.Bool.{false≢true}
 use Rattle.std.proofs.lemmas.List.Elements.{All-more, at_read}
 use Rattle.std.specs.List.{All}

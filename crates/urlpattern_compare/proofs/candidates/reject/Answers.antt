@@ -1,4 +1,4 @@
-use Rattle.std.proofs.Common.{◌≡◌, ◌∙◌, [], ◌∷◌, ◌++◌, List, ap, append-nil, inr, refl, subst, sym}
+use Rattle.std.proofs.Common.{◌≡◌, ◌∙◌, [], ◌∷◌, ◌++◌, ap, append-nil, inr, subst, sym}
 use Rattle.std.proofs.lemmas.List.Elements.{All-cons, All-nil, Contains-push}
 use Rattle.std.specs.List.{Contains}
 use Rattle.urlpattern_compare.specs.Candidates.{IsCandidateOf, IsFoundAt, IsWithText, MeetsEach, ShareBy, negated, text_at}

@@ -1,8 +1,8 @@
 use Rattle.std.proofs.Common.{ℕ, List, subst, take, take_all}
 use Rattle.std.proofs.lemmas.List.Elements.{All-more, All-weaker}
 use Rattle.std.specs.List.{All, Contains}
-use Rattle.urlpattern_compare.specs.TextSearch.{HasFree}
-use Rattle.urlpattern_compare.proofs.ConditionClasses.{free_more}
+use Rattle.urlpattern_compare.specs.Exits.{HasFree}
+use Rattle.urlpattern_compare.proofs.ExitClasses.{free_more}
 use Rattle.urlpattern_compare.proofs.classes.add_free.Goals as goal
 
 -- Each code so far, with more characters.

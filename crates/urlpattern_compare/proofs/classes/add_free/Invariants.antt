@@ -1,6 +1,6 @@
 use Rattle.std.proofs.Common.{ℕ, All, take}
 use Rattle.std.specs.List.{Contains}
-use Rattle.urlpattern_compare.specs.TextSearch.{HasFree}
+use Rattle.urlpattern_compare.specs.Exits.{HasFree}
 use Rattle.urlpattern_compare.proofs.classes.add_free.Given as goal
 
 abbrev pub invariant-loop-code : goal.invariant-loop-code

@@ -1,9 +1,9 @@
-use Rattle.std.proofs.Common.{◌≡◌, ◌∙◌, ◌+◌, ◌↔◌, [], map, refl, subst, sym, take}
+use Rattle.std.proofs.Common.{◌↔◌, [], map, refl, subst, sym, take}
 use Rattle.std.proofs.lemmas.List.Elements.{All-nil, Contains-get_or}
 use Rattle.std.specs.List.{All, Contains}
 use Rattle.urlpattern_compare.proofs.CandidateLemmas.{MeetsOne}
 use Rattle.urlpattern_compare.proofs.TakenLemmas.{IsOfSome, contains_map, map_more, map_whole, meant_more, on_more}
-use Rattle.urlpattern_compare.specs.Candidates.{MeetsEach, TextAt}
+use Rattle.urlpattern_compare.specs.Candidates.{MeetsEach}
 use Rattle.urlpattern_compare.specs.CommonTexts.{TakesAll}
 use Rattle.urlpattern_compare.specs.declared.common_texts.PatternAutomata.{PatternAutomata}
 use Rattle.urlpattern_compare.proofs.common_texts.accepting.Goals as goal

@@ -4,9 +4,9 @@ use Rattle.urlpattern_compare.proofs.TakenLemmas.{found_taken}
 use Rattle.urlpattern_compare.specs.CommonTexts.{AreLists}
 use Rattle.urlpattern_compare.proofs.common_texts.find_taken.Goals as goal
 
-pub returns-then-are_parted : goal.returns-then-are_parted
-returns-then-are_parted c = λ texts lines taken.
-    c.are_parted.ensures c.if-are_parted.true texts lines taken.taken
+pub returns-then-are_apart_by_fronts : goal.returns-then-are_apart_by_fronts
+returns-then-are_apart_by_fronts c = λ texts lines taken.
+    c.are_apart_by_fronts.ensures c.if-are_apart_by_fronts.true texts lines taken.taken
 
 pub returns : goal.returns
 returns c =

@@ -1,7 +1,7 @@
-use Rattle.std.proofs.Common.{◌≡◌, ◌∙◌, ◌+◌, ◌++◌, ◌∷◌, [], length, map, refl, subst, sym, take}
+use Rattle.std.proofs.Common.{[], length, map, refl, subst, sym, take}
 use Rattle.std.proofs.lemmas.List.Elements.{All-nil}
 use Rattle.std.proofs.lemmas.Option.{slice_get_read}
-use Rattle.urlpattern_compare.proofs.PartedLemmas.{of_one}
+use Rattle.urlpattern_compare.proofs.ApartLemmas.{of_one}
 use Rattle.urlpattern_compare.proofs.TakenLemmas.{HasList, IsListed, map_more, map_whole}
 use Rattle.urlpattern_compare.specs.CommonTexts.{AreAutomata, AreLists}
 use Rattle.urlpattern_compare.proofs.common_texts.lists_of.Goals as goal

@@ -1,9 +1,9 @@
-use Rattle.std.proofs.Common.{◌≡◌, ◌∙◌, ◌+◌, ◌<◌, ◌≤◌, ap, arith, get_or, length, map, subst, sym, take, take_all}
+use Rattle.std.proofs.Common.{◌≡◌, ◌∙◌, ◌+◌, ◌<◌, ◌≤◌, ap, arith, get_or, length, map, subst, take, take_all}
 use Rattle.std.proofs.lemmas.List.Elements.{All-more}
 use Rattle.std.specs.List.{All}
 use Rattle.urlpattern_compare.proofs.TakenLemmas.{added_more, added_same, all_more_back, none_added}
 use Rattle.urlpattern_compare.specs.Candidates.{TextAt}
-use Rattle.urlpattern_compare.specs.CommonTexts.{AreAdded, TakesEach, TakesIn}
+use Rattle.urlpattern_compare.specs.CommonTexts.{TakesEach, TakesIn}
 use Rattle.urlpattern_components.proofs.EightLemmas.{of_each}
 use Rattle.urlpattern_components.specs.Eight.{components}
 use Rattle.urlpattern_components.specs.declared.eight.ComponentName.{ComponentName}

@@ -1,4 +1,4 @@
-use Rattle.std.proofs.Common.{◌≡◌, ◌∙◌, ◌++◌, ◌∷◌, [], map, subst, sym}
+use Rattle.std.proofs.Common.{◌∙◌, ◌++◌, ◌∷◌, [], map, subst, sym}
 use Rattle.std.proofs.lemmas.Bool.{false≢true}
 use Rattle.urlpattern_compare.proofs.TakenLemmas.{conditions_of, lists_more, lists_skipped}
 use Rattle.urlpattern_compare.specs.CommonTexts.{AreLists}
@@ -8,9 +8,9 @@ pub returns-then-not-is_counted : goal.returns-then-not-is_counted
 returns-then-not-is_counted c = λ front are.
     lists_skipped (map (λ it. it.now) c.args.all_of.now) front c.args.is_sure c.args.pattern.now c.args.lists.now.items (λ counted. absurd (false≢true (sym c.if-not-is_counted.true ∙ c.is_counted.ensures.1 counted))) are
 
-pub returns-then-is_parted_from : goal.returns-then-is_parted_from
-returns-then-is_parted_from c = λ front are.
-    lists_skipped (map (λ it. it.now) c.args.all_of.now) front c.args.is_sure c.args.pattern.now c.args.lists.now.items (λ counted. c.is_parted_from.ensures c.if-is_parted_from.true) are
+pub returns-then-is_apart_from : goal.returns-then-is_apart_from
+returns-then-is_apart_from c = λ front are.
+    lists_skipped (map (λ it. it.now) c.args.all_of.now) front c.args.is_sure c.args.pattern.now c.args.lists.now.items (λ counted. c.is_apart_from.ensures c.if-is_apart_from.true) are
 
 pub returns : goal.returns
 returns c = λ front are.

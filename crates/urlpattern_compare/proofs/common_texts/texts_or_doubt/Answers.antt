@@ -1,22 +1,13 @@
-use Rattle.std.proofs.Common.{[], map, refl, true}
+use Rattle.std.proofs.Common.{[], map, refl}
 use Rattle.std.proofs.lemmas.List.Elements.{All-weaker}
 use Rattle.std.specs.List.{All}
 use Rattle.urlpattern_compare.proofs.AnswerLemmas.{in_none, in_some}
-use Rattle.urlpattern_compare.proofs.CommonLemmas.{string_lines, string_taken}
 use Rattle.urlpattern_compare.proofs.DependsLemmas.{depends_all}
 use Rattle.urlpattern_compare.proofs.TakenLemmas.{sure_alone}
 use Rattle.urlpattern_compare.specs.Candidates.{text_at}
-use Rattle.urlpattern_compare.specs.CommonTexts.{HasAutomata, IsLack, IsSure, string_at}
+use Rattle.urlpattern_compare.specs.CommonTexts.{HasAutomata, IsLack, IsSure}
 use Rattle.urlpattern_compare.specs.declared.common_texts.PatternAutomata.{PatternAutomata}
 use Rattle.urlpattern_compare.proofs.common_texts.texts_or_doubt.Goals as goal
-
-pub texts_if_known-requires-clause-lines : goal.texts_if_known-requires-clause-lines
-texts_if_known-requires-clause-lines c =
-    string_lines (map (λ it. it.now) c.args.all_of.now) (map (λ it. it.now) c.args.none_of.now) true (text_at c.args.texts.now) c.in_ok-strings.strings c.in_ok-strings.ensures c.requires.lines
-
-pub texts_if_known-requires-clause-taken : goal.texts_if_known-requires-clause-taken
-texts_if_known-requires-clause-taken c =
-    string_taken (map (λ it. it.now) c.args.all_of.now) (map (λ it. it.now) c.args.none_of.now) true (text_at c.args.texts.now) c.in_ok-strings.strings c.in_ok-strings.ensures c.requires.taken
 
 pub texts_if_known-requires-clause-known : goal.texts_if_known-requires-clause-known
 texts_if_known-requires-clause-known c =
@@ -27,11 +18,8 @@ pub returns-in-Some-clause-depends : goal.returns-in-Some-clause-depends
 returns-in-Some-clause-depends c =
     let all_of = map (λ it. it.now) c.args.all_of.now in
     let none_of = map (λ it. it.now) c.args.none_of.now in
-    let texts = text_at c.args.texts.now in
-    let strings = c.in_ok-strings.strings in
-    let same = c.in_ok-strings.ensures in
     depends_all all_of none_of c.in-Some.lack c.requires.all_of c.requires.none_of
-    (string_at strings, string_lines all_of none_of true texts strings same c.requires.lines, string_taken all_of none_of true texts strings same c.requires.taken)
+    (text_at c.args.texts.now, c.requires.lines, c.requires.taken)
     (in_some (IsLack all_of) c.in_ok-lack.field-0 c.in-Some.lack c.in-Some.is c.in_ok-lack.ensures.some)
 
 pub returns-in-Some-clause-answer : goal.returns-in-Some-clause-answer

@@ -1,6 +1,6 @@
 use Rattle.std.proofs.Common.{◌≡◌, subst}
 use Rattle.std.specs.List.{list_any}
-use Rattle.urlpattern_compare.specs.Answers.{is_custom_part}
+use Rattle.urlpattern_expressions.specs.SimpleExpressions.{is_custom_part}
 use Rattle.urlpattern_compare.proofs.SameParts.{settled_by}
 use Rattle.urlpattern_compare.proofs.component_coverage.is_case_kept_or_generated.Goals as goal
 

@@ -1,5 +1,4 @@
 use Rattle.std.proofs.Common.{◌≡◌, take}
-use Rattle.urlpattern_syntax.specs.Options.{options_view}
 use Rattle.urlpattern_syntax.specs.Parts.{parts_view}
 use Rattle.urlpattern_compare.proofs.copies.copied_component.Given as goal
 

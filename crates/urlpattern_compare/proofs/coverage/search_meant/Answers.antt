@@ -1,55 +1,27 @@
-use Rattle.std.proofs.Common.{◌≡◌, ℕ, subst, IfSome, List, Option, Some}
-use Rattle.std.specs.declared.alloc.Global.{Global}
-use Rattle.std.specs.declared.vec.Vec.{Vec}
-use Rattle.urlpattern_compare.specs.Making.{IsMadeOf}
-use Rattle.urlpattern_compare.specs.declared.parts_automaton.PartsAutomaton.{PartsAutomaton}
 use Rattle.urlpattern_compare.proofs.AnswerLemmas.{in_none, in_some}
-use Rattle.urlpattern_compare.proofs.CoverageLemmas.{example_sought, first_untold, found_parts, other_untold}
-use Rattle.urlpattern_compare.specs.Answers.{IsTold, IsUntold}
-use Rattle.urlpattern_compare.specs.{Conditions.accepts, Examples.IsExampleOf}
+use Rattle.urlpattern_compare.proofs.CoverageLemmas.{first_unknown_parts, other_unknown_parts}
+use Rattle.urlpattern_compare.specs.Answers.{AreKnown, AreUnknownBy}
 use Rattle.urlpattern_compare.proofs.coverage.search_meant.Goals as goal
-use Rattle.urlpattern_syntax.specs.{Options.OptionsView, Options.options_view, Parts.PartView, Parts.parts_view}
-
--- The automaton that was made is that of the parts.
-that_made : (options : OptionsView) (parts : List PartView) (found : Option PartsAutomaton) (automaton : PartsAutomaton) → found ≡ Some automaton →
-    IfSome found (IsMadeOf options parts) → IsMadeOf options parts automaton
-that_made options parts found automaton e is = subst (λ o. IfSome o (IsMadeOf options parts)) e is
-
-pub returns : goal.returns
-returns c =
-    let options = options_view c.args.options.now in
-    let parts = parts_view c.args.parts.now in
-    let other_options = options_view c.args.other_options.now in
-    let others = parts_view c.args.others.now in
-    found_parts options parts other_options others c.args.is_meant c.in-Some-5.one c.in-Some-3.other c.in_ok-found.found c.answer_of.result c.answer_of.ensures
-    (in_none (IsTold options parts) c.in_ok-reason.field-0 c.in-None.is c.in_ok-reason.ensures.told)
-    (in_none (IsTold other_options others) c.in_ok-reason-2.field-0 c.in-None-2.is c.in_ok-reason-2.ensures.told)
-    (that_made options parts c.in_ok-one.field-0 c.in-Some-5.one c.in-Some-5.is c.in_ok-one.ensures.made)
-    (that_made other_options others c.in_ok-other.field-0 c.in-Some-3.other c.in-Some-3.is c.in_ok-other.ensures.made)
-    c.in_ok-found.ensures
+use Rattle.urlpattern_syntax.specs.{Options.options_view, Parts.parts_view}
 
 pub returns-in-Some : goal.returns-in-Some
 returns-in-Some c =
     let options = options_view c.args.options.now in
     let parts = parts_view c.args.parts.now in
-    first_untold options parts (options_view c.args.other_options.now) (parts_view c.args.others.now) c.in-Some.reason
-    (in_some (IsUntold options parts) c.in_ok-reason.field-0 c.in-Some.reason c.in-Some.is c.in_ok-reason.ensures.reason)
+    first_unknown_parts options parts (options_view c.args.other_options.now) (parts_view c.args.others.now) c.in-Some.reason
+    (in_some (AreUnknownBy options parts) c.in_ok-reason.field-0 c.in-Some.reason c.in-Some.is c.in_ok-reason.ensures.reason)
 
 pub returns-in-Some-2 : goal.returns-in-Some-2
 returns-in-Some-2 c =
     let other_options = options_view c.args.other_options.now in
     let others = parts_view c.args.others.now in
-    other_untold (options_view c.args.options.now) (parts_view c.args.parts.now) other_options others c.in-Some-2.reason
-    (in_some (IsUntold other_options others) c.in_ok-reason-2.field-0 c.in-Some-2.reason c.in-Some-2.is c.in_ok-reason-2.ensures.reason)
+    other_unknown_parts (options_view c.args.options.now) (parts_view c.args.parts.now) other_options others c.in-Some-2.reason
+    (in_some (AreUnknownBy other_options others) c.in_ok-reason-2.field-0 c.in-Some-2.reason c.in-Some-2.is c.in_ok-reason-2.ensures.reason)
 
-pub returns-in-Some-4 : goal.returns-in-Some-4
-returns-in-Some-4 c =
-    let options = options_view c.args.options.now in
-    let parts = parts_view c.args.parts.now in
-    let other_options = options_view c.args.other_options.now in
-    let others = parts_view c.args.others.now in
-    let other = c.in-Some-3.other in
-    example_sought options parts other_options others c.args.is_meant other c.in-Some-4.text
-    (in_none (IsTold other_options others) c.in_ok-reason-2.field-0 c.in-None-2.is c.in_ok-reason-2.ensures.told)
-    (that_made other_options others c.in_ok-other.field-0 other c.in-Some-3.is c.in_ok-other.ensures.made)
-    (in_some (λ (it : Vec ℕ Global). IsExampleOf options parts it.items × (accepts other it.items ≡ c.args.is_meant)) c.in_ok-text.field-0 c.in-Some-4.text c.in-Some-4.is c.in_ok-text.ensures)
+pub search_known-requires-clause-parts : goal.search_known-requires-clause-parts
+search_known-requires-clause-parts c =
+    in_none (AreKnown (options_view c.args.options.now) (parts_view c.args.parts.now)) c.in_ok-reason.field-0 c.in-None.is c.in_ok-reason.ensures.known
+
+pub search_known-requires-clause-others : goal.search_known-requires-clause-others
+search_known-requires-clause-others c =
+    in_none (AreKnown (options_view c.args.other_options.now) (parts_view c.args.others.now)) c.in_ok-reason-2.field-0 c.in-None-2.is c.in_ok-reason-2.ensures.known

@@ -1,5 +1,5 @@
 use Rattle.std.proofs.Common.{◌∙◌, sym}
-use Rattle.urlpattern_compare.proofs.AnswerLemmas.{kind_other}
+use Rattle.urlpattern_expressions.proofs.SimpleLemmas.{kind_other}
 use Rattle.urlpattern_compare.proofs.ExampleLemmas.{copy_added, none_added}
 use Rattle.urlpattern_compare.proofs.examples.add_example.Goals as goal
 use Rattle.urlpattern_syntax.specs.Parts.{part_view}

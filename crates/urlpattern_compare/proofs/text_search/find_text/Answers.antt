@@ -1,8 +1,9 @@
-use Rattle.std.proofs.Common.{◌≡◌, ◌<◌, ◌≤◌, ◌∙◌, ◌+◌, ap, sym, subst, false, ℕ, List, length, length-append, get_or, take_all, arith, rules, refl}
+use Rattle.std.proofs.Common.{◌≡◌, ◌<◌, ◌≤◌, ◌∙◌, ◌+◌, ap, sym, subst, false, ℕ, List, length, length-append, get_or, take_all, arith, rules}
 use Rattle.std.proofs.lemmas.List.Elements.{All-get_or}
 use Rattle.std.specs.List.{All}
 use Rattle.urlpattern_compare.specs.Conditions.{are_met, joint_starts}
-use Rattle.urlpattern_compare.specs.TextSearch.{AreClassesAt, ArePlaces, IsFollowedIn, IsPlaceOf, IsPlaced}
+use Rattle.urlpattern_compare.specs.Exits.{AreClasses, AreExits}
+use Rattle.urlpattern_compare.specs.TextSearch.{ArePlaces, IsFollowedIn, IsPlaceOf, IsPlaced}
 use Rattle.urlpattern_compare.specs.declared.condition.Condition.{Condition}
 use Rattle.urlpattern_compare.specs.declared.text_search.Place.{Place}
 use Rattle.urlpattern_compare.proofs.PlaceLemmas.{IsDoneIn, copy_placed, done_next, followed_all, many_sets, nothing_found, place_met, seen_longer}
@@ -27,6 +28,12 @@ pub follow-requires-clause-place : goal.follow-requires-clause-place
 follow-requires-clause-place c =
     placed_copy c.args.conditions.now c.loop-next.places.items c.loop-next.next c.index.result.now c.in_ok-place.place c.loop-next.invariant.places (search rules) c.index.ensures c.in_ok-place.ensures
 
+pub follow-requires-clause-exits : goal.follow-requires-clause-exits
+follow-requires-clause-exits c =
+    let conditions = c.args.conditions.now in
+    let flags = c.in_ok-place.place.flags.items in
+    subst (AreExits conditions flags) (sym c.deref-in-loop-next-3.ensures.value) (subst (λ f. AreExits conditions f c.in_ok-exits.exits.items) c.deref-in-loop-next.ensures.value c.in_ok-exits.ensures)
+
 pub loop-next-preserved : goal.loop-next-preserved
 loop-next-preserved c =
     let conditions = c.args.conditions.now in
@@ -39,9 +46,8 @@ loop-next-preserved c =
     let lt : c.loop-next.next < length old = search rules in
     let len : length new ≡ length old + length after.kept.0 = ap length after.kept.1 ∙ length-append old after.kept.0 in
     let unmet : are_met conditions copy.flags.items ≡ false = ap (λ f. are_met conditions f) (sym c.deref.ensures.value) ∙ sym c.are_met.ensures ∙ c.if-are_met.false in
-    let some : IsFollowedIn conditions classes new copy = subst (λ l. IsFollowedIn conditions l new copy) c.deref-in-loop-next-2.ensures.value after.followed in
-    let are : AreClassesAt conditions copy.flags.items classes = subst (λ f. AreClassesAt conditions f classes) c.deref-in-loop-next.ensures.value c.in_ok-classes.ensures in
-    let followed = followed_all conditions classes new copy are some in
+    let some : IsFollowedIn conditions classes new copy = subst (λ l. IsFollowedIn conditions l new copy) c.deref-in-loop-next-4.ensures.value after.followed in
+    let followed = followed_all conditions c.in_ok-exits.exits.items classes new copy (subst (λ f. AreExits conditions f c.in_ok-exits.exits.items) c.deref-in-loop-next.ensures.value c.in_ok-exits.ensures) (subst (λ l. AreClasses l classes) c.deref-in-loop-next-2.ensures.value c.in_ok-classes.ensures) some in
     record {
       places = after.places;
       starts = λ opens. seen_longer old new (joint_starts conditions) after.kept (before.starts opens);

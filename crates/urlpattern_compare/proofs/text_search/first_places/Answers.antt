@@ -1,6 +1,6 @@
 use Rattle.std.proofs.Common.{◌≡◌, ◌∙◌, [], ◌∷◌, ◌++◌, rules, sym, subst, refl}
 use Rattle.std.specs.List.{Contains}
-use Rattle.urlpattern_compare.specs.TextSearch.{ArePlaces, IsPlaceSeen}
+use Rattle.urlpattern_compare.specs.TextSearch.{ArePlaces}
 use Rattle.urlpattern_compare.specs.declared.text_search.Place.{Place}
 use Rattle.urlpattern_compare.proofs.PlaceLemmas.{no_places, places_more, start_placed}
 use Rattle.urlpattern_compare.proofs.StateSets.{contains_head}

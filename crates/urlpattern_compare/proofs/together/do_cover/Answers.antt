@@ -1,9 +1,9 @@
-use Rattle.std.proofs.Common.{◌≡◌, ◌∙◌, ◌++◌, List, ap, map, subst, sym, take}
+use Rattle.std.proofs.Common.{◌∙◌, List, ap, map, subst, sym}
 use Rattle.std.specs.List.{All}
 use Rattle.std.specs.Prelude.{IfOk}
 use Rattle.urlpattern_compare.proofs.TogetherLemmas.{all_some, some_map}
 use Rattle.urlpattern_compare.specs.CommonTexts.{AreAutomata}
-use Rattle.urlpattern_compare.specs.CoveringTogether.{DecidesTogether, at_each}
+use Rattle.urlpattern_compare.specs.CoveringTogether.{DecidesTogether}
 use Rattle.urlpattern_compare.specs.declared.common_texts.PatternAutomata.{PatternAutomata}
 use Rattle.urlpattern_compare.proofs.together.do_cover.Goals as goal
 

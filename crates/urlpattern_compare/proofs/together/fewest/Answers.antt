@@ -1,4 +1,4 @@
-use Rattle.std.proofs.Common.{◌≡◌, ◌≤◌, ◌<◌, ◌+◌, ◌++◌, suc, arith, map, subst, sym, take}
+use Rattle.std.proofs.Common.{◌≡◌, ◌≤◌, ◌++◌, suc, arith, map, subst, sym, take}
 use Rattle.urlpattern_compare.specs.CoveringTogether.{AreCovering, IsFewest, at_each}
 use Rattle.urlpattern_compare.proofs.together.fewest.Goals as goal
 

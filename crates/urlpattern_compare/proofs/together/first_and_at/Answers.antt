@@ -1,4 +1,4 @@
-use Rattle.std.proofs.Common.{◌≡◌, ◌∙◌, ◌++◌, ◌∷◌, [], ap, append-nil, append_assoc, arith, get_or, subst, sym, take, take_all}
+use Rattle.std.proofs.Common.{◌∙◌, ◌++◌, ◌∷◌, [], ap, append_assoc, get_or, sym, take, take_all}
 use Rattle.urlpattern_compare.proofs.TogetherLemmas.{each_more, first_more}
 use Rattle.urlpattern_compare.specs.CoveringTogether.{at_each}
 use Rattle.urlpattern_compare.proofs.together.first_and_at.Goals as goal

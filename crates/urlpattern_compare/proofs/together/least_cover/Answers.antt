@@ -1,4 +1,4 @@
-use Rattle.std.proofs.Common.{◌≡◌, ◌++◌, [], List, length, map, subst, sym, take}
+use Rattle.std.proofs.Common.{◌++◌, [], length, map, subst, sym, take}
 use Rattle.std.proofs.lemmas.List.{length-map}
 use Rattle.urlpattern_compare.proofs.TogetherLemmas.{IsLeft, all_left, least, next_is}
 use Rattle.urlpattern_compare.specs.CoveringTogether.{AreCovering, IsFewest, at_each}

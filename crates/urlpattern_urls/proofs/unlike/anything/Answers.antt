@@ -9,5 +9,5 @@ use Rattle.urlpattern_urls.proofs.unlike.anything.Goals as goal
 pub returns : goal.returns
 unfolding chars
 returns c =
-    let are = c.in_ok-push.ensures ∙ ap (λ (l : List Part). parts_view l ++ anything_part ∷ []) c.new-parts.ensures.items in
+    let are = c.in_ok-push_part.ensures ∙ ap (λ (l : List Part). parts_view l ++ anything_part ∷ []) c.new-parts.ensures.items in
     subst (λ (parts : List PartView). IsMadeOf parts c.made_of.result) are c.made_of.ensures

@@ -10,5 +10,5 @@ pub returns : goal.returns
 unfolding chars
 returns c =
     let segment = part_of PartType.SegmentWildcard [] PartModifier.None in
-    let are = c.in_ok-push-2.ensures ∙ ap (λ (l : List PartView). l ++ anything_part ∷ []) (c.in_ok-push.ensures ∙ ap (λ (l : List Part). parts_view l ++ segment ∷ []) c.new-parts.ensures.items) in
+    let are = c.in_ok-push_part-2.ensures ∙ ap (λ (l : List PartView). l ++ anything_part ∷ []) (c.in_ok-push_part.ensures ∙ ap (λ (l : List Part). parts_view l ++ segment ∷ []) c.new-parts.ensures.items) in
     subst (λ (parts : List PartView). IsMadeOf parts c.made_of.result) are c.made_of.ensures

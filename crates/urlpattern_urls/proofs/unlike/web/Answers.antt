@@ -10,5 +10,5 @@ unfolding chars
 returns c =
     let http = part_of PartType.FixedText (codes "http") PartModifier.None in
     let s = part_of PartType.FixedText (codes "s") PartModifier.Optional in
-    let are = c.in_ok-push-2.ensures ∙ ap (λ (l : List PartView). l ++ s ∷ []) (c.in_ok-push.ensures ∙ ap (λ (l : List Part). parts_view l ++ http ∷ []) c.new-parts.ensures.items) in
+    let are = c.in_ok-push_part-2.ensures ∙ ap (λ (l : List PartView). l ++ s ∷ []) (c.in_ok-push_part.ensures ∙ ap (λ (l : List Part). parts_view l ++ http ∷ []) c.new-parts.ensures.items) in
     subst (λ (parts : List PartView). IsMadeOf parts c.made_of.result) are c.made_of.ensures

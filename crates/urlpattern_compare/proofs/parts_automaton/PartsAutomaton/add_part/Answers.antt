@@ -1,5 +1,5 @@
 use Rattle.std.proofs.Common.{◌∙◌, sym}
-use Rattle.urlpattern_compare.proofs.AnswerLemmas.{kind_custom, kind_other}
+use Rattle.urlpattern_expressions.proofs.SimpleLemmas.{kind_custom, kind_other}
 use Rattle.urlpattern_compare.proofs.MakingLemmas.{custom_missed, custom_result, plain_missed, plain_result}
 use Rattle.urlpattern_compare.specs.Making.{made_view}
 use Rattle.urlpattern_syntax.specs.{Options.options_view, Parts.part_view}

@@ -1,7 +1,0 @@
-use Rattle.std.proofs.Common.{◌≡◌, map, take}
-use Rattle.serde_json.specs.View.{view}
-use Rattle.urlpat_commands.specs.ComparisonTexts.{number_tree}
-use Rattle.urlpat_commands.proofs.comparison_json.numbers_tree.Given as goal
-
-abbrev pub invariant-loop-number : goal.invariant-loop-number
-invariant-loop-number l = map view l.items.items ≡ map number_tree (take l.number-index l.numbers)

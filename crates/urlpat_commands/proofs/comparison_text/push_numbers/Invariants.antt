@@ -1,7 +1,0 @@
-use Rattle.std.proofs.Common.{◌≡◌, ◌++◌, decimal, string_bytes, take}
-use Rattle.std.specs.List.{flat_map}
-use Rattle.urlpat_commands.specs.ComparisonTexts.{number_cell}
-use Rattle.urlpat_commands.proofs.comparison_text.push_numbers.Given as goal
-
-abbrev pub invariant-loop-other : goal.invariant-loop-other
-invariant-loop-other l = string_bytes l.text ≡ string_bytes l.fn.text ++ decimal l.fn.line ++ flat_map number_cell (take l.other-index l.others)

@@ -1,0 +1,12 @@
+pub mod Checks
+pub mod Fields
+pub mod FilterLines
+pub mod Findings
+pub mod FirstRules
+pub mod Labels
+pub mod RewriteRules
+pub mod Rewrites
+pub mod Summaries
+pub mod TableRoutes
+pub mod TableRules
+pub mod Unreached

@@ -1,0 +1,5 @@
+pub mod DecidedRequests
+pub mod KeptRoutes
+pub mod Numbers
+pub mod ReadRoutes
+pub mod WrittenFaults
