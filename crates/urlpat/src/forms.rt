@@ -70,7 +70,7 @@ const FIELDS: &[&str] = &["field", "format"];
 const MATCHING: &[&[&str]] = &[COMMON, &["explain-errors", INIT]];
 
 /// The commands, in the order of the help.
-pub(crate) const FORMS: [Form; 12] = [
+pub(crate) const FORMS: [Form; 13] = [
     Form {
         name: "match",
         usage: "urlpat match [OPTIONS] PATTERN BASE INPUT",
@@ -259,6 +259,34 @@ Example: urlpat policy decide policy.txt https://example.com/users/7",
         is_fixed: false,
     },
     Form {
+        name: "routes",
+        usage: "urlpat routes [OPTIONS] check|decide|diff FILE.. --script URL",
+        about: "Check the static routes of a service worker, decide by them, or compare two files",
+        more: "\
+A file has what addRoutes() takes, in JSON; the file - is standard input. Rules
+are counted from 0.
+
+  check FILE              print why a browser rejects the rules, or which rules
+                          never decide; then the status is 1
+  decide FILE METHOD URL  print the first rule that decides about the request;
+                          the status is 1 if none does
+  diff OLD NEW            print requests whose responses come from elsewhere by
+                          the new rules; then it is 1
+
+Example: urlpat routes check routes.json --script https://example.com/sw.js",
+        options: &[&[
+            "script",
+            "scope",
+            "mode",
+            "destination",
+            "not-running",
+            "json",
+        ]],
+        least: 2,
+        most: usize::MAX,
+        is_fixed: false,
+    },
+    Form {
         name: "component",
         usage: "urlpat component [OPTIONS] default|hostname|pathname PATTERN",
         about: "Show what the pattern of one component is compiled to",
@@ -313,8 +341,8 @@ pub(crate) fn program<'a>(
     Ok(parser)
 }
 
-/// The command `policy` with what it does as commands below it, in place of the first operand.
-pub(crate) fn policy_actions<'a>(alloc: Global, form: &Form) -> Result<Parser<'a>, AllocError> {
+/// A command with what it does as commands below it, in place of the first operand.
+pub(crate) fn actions<'a>(alloc: Global, form: &Form) -> Result<Parser<'a>, AllocError> {
     let parser = Parser::new(alloc, form.name)
         .override_usage(form.usage)
         .disable_help_subcommand(true)

@@ -36,6 +36,7 @@ fn option<'a>(alloc: Global, id: &'a str) -> Result<Arg<'a>, AllocError> {
         "base" | "ignore-case" | "json" | "explain-errors" | "init" => common_option(arg, id),
         "pattern" | "file" | "not" | "count" | "group" => selecting_option(arg, id),
         "field" | "format" | "with-line" | "summary" => field_option(arg, id),
+        "script" | "scope" | "mode" | "destination" | "not-running" => route_option(arg, id),
         _ => line_option(arg, id),
     }
 }
@@ -99,6 +100,26 @@ fn field_option<'a>(arg: Arg<'a>, id: &str) -> Result<Arg<'a>, AllocError> {
             "json",
             "line-number",
         ])?,
+    })
+}
+
+/// The option with this id, one of static routes.
+fn route_option<'a>(arg: Arg<'a>, id: &str) -> Result<Arg<'a>, AllocError> {
+    Ok(match id {
+        "script" => arg
+            .value_name("URL")
+            .help("The URL of the worker's script, the base of all other URLs")
+            .required(true),
+        "scope" => arg.value_name("URL").help(
+            "The scope of the worker, by default the folder of its script",
+        ),
+        "mode" => arg
+            .value_name("MODE")
+            .help("The mode of the request, by default cors"),
+        "destination" => arg.value_name("NAME").help(
+            "The destination of the request, by default that of fetch()",
+        ),
+        _ => flag(arg, "The worker is not running"),
     })
 }
 
