@@ -70,7 +70,7 @@ const FIELDS: &[&str] = &["field", "format"];
 const MATCHING: &[&[&str]] = &[COMMON, &["explain-errors", INIT]];
 
 /// The commands, in the order of the help.
-pub(crate) const FORMS: [Form; 12] = [
+pub(crate) const FORMS: [Form; 13] = [
     Form {
         name: "match",
         usage: "urlpat match [OPTIONS] PATTERN BASE INPUT",
@@ -106,10 +106,10 @@ Example: urlpat first https://example.com/ /users/7 /about /users/:id",
         usage: "urlpat filter [OPTIONS] PATTERN [BASE] [FILE..]",
         about: "Print the lines whose URLs match",
         more: "\
-BASE is a URL for the patterns and the lines, or - for none. The lines are those
-of the files, or of standard input, which is also the file -. A line that is no
-URL does not match. If no line is selected, the status is 1. With -e or -f there
-is no PATTERN.
+BASE is a URL for the patterns and the lines, or - for none; a word after the
+pattern that has a protocol is BASE. The lines are those of the files, or of
+standard input, which is also the file -. A line that is no URL does not match.
+If no line is selected, the status is 1. With -e or -f there is no PATTERN.
 
 Example: urlpat filter https://example.com/users/:id --group pathname.id",
         options: &[
@@ -244,8 +244,9 @@ Example: urlpat check routes.txt https://example.com/",
         about: "Decide about URLs by a policy, check it, or compare two",
         more: "\
 A file has lines such as `allow PATTERN` and `deny PATTERN`, or JSON. The first
-rule that matches decides; if none does, a URL is denied, but by the line
-`default allow`. Rules are counted from 1.
+rule that matches decides; if none does, a URL is denied, or allowed by the line
+`default allow`. The line `base URL` gives the base of all patterns, and a line
+that begins with # is a comment. Rules are counted from 1.
 
   decide FILE [URL..]  decide about URLs, or the lines of standard input; the
                        status is 1 if one is denied
@@ -254,6 +255,43 @@ rule that matches decides; if none does, a URL is denied, but by the line
 
 Example: urlpat policy decide policy.txt https://example.com/users/7",
         options: &[&["json"]],
+        least: 2,
+        most: usize::MAX,
+        is_fixed: false,
+    },
+    Form {
+        name: "routes",
+        usage: "urlpat routes [OPTIONS] check|decide|diff FILE.. --script URL",
+        about: "Check the static routes of a service worker, decide by them, or compare two files",
+        more: "\
+A file has what addRoutes() takes, in JSON; the file - is standard input. Rules
+are counted from 0. Sources are network, cache, {\"cacheName\": \"v1\"}, fetch-event
+and race-network-and-fetch-handler. Unknown members are ignored, as in browsers.
+The base of a pattern is the script; `new URLPattern({..})` has none, so give it
+here \"protocol\", \"hostname\" and \"port\", each as \"*\".
+
+  check FILE              print why a browser rejects the rules, or which rules
+                          never decide, or only outside of --scope; then the
+                          status is 1
+  decide FILE METHOD URL  print the first rule that decides about the request,
+                          whose --mode, --destination and --not-running may be
+                          given; the status is 1 if none does
+  diff OLD NEW            print requests whose responses come from elsewhere by
+                          the new rules; then it is 1
+
+If it is not known, the status is 2. `decide` and `diff` take any request, also
+one that the worker does not get. A navigation has --mode navigate and, by its
+kind, --destination document or iframe. No rule is like the source fetch-event.
+
+Example: urlpat routes check routes.json --script https://example.com/sw.js",
+        options: &[&[
+            "script",
+            "scope",
+            "mode",
+            "destination",
+            "not-running",
+            "json",
+        ]],
         least: 2,
         most: usize::MAX,
         is_fixed: false,
@@ -313,8 +351,8 @@ pub(crate) fn program<'a>(
     Ok(parser)
 }
 
-/// The command `policy` with what it does as commands below it, in place of the first operand.
-pub(crate) fn policy_actions<'a>(alloc: Global, form: &Form) -> Result<Parser<'a>, AllocError> {
+/// A command with what it does as commands below it, in place of the first operand.
+pub(crate) fn actions<'a>(alloc: Global, form: &Form) -> Result<Parser<'a>, AllocError> {
     let parser = Parser::new(alloc, form.name)
         .override_usage(form.usage)
         .disable_help_subcommand(true)

@@ -1,7 +1,7 @@
 //! The program `urlpat`, which matches URLs against patterns: one URL, the first of several
 //! patterns, or the lines of standard input. It also explains a pattern, prints the URL that a
-//! pattern matches with given groups, compares patterns, decides by policies, and shows what the
-//! pattern of one component is compiled to.
+//! pattern matches with given groups, compares patterns, decides by policies and by the static
+//! routes of service workers, and shows what the pattern of one component is compiled to.
 #![tactic(auto)]
 
 ghost use Rattle.std.specs.Prelude.{⊤};
@@ -37,6 +37,7 @@ use urlpat_matching::{
     Arguments, Command, DONE, FAILED, GivenPatterns, NO_MATCH, RouteShape, fail,
 };
 use urlpat_policies::run_on_policies;
+use urlpat_routes::run_on_routes;
 use urlpattern::Error;
 use urlpattern::regexp::PatternRegexp;
 
@@ -174,6 +175,16 @@ fn run_buffered(rt: &HostRuntime, asked: Asked<'_, '_>) -> io::Result<u8> {
                 &mut err,
             )
         }
+        Asked::Routes(script, command, json) => run_on_routes::<PatternRegexp, _, _, _, _>(
+            rt.alloc(),
+            &files,
+            &Printer,
+            json,
+            script,
+            command,
+            &mut out,
+            &mut err,
+        ),
     };
     if explains_errors(asked) {
         report_output(out.failure(), &mut err);
@@ -193,10 +204,22 @@ fn run_on_lines<Out: Write, Err: Write>(
         let _ = err.write_all(b"urlpat: standard input cannot have both a table and lines\n");
         Ok(FAILED)
     } else if arguments.files.is_empty() {
+        // A person may have given a URL to match as an operand, which is the base URL.
+        if reads_lines(arguments.command) && files.rt.stdin().is_terminal() {
+            let _ = err.write_all(b"urlpat: reading lines from standard input\n");
+        }
         run_on_input(files, arguments, out, err)
     } else {
         run_on_files(files, arguments, out, err)
     }
+}
+
+/// Whether the command reads lines.
+fn reads_lines(command: Command<'_, '_>) -> bool {
+    matches!(
+        command,
+        Command::Filter(_) | Command::Route(_) | Command::Rewrite(_)
+    )
 }
 
 /// Whether standard input would have both a table and lines.
@@ -291,7 +314,7 @@ fn explained<'m, 'w>(asked: Asked<'m, 'w>, is_read: bool) -> Asked<'m, 'w> {
             arguments.flags.explain_errors |= is_read;
             Asked::Command(arguments)
         }
-        Asked::Policy(_, _) => asked,
+        Asked::Policy(_, _) | Asked::Routes(_, _, _) => asked,
     }
 }
 
@@ -321,6 +344,6 @@ fn shown<'m, 'w>(asked: Asked<'m, 'w>, is_read: bool) -> Asked<'m, 'w> {
 fn explains_errors(asked: Asked<'_, '_>) -> bool {
     match asked {
         Asked::Command(arguments) => arguments.flags.explain_errors,
-        Asked::Policy(_, _) => true,
+        Asked::Policy(_, _) | Asked::Routes(_, _, _) => true,
     }
 }

@@ -8,6 +8,7 @@ use urlpat_matching::{
     GivenPattern, Kind, LinkArguments, MatchArguments, TableArguments,
 };
 use urlpat_policies::PolicyCommand;
+use urlpat_routes::{AskedRequest, RouteCommand};
 use urlpattern::quirks::UrlPatternInit;
 
 /// The operand for no base URL.
@@ -88,6 +89,37 @@ pub(crate) fn policy_of<'m, 'w>(
         ("decide", urls) => Some(PolicyCommand::Decide(file, urls)),
         ("check", []) => Some(PolicyCommand::Check(file)),
         ("diff", [new]) => Some(PolicyCommand::Diff(file, new)),
+        _ => None,
+    }
+}
+
+/// The command on static routes with these arguments: what is to be done, files, and of `decide` a
+/// method and a URL. Each option is of one command. A word with a slash is no method. `none` has no
+/// operands.
+pub(crate) fn routes_of<'m, 'w>(
+    found: &'m ArgMatches<'w>,
+    none: &'m [&'w str],
+) -> Option<RouteCommand<'w>> {
+    let [action, file, rest @ ..] = found.get_strs(OPERANDS).unwrap_or(none) else {
+        return None;
+    };
+    let scope = found.get_str("scope");
+    let (mode, destination) = (found.get_str("mode"), found.get_str("destination"));
+    let is_running = !found.get_flag("not-running");
+    let is_plain = mode.is_none() && destination.is_none() && is_running;
+    match (*action, rest) {
+        ("check", []) if is_plain => Some(RouteCommand::Check(file, scope)),
+        ("decide", [method, url]) if scope.is_none() && !method.contains('/') => {
+            let asked = AskedRequest {
+                method,
+                url,
+                mode: mode.unwrap_or("cors"),
+                destination: destination.unwrap_or(""),
+                is_running,
+            };
+            Some(RouteCommand::Decide(file, asked))
+        }
+        ("diff", [new]) if is_plain && scope.is_none() => Some(RouteCommand::Diff(file, new)),
         _ => None,
     }
 }

@@ -2,6 +2,7 @@
 
 use clap::{Arg, ArgAction, Command as Parser};
 use std::alloc::{AllocError, Global};
+use urlpattern_routes::RouterAttribute;
 
 /// The id of the operands.
 pub(crate) const OPERANDS: &str = "operands";
@@ -36,6 +37,7 @@ fn option<'a>(alloc: Global, id: &'a str) -> Result<Arg<'a>, AllocError> {
         "base" | "ignore-case" | "json" | "explain-errors" | "init" => common_option(arg, id),
         "pattern" | "file" | "not" | "count" | "group" => selecting_option(arg, id),
         "field" | "format" | "with-line" | "summary" => field_option(arg, id),
+        "script" | "scope" | "mode" | "destination" | "not-running" => route_option(arg, id),
         _ => line_option(arg, id),
     }
 }
@@ -66,6 +68,7 @@ fn selecting_option<'a>(arg: Arg<'a>, id: &str) -> Result<Arg<'a>, AllocError> {
         "file" => several(arg, "FILE", "As -e for the patterns of a table").short('f'),
         "not" => flag(arg, "Select the lines that do not match")
             .short('v')
+            .alias("invert-match")?
             .conflicts_with("json")?,
         "count" => flag(arg, "Print how many lines are selected, and no line")
             .short('c')
@@ -99,6 +102,30 @@ fn field_option<'a>(arg: Arg<'a>, id: &str) -> Result<Arg<'a>, AllocError> {
             "json",
             "line-number",
         ])?,
+    })
+}
+
+/// The option with this id, one of static routes.
+fn route_option<'a>(arg: Arg<'a>, id: &str) -> Result<Arg<'a>, AllocError> {
+    Ok(match id {
+        "script" => arg
+            .value_name("URL")
+            .help("The URL of the worker's script, the base of all other URLs")
+            .required(true),
+        "scope" => arg.value_name("URL").help(
+            "The scope of the worker, by default the folder of its script",
+        ),
+        "mode" => arg
+            .value_name("MODE")
+            .help("The mode, such as navigate; else cors")
+            .value_parser(RouterAttribute::Mode.names())
+            .hide_possible_values(true),
+        "destination" => arg
+            .value_name("NAME")
+            .help("The destination, such as image; else that of fetch()")
+            .value_parser(RouterAttribute::Destination.names())
+            .hide_possible_values(true),
+        _ => flag(arg, "The worker is not running"),
     })
 }
 

@@ -1,13 +1,14 @@
 //! Parses the words of the program.
 
-use crate::forms::{FORMS, Form, command, policy_actions, program, short_form};
-use crate::operands::{Given, command_of, policy_of, short_of};
+use crate::forms::{FORMS, Form, actions, command, program, short_form};
+use crate::operands::{Given, command_of, policy_of, routes_of, short_of};
 use crate::options::{GROUP, OPERANDS, PATTERN_FILES, PATTERNS};
 use clap::error::ErrorKind;
 use clap::{ArgMatches, Command as Parser, Error};
 use std::alloc::{AllocError, Global};
 use urlpat_matching::{Arguments, Flags};
 use urlpat_policies::PolicyCommand;
+use urlpat_routes::RouteCommand;
 use urlpattern::quirks::UrlPatternInit;
 
 /// The usage of `component`, the first line that is printed if the words of the commands whose
@@ -16,6 +17,9 @@ pub const COMPONENT_USAGE: &str = "usage: urlpat component default|hostname|path
 
 /// The usage of `match`, the line after that of `component`.
 pub const MATCH_USAGE: &str = "       urlpat match PATTERN BASE INPUT";
+
+/// The message for arguments that a command does not take together.
+const NOT_ITS_ARGUMENTS: &str = "these are not the arguments of the command";
 
 /// The usage of `first`, the last of the lines.
 pub const FIRST_USAGE: &str = "       urlpat first BASE INPUT PATTERN..";
@@ -65,6 +69,9 @@ pub enum Asked<'m, 'w> {
     Command(Arguments<'m, 'w>),
     /// A command on policies, and whether what it finds is printed as JSON.
     Policy(PolicyCommand<'m, 'w>, bool),
+    /// A command on the static routes of the worker whose script has this URL, and whether what it
+    /// finds is printed as JSON.
+    Routes(&'w str, RouteCommand<'w>, bool),
 }
 
 /// What parsed words ask for. `init` is the pattern that options give by component, and `none` has
@@ -84,6 +91,15 @@ pub fn asked_of<'m, 'w>(
             let command = policy_of(words, found.get_str("base"))?;
             let flags = flags_of(found, of_command)?;
             Some(Asked::Policy(command, flags.json))
+        }
+        Some(("routes", of_command)) => {
+            if init.is_some() || found.get_str("base").is_some() {
+                return None;
+            }
+            let script = of_command.get_str("script")?;
+            let command = routes_of(of_command, none)?;
+            let flags = flags_of(found, of_command)?;
+            Some(Asked::Routes(script, command, flags.json))
         }
         _ => Some(Asked::Command(arguments_of(found, init, none)?)),
     }
@@ -241,10 +257,13 @@ pub fn misused(alloc: Global, found: &ArgMatches<'_>, given: bool) -> Result<Err
             let text = format!(in alloc; "unexpected argument '{word}' found")?;
             parser.error(ErrorKind::WrongNumberOfValues, &text)
         }
-        None => parser.error(
-            ErrorKind::WrongNumberOfValues,
-            wrong_use(after_command(found)),
-        ),
+        None => {
+            let message = match found.subcommand() {
+                Some(("routes", _)) => wrong_routes_use(words),
+                _ => wrong_use(after_command(found)),
+            };
+            parser.error(ErrorKind::WrongNumberOfValues, message)
+        }
     }
 }
 
@@ -252,28 +271,42 @@ pub fn misused(alloc: Global, found: &ArgMatches<'_>, given: bool) -> Result<Err
 fn wrong_use(after: &ArgMatches<'_>) -> &'static str {
     match after.get_strs(GROUP) {
         Some([_, _, ..]) => "the argument '--group <GROUP>' cannot be used multiple times",
-        _ => "these are not the arguments of the command",
+        _ => NOT_ITS_ARGUMENTS,
     }
 }
 
-/// The error that the first word is nothing that `policy` does. It names what is like it. `None`:
-/// the command is another one, or the word is what it does.
+/// What is wrong with the arguments of `routes`, as those of its action, the first operand.
+fn wrong_routes_use(words: &[&str]) -> &'static str {
+    match words {
+        ["check", _] => "`check` takes no --mode, --destination and --not-running",
+        ["check", ..] => "`check` takes one FILE",
+        ["decide", _, method, _] if method.contains('/') => "METHOD comes before URL",
+        ["decide", _, _, _] => "`decide` takes no --scope",
+        ["decide", ..] => "`decide` takes FILE METHOD URL",
+        ["diff", _, _] => "`diff` takes no --scope, --mode, --destination and --not-running",
+        ["diff", ..] => "`diff` takes OLD NEW",
+        _ => NOT_ITS_ARGUMENTS,
+    }
+}
+
+/// The error that the first word is nothing that `policy` or `routes` does. It names what is like
+/// it. `None`: the command is another one, or the word is what it does.
 fn no_action(
     alloc: Global,
     command: Option<&str>,
     words: &[&str],
 ) -> Result<Option<Error>, AllocError> {
-    let (Some("policy"), [word, ..]) = (command, words) else {
+    let (Some(name), [word, ..]) = (command, words) else {
         return Ok(None);
     };
-    let Some(form) = form_of("policy") else {
+    let (Some(form), "policy" | "routes") = (form_of(name), name) else {
         return Ok(None);
     };
     if word.starts_with('-') {
         return Ok(None);
     }
-    let given = ["policy", *word];
-    match policy_actions(alloc, form)?.try_get_matches_from(given.as_slice()) {
+    let given = [name, *word];
+    match actions(alloc, form)?.try_get_matches_from(given.as_slice()) {
         Ok(_) => Ok(None),
         Err(error) => Ok(Some(error)),
     }

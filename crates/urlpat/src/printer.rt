@@ -1,4 +1,4 @@
-//! How the program prints what `explain`, `unreachable`, `check` and `policy` find.
+//! How the program prints what `explain`, `unreachable`, `check`, `policy` and `routes` find.
 
 ghost use Rattle.std.specs.Prelude.{⊤};
 
@@ -8,9 +8,17 @@ use urlpat_policies::{
     NoPolicy, PolicyPrinter, decisions_json, decisions_text, difference_json, difference_text,
     faults_json, faults_text,
 };
+use urlpat_routes::{
+    NoRoutes, RoutePrinter, RuleUse, decision_json, decision_text, refusal_json, refusal_text,
+    routes_difference_json, routes_difference_text, uses_json, uses_text,
+};
 use urlpat_tables::{Findings, FindingsPrinter, Reached, findings_text, unreached_text};
+use urlpattern_matcher::regexp::RegExp;
 use urlpattern_policy::Decision;
 use urlpattern_policy_differences::PolicyDifference;
+use urlpattern_route_analysis::Decisions;
+use urlpattern_route_rules::RouterRules;
+use urlpattern_routes::RouterRule;
 
 /// The printer of the program. Nothing is promised of its words.
 #[derive(Clone, Copy)]
@@ -102,6 +110,70 @@ impl PolicyPrinter for Printer {
             difference_json(alloc, difference)
         } else {
             difference_text(alloc, difference)
+        }
+    }
+}
+
+impl RoutePrinter for Printer {
+    ghost PrintsRefusal = { λ printer json refusal text. ⊤ };
+
+    ghost PrintsUses = { λ printer json uses text. ⊤ };
+
+    ghost PrintsDecision = { λ printer json decided text. ⊤ };
+
+    ghost PrintsDifference = { λ printer json old new found text. ⊤ };
+
+    fn print_refusal(
+        &self,
+        alloc: Global,
+        json: bool,
+        refusal: &NoRoutes,
+    ) -> Result<String, AllocError> {
+        if json {
+            refusal_json(alloc, refusal)
+        } else {
+            refusal_text(alloc, refusal)
+        }
+    }
+
+    fn print_uses(
+        &self,
+        alloc: Global,
+        json: bool,
+        uses: &[RuleUse],
+    ) -> Result<String, AllocError> {
+        if json {
+            uses_json(alloc, uses)
+        } else {
+            uses_text(alloc, uses)
+        }
+    }
+
+    fn print_decision(
+        &self,
+        alloc: Global,
+        json: bool,
+        decided: Option<(usize, &RouterRule)>,
+    ) -> Result<String, AllocError> {
+        if json {
+            decision_json(alloc, decided)
+        } else {
+            decision_text(alloc, decided)
+        }
+    }
+
+    fn print_difference<R: RegExp>(
+        &self,
+        alloc: Global,
+        json: bool,
+        old: &RouterRules<R>,
+        new: &RouterRules<R>,
+        found: &Decisions,
+    ) -> Result<String, AllocError> {
+        if json {
+            routes_difference_json(alloc, old, new, found)
+        } else {
+            routes_difference_text(alloc, old, new, found)
         }
     }
 }

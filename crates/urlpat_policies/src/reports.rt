@@ -37,7 +37,7 @@ fn report_unreadable<Err: Write>(file: &str, error: &io::Error, err: &mut Err) {
 fn report_faults<Err: Write>(alloc: Global, file: &str, refusal: &NoPolicy, err: &mut Err) {
     match faults_text(alloc, refusal) {
         Ok(text) => {
-            let _ = writeln!(err, "urlpat: the file `{file}` has no policy");
+            let _ = writeln!(err, "urlpat: the file `{file}` is rejected");
             let _ = err.write_all(text.as_bytes());
         }
         Err(_) => report_memory(err),

@@ -1,0 +1,3 @@
+pub mod RouteCommands
+pub mod RouteFiles
+pub mod RouteUses

@@ -1,0 +1,54 @@
+-- Static routes in files. Texts are bytes. `Has` says what a file has.
+use Rattle.std.specs.Prelude.{◌≡◌, ◌≢◌, ℕ, List, [], None, Result, Ok, Err, Some}
+use Rattle.std.specs.Str.{IsUtf8}
+use Rattle.serde_json.specs.Data.{Data}
+use Rattle.serde_json.specs.Read.{read as read_text}
+use Rattle.url.specs.Parts.{Parts, serialize}
+use Rattle.url.specs.Setters.{set_fragment}
+use Rattle.urlpattern_canonical.specs.BaseUrls.{IsUrlOf}
+use Rattle.urlpattern_conditions.specs.declared.table.Rule.{Rule}
+use Rattle.urlpattern_matcher.specs.declared.regexp.RegExp.{Ghosts as Engine}
+use Rattle.urlpattern_route_rules.specs.Adding.{CompilesCall}
+use Rattle.urlpattern_route_rules.specs.declared.rules.RouterRules.{RouterRules}
+use Rattle.urlpattern_routes.specs.Rules.{browser_limits}
+use Rattle.urlpattern_routes.specs.declared.rule.RouterRule.{RouterRule}
+use Rattle.urlpat_routes.specs.declared.route_file.NoRoutes.{NoRoutes}
+use Rattle.urlpat_routes.specs.declared.route_file.NoRoutes.TheVariants as refusals
+
+-- Rules, or why there are none.
+abbrev pub Found : (E : Type 0) → Type 0
+Found E = Result (RouterRules E) NoRoutes
+
+-- The JSON has the rules of the worker whose script has this URL, or they are rejected with all of
+-- their faults.
+abbrev pub AreCompiled : {E : Type 0} → Engine E → (script : List ℕ) → Data → Found E → Type 0
+AreCompiled engine script tree (Ok rules) =
+    CompilesCall engine script browser_limits tree rules.table.rules.items []
+AreCompiled {E} engine script tree (Err (refusals.Rejected faults)) =
+    (faults.items ≢ []) × ((made : List (Rule RouterRule E))
+    × CompilesCall engine script browser_limits tree made faults.items)
+AreCompiled engine script tree (Err refusal) = ⊥
+
+-- The bytes have the rules of the worker whose script has this URL, in JSON, or this is why they do
+-- not.
+abbrev pub AreIn : {E : Type 0} → Engine E → (script : List ℕ) → (bytes : List ℕ) → Found E
+    → Type 0
+AreIn engine script bytes (Err refusals.NotUtf8) = ¬ IsUtf8 bytes
+AreIn engine script bytes (Err (refusals.NotJson error)) =
+    IsUtf8 bytes × (read_text bytes ≡ None)
+AreIn engine script bytes found =
+    IsUtf8 bytes × ((tree : Data) × (read_text bytes ≡ Some tree)
+    × AreCompiled engine script tree found)
+
+-- The URL of a script, as a text says it: the fragment does not count.
+abbrev pub IsScript : (text : List ℕ) → Parts → Type 0
+IsScript text script =
+    (url : Parts) × IsUrlOf text None url × (script ≡ set_fragment url None)
+
+-- The file has the rules of the worker whose script has the URL `script`, or this is why it does
+-- not.
+abbrev pub HasRoutes : {E : Type 0} → Engine E → (Has : List ℕ → Type 0) → (script : List ℕ)
+    → Found E → Type 0
+HasRoutes engine Has script found =
+    (url : Parts) × (bytes : List ℕ) × IsScript script url × Has bytes
+    × AreIn engine (serialize url) bytes found
