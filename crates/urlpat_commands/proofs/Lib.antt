@@ -1,5 +1,0 @@
-pub mod AnswerExamples
-pub mod CommandAnswerLemmas
-pub mod FirstCommandLemmas
-pub mod CommandNoteLemmas
-pub mod ComparisonLemmas

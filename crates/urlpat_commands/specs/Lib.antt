@@ -1,5 +1,0 @@
-pub mod CommandAnswers
-pub mod ComponentAnswers
-pub mod FirstJson
-pub mod ComparisonTexts
-pub mod Coverings

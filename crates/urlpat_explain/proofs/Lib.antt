@@ -1,4 +1,0 @@
-pub mod NotedLemmas
-pub mod ComponentPlaceLemmas
-mod NotedExamples
-pub mod GivenWordLemmas

@@ -1,2 +1,0 @@
-pub mod DecisionLemmas
-pub mod FileLemmas

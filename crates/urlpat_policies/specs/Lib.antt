@@ -1,2 +1,0 @@
-pub mod PolicyCommands
-pub mod PolicyFiles

@@ -1,3 +1,0 @@
-pub mod RouteCommands
-pub mod RouteFiles
-pub mod RouteUses

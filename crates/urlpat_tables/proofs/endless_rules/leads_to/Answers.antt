@@ -1,8 +1,0 @@
-use Rattle.std.proofs.Common.{[], ◌∷◌}
-use Rattle.std.proofs.lemmas.List.Elements.{All-cons, All-nil}
-use Rattle.urlpattern_compare.specs.CommonTexts.{AreAutomata}
-use Rattle.urlpat_tables.proofs.endless_rules.leads_to.Goals as goal
-
-pub find_common-requires-clause-all_of : goal.find_common-requires-clause-all_of
-find_common-requires-clause-all_of c =
-    All-cons AreAutomata c.args.second.now (c.args.first.now ∷ []) c.requires.second (All-cons AreAutomata c.args.first.now [] c.requires.first (All-nil AreAutomata))

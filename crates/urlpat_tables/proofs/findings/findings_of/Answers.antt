@@ -1,4 +1,0 @@
-use Rattle.urlpat_tables.proofs.findings.findings_of.Goals as goal
-
-pub returns : goal.returns
-returns c = ((c.read_each.new.rules, c.in_ok-rejected.ensures, c.in_ok-compared.ensures), c.in_ok-repeated.ensures)

@@ -1,7 +1,0 @@
-use Rattle.std.proofs.Common.{arith}
-use Rattle.urlpattern_canonical.proofs.CanonicalLemmas.{dummy_is_parsed, memory_alone}
-use Rattle.urlpattern_canonical.specs.Canonical.{dummy_url}
-use Rattle.urlpattern_canonical.proofs.canonicalize_and_process.urls.parse_dummy.Goals as goal
-
-pub returns-clause-memory : goal.returns-clause-memory
-returns-clause-memory c = memory_alone dummy_url dummy_is_parsed.0 0 c.parse.result dummy_is_parsed.1 (omega arith) c.parse.ensures.err

@@ -1,3 +1,0 @@
-pub mod RejectedAs
-pub mod BaseUrls
-pub mod Canonical

@@ -1,5 +1,0 @@
-use Rattle.std.proofs.lemmas.Result.{IfOk-weaker}
-use Rattle.urlpattern_compare.proofs.common_texts.automata_of.Goals as goal
-
-pub returns : goal.returns
-returns c = IfOk-weaker c.try_from_fn.result _ _ (λ automata are name. (are name).1) c.try_from_fn.ensures.ok

@@ -1,6 +1,0 @@
-use Rattle.std.proofs.Common.{◌≡◌, take}
-use Rattle.std.specs.Prelude.{encode_utf8_all, string_bytes}
-use Rattle.urlpattern_compare.proofs.pattern_parts.string_of.Given as goal
-
-abbrev pub invariant-loop-c : goal.invariant-loop-c
-invariant-loop-c l = string_bytes l.text ≡ encode_utf8_all (take l.c-index l.characters)

@@ -1,2 +1,0 @@
-pub mod CompiledLemmas
-pub mod DiagnosisLemmas

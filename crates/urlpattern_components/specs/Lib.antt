@@ -1,2 +1,0 @@
-pub mod Eight
-pub mod NamedValues

@@ -1,3 +1,0 @@
-pub mod ConditionExamples
-pub mod ConditionLemmas
-pub mod TableLemmas

@@ -1,4 +1,0 @@
-pub mod Requests
-pub mod Conditions
-pub mod ConditionViews
-pub mod Tables

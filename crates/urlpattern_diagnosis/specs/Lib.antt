@@ -1,4 +1,0 @@
-pub mod Faults
-pub mod PatternOffsets
-pub mod Spans
-pub mod Subjects

@@ -1,4 +1,0 @@
-pub mod DecidedLemmas
-pub mod ExcessLemmas
-pub mod WrittenLemmas
-pub mod SharedLemmas

@@ -1,4 +1,0 @@
-pub mod Credentials
-pub mod Deciding
-pub mod Excess
-pub mod Shared

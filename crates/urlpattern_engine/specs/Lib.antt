@@ -1,7 +1,0 @@
-pub mod GrammarReadings
-pub mod Automatons
-pub mod ExpressionFaults
-pub mod BoundedSearches
-pub mod KeptTexts
-pub mod PatternRegexps
-pub mod EcmaRegexps

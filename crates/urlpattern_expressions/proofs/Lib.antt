@@ -1,7 +1,0 @@
-pub mod SimpleLemmas
-pub mod ShapeTexts
-pub mod SameLanguages
-pub mod RepeatedShapes
-pub mod HirTrees
-pub mod PartShapes
-pub mod ShapeExamples

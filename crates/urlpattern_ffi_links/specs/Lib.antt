@@ -1,3 +1,0 @@
-pub mod GivenBytes
-pub mod GivenLinks
-pub mod GivenTexts

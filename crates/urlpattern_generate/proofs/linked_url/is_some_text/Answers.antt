@@ -1,6 +1,0 @@
-use Rattle.std.proofs.Common.{ap, not, sym, ◌∙◌}
-use Rattle.urlpattern_syntax.proofs.StringTexts.{is_empty-str}
-use Rattle.urlpattern_generate.proofs.linked_url.is_some_text.Goals as goal
-
-pub returns : goal.returns
-returns c = ap not (c.is_empty.ensures ∙ sym (is_empty-str c.args.text.now c.utf8.text))

@@ -1,7 +1,0 @@
-pub mod FixedTexts
-pub mod Keys
-pub mod Known
-pub mod Listed
-pub mod Paths
-pub mod PlainPaths
-pub mod Segments

@@ -1,7 +1,0 @@
-pub mod SplitUnique
-pub mod SplitExists
-pub mod InheritanceLemmas
-pub mod SplitExamples
-pub mod UrlTexts
-pub mod SpecialSchemeLemmas
-pub mod SplitPlaces

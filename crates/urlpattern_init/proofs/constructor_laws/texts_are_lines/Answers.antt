@@ -1,8 +1,0 @@
-use Rattle.urlpattern_init.proofs.UrlTexts.{ascii_of_urls, texts_of_urls}
-use Rattle.urlpattern_init.proofs.constructor_laws.texts_are_lines.Goals as goal
-
-pub returns-clause-lines : goal.returns-clause-lines
-returns-clause-lines c = texts_of_urls c.args.url.now c.as_str.ensures.valid
-
-pub returns-clause-ascii : goal.returns-clause-ascii
-returns-clause-ascii c = ascii_of_urls c.args.url.now c.as_str.ensures.valid

@@ -1,4 +1,0 @@
-pub mod InputValues
-pub mod Trees
-pub mod InputJson
-pub mod ReadResults

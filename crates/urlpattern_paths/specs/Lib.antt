@@ -1,3 +1,0 @@
-pub mod PathCaptures
-pub mod PathsAlone
-pub mod Templates

@@ -1,8 +1,0 @@
-use Rattle.std.proofs.Common.{take}
-use Rattle.std.specs.Prelude.{All}
-use Rattle.urlpattern_pattern.specs.KeptMeanings.{HasMeaningIn}
-use Rattle.urlpattern_pattern.proofs.pattern.UrlPattern.has_meaning.Given as goal
-
--- The components before this one have a meaning.
-abbrev pub invariant-loop-name : goal.invariant-loop-name
-invariant-loop-name g l = All (λ name. HasMeaningIn l.self name) (take l.name-index l.name-items)

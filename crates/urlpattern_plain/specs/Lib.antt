@@ -1,3 +1,0 @@
-pub mod Values
-pub mod PatternJson
-pub mod Plain

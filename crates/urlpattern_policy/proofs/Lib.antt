@@ -1,4 +1,0 @@
-pub mod DecisionLemmas
-mod SpellingExamples
-pub mod SpellingLaws
-pub mod SpellingLemmas

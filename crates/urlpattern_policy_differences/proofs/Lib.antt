@@ -1,9 +1,0 @@
-pub mod AlikeLaws
-pub mod AskedTexts
-pub mod ComparingLemmas
-pub mod DeadLaws
-pub mod DecidedLemmas
-pub mod FoundLaws
-pub mod HostLines
-pub mod LineLemmas
-pub mod MeantLemmas

@@ -1,2 +1,0 @@
-pub mod AlikeDecisions
-pub mod Comparing

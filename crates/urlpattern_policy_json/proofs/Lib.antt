@@ -1,3 +1,0 @@
-pub mod ReadingExamples
-pub mod RoundTrip
-pub mod TreeLemmas

@@ -1,3 +1,0 @@
-pub mod PolicyTrees
-pub mod PolicyViews
-pub mod ReadPolicies

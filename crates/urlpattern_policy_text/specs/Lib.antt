@@ -1,5 +1,0 @@
-pub mod PolicyJson
-pub mod PolicyTexts
-pub mod Statements
-pub mod WrittenJson
-pub mod WrittenPolicies

@@ -1,4 +1,0 @@
-pub mod NameLists
-pub mod OutcomeLemmas
-pub mod PrintedTexts
-pub mod RegexpTexts

@@ -1,4 +1,0 @@
-pub mod Generated
-pub mod Neighbours
-pub mod NormalForms
-pub mod WrittenParts

@@ -1,4 +1,0 @@
-pub mod CompileLemmas
-pub mod FetchLemmas
-pub mod PatternLemmas
-pub mod RuleExamples

@@ -1,4 +1,0 @@
-pub mod ConditionLemmas
-pub mod ReadingExamples
-pub mod RoundTrip
-pub mod WritingLemmas

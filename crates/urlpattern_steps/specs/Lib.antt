@@ -1,5 +1,0 @@
-pub mod Walk
-pub mod FailedStates
-pub mod AddedCaptures
-pub mod Table
-pub mod ReadSteps

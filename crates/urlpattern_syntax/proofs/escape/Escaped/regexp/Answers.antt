@@ -1,7 +1,0 @@
-use Rattle.std.proofs.Common.{refl}
-use Rattle.urlpattern_syntax.specs.Writing.{escaped_text}
-use Rattle.urlpattern_syntax.proofs.escape.Escaped.regexp.Goals as goal
-
-pub returns : goal.returns
-unfolding escaped_text
-returns c = refl

@@ -1,3 +1,0 @@
-pub mod CommonUrlLemmas
-pub mod ReachLemmas
-pub mod UnlikeLemmas

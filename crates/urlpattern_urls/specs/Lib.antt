@@ -1,3 +1,0 @@
-pub mod CommonUrls
-pub mod Unlike
-pub mod UrlReaching

@@ -1,4 +1,0 @@
-pub mod ByteLemmas
-pub mod SetTests
-pub mod ValueLemmas
-pub mod ValueExamples

@@ -1,2 +1,0 @@
-pub mod EncodedValues
-pub mod LawsOfValues

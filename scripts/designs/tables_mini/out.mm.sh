@@ -1,0 +1,1 @@
+python3 /work/tables/out.sync.py /work/tables/out.mini/m urlpat_matching && python3 /work/scripts/check.py /work/tables/out.mini/m urlpat_matching check "$@"

@@ -1,0 +1,4 @@
+"""made1000.py > FILE: 1,000 made routes of 40 resources by 25 kinds; of each resource five are never reached."""
+res=['users','groups','teams','orders','invoices','payments','refunds','products','prices','carts','coupons','shipments','addresses','reviews','messages','threads','files','folders','projects','tasks','milestones','comments','labels','events','webhooks','tokens','sessions','roles','policies','audits','reports','exports','imports','jobs','queues','alerts','metrics','dashboards','charts','plans']
+kinds=['','/:id','/:id/edit','/:id/history','/:id/history/:version','/:id/members','/:id/members/:member','/:id/members/:member/role','/:id/tags','/:id/tags/:tag','/:id/notes','/:id/notes/:note','/:id/files/*','/:id/archive','/:id/restore','/search','/search/:query','/export.:format','/batch','/count','/by-name/:name','/by-date/:year-:month','/latest','/latest/:n','/*']
+print('\n'.join(f'/v1/{r}{k}' for r in res for k in kinds))
