@@ -5,8 +5,8 @@
 pub enum PolicyCommand<'m, 'w> {
     /// Decides about URLs: these, or if there are none the lines of standard input.
     Decide(&'w str, &'m [&'w str]),
-    /// Finds the faults of the file.
-    Check(&'w str),
+    /// Finds what is wrong with the files.
+    Check(&'m [&'w str]),
     /// Compares the old policy and the new one.
     Diff(&'w str, &'w str),
 }

@@ -154,18 +154,18 @@ fn decisions_of<R: RegExp>(
 {
     let mut decisions = Vec::new(alloc);
     for index in 0..urls.len() {
-        let decision = decision_of(alloc, policy, url_at(urls, index))?;
+        let decision = decision_of(alloc, policy, word_at(urls, index))?;
         decisions.push(decision)?;
     }
     Ok(decisions)
 }
 
-/// Returns the URL at the index.
-fn url_at<'u>(urls: &[&'u str], index: usize) -> &'u str
-    requires { index < length urls.now }
-    ensures { slice_get (map (λ url. url.now) urls.now) index ≡ Some result.now }
+/// Returns the word at the index.
+pub(crate) fn word_at<'w>(words: &[&'w str], index: usize) -> &'w str
+    requires { index < length words.now }
+    ensures { slice_get (map (λ word. word.now) words.now) index ≡ Some result.now }
 {
-    urls[index]
+    words[index]
 }
 
 /// Prints decisions. Returns the exit status.

@@ -64,7 +64,10 @@ fn policy_in<R: RegExp>(alloc: Global, bytes: &[u8]) -> Result<UrlPolicy<R>, NoP
 }
 
 /// Returns the policy that a text is, as JSON or as lines, or why it is none.
-fn policy_in_lines_or_json<R: RegExp>(alloc: Global, text: &str) -> Result<UrlPolicy<R>, NoPolicy>
+pub(crate) fn policy_in_lines_or_json<R: RegExp>(
+    alloc: Global,
+    text: &str,
+) -> Result<UrlPolicy<R>, NoPolicy>
     ensures policy { IfOk result (IsPolicyIn R.RegExp text.now) }
     ensures refused { IfErr result (IsNoPolicyIn R.RegExp text.now) }
 {
@@ -76,7 +79,7 @@ fn policy_in_lines_or_json<R: RegExp>(alloc: Global, text: &str) -> Result<UrlPo
 }
 
 /// Whether a text is read as JSON: after white space it begins with an opening brace.
-fn is_json(text: &str) -> bool
+pub(crate) fn is_json(text: &str) -> bool
     ensures { result ≡ is_json text.now }
 {
     begins_object(text.trim())

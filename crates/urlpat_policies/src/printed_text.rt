@@ -1,6 +1,5 @@
 //! What is found of policies, as text.
 
-use crate::policy_file::NoPolicy;
 use std::alloc::{AllocError, Global};
 use urlpattern_compare::{Doubt, Reason};
 use urlpattern_components::ComponentName;
@@ -56,28 +55,6 @@ pub(crate) fn reason_words(alloc: Global, reason: DenyReason) -> Result<String, 
         DenyReason::Credentials => String::from_str(alloc, "credentials"),
         DenyReason::OutOfMemory => String::from_str(alloc, "out of memory"),
     }
-}
-
-/// Returns a line for each reason why a file has no policy.
-pub fn faults_text(alloc: Global, refusal: &NoPolicy) -> Result<String, AllocError> {
-    let mut text = String::new(alloc);
-    match refusal {
-        NoPolicy::Unreadable(error) => writeln!(text, "{error}")?,
-        NoPolicy::NotUtf8 => text.push_str("the file is not UTF-8\n")?,
-        NoPolicy::NotJson(error) => writeln!(text, "{error}")?,
-        NoPolicy::Lines(faults) => {
-            for fault in faults {
-                writeln!(text, "{fault}")?;
-            }
-        }
-        NoPolicy::Parts(faults) => {
-            for fault in faults {
-                writeln!(text, "{fault}")?;
-            }
-        }
-        NoPolicy::OutOfMemory => text.push_str("out of memory\n")?,
-    }
-    Ok(text)
 }
 
 /// Returns what the new policy allows and the old one denies (`gained`), and the other way round

@@ -3,6 +3,7 @@
 use crate::doubts::doubts_of;
 use crate::fault_printing::fault_text;
 use crate::findings::{Compared, Findings, Reached};
+use crate::rewrite_rules::endless_fault;
 use crate::table_fault::{FaultReason, TableFault};
 use crate::unreached_printing::{line_at, numbers_of};
 use std::alloc::{AllocError, Global};
@@ -19,12 +20,14 @@ pub fn findings_text(
     let unreached = unreached_faults(alloc, &found.compared.reached)?;
     let contending = contending_faults(alloc, &found.compared)?;
     let doubts = doubts_of(alloc, &found.compared.reached)?;
+    let endless = endless_faults(alloc, &found.endless)?;
     let mut shown = Vec::new(alloc);
     push_shown(alloc, json, file, &found.rejected, &mut shown)?;
     push_shown(alloc, json, file, &unreached, &mut shown)?;
     push_shown(alloc, json, file, &doubts, &mut shown)?;
     push_shown(alloc, json, file, &contending, &mut shown)?;
     push_shown(alloc, json, file, &found.repeated, &mut shown)?;
+    push_shown(alloc, json, file, &endless, &mut shown)?;
     shown.sort_by_key(|one: &(u64, String)| one.0)?;
     let mut text = String::new(alloc);
     for one in &shown {
@@ -58,6 +61,18 @@ fn unreached_faults(alloc: Global, found: &Reached) -> Result<Vec<TableFault>, A
                 reason: FaultReason::Unreached(numbers_of(alloc, &found.lines, by)?),
             })?;
         }
+    }
+    Ok(faults)
+}
+
+/// The fault of rules in these lines, which lead from one to another without end. Empty if there
+/// are none.
+fn endless_faults(alloc: Global, lines: &[u64]) -> Result<Vec<TableFault>, AllocError> {
+    let mut faults = Vec::new(alloc);
+    if !lines.is_empty() {
+        let mut copy = Vec::new(alloc);
+        copy.extend_from_slice(lines)?;
+        faults.push(endless_fault(copy))?;
     }
     Ok(faults)
 }

@@ -1,0 +1,5 @@
+use Rattle.urlpat_policies.proofs.FindingLemmas.{found_in_file}
+use Rattle.urlpat_policies.proofs.findings.findings_in_file.Goals as goal
+
+pub returns-in-Ok : goal.returns-in-Ok
+returns-in-Ok g c = found_in_file g.R.RegExp (g.T.Tables.Has c.args.files.now) c.args.name.now c.in-Ok.bytes.items c.deref.result.now c.findings_in-found.result c.in-Ok.ensures c.deref.ensures.value c.findings_in-found.ensures
