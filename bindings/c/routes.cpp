@@ -63,7 +63,8 @@ int main() {
     const char *script = "https://example.com/sw.js";
     expect(static_routes.read(script, R"({"condition":{"urlPattern":"/(a"},"source":"x"})") == urlpattern::status::refused, "faults");
     auto faults = static_routes.faults();
-    expect(faults.size() == 2 && faults[0].reason == "is none of its names" && !faults[0].text, "a source");
+    const char *no_source = "is `x`, none of network, cache, fetch-event, race-network-and-fetch-handler, and no object with cacheName";
+    expect(faults.size() == 2 && faults[0].reason == no_source && !faults[0].text, "a source");
     expect(faults[1].text == "/(a" && faults[1].place.place.start == 1, "a pattern");
     expect(static_routes.read(script, R"({"condition":{"urlPattern":"/a"},"source":{"cacheName":"v1"}})") == urlpattern::status::done, "read");
     urlpattern::static_routes moved_routes = std::move(static_routes);

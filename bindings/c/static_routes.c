@@ -78,7 +78,7 @@ static void try_faults(void) {
                 "{\"condition\":{\"urlPattern\":\"/a/(b\"}},"
                 "{\"condition\":{\"urlPattern\":{\"search\":\":x\"}},\"source\":\"network\"},"
                 "{\"condition\":{\"or\":[{\"urlPattern\":\"/(x)\"}]},\"source\":\"cache\"}]", false) == URLPATTERN_REFUSED, "six faults");
-    fault(0, 0, URLPATTERN_MEMBER_REQUEST_MODE, URLPATTERN_FAULT_UNKNOWN_NAME, "is none of its names", NULL);
+    fault(0, 0, URLPATTERN_MEMBER_REQUEST_MODE, URLPATTERN_FAULT_UNKNOWN_NAME, "is `x`, none of cors, navigate, no-cors, same-origin", NULL);
     fault(1, 0, URLPATTERN_MEMBER_SOURCE, URLPATTERN_FAULT_NO_HANDLER, "needs a handler of fetch events", NULL);
     fault(2, 1, URLPATTERN_MEMBER_SOURCE, URLPATTERN_FAULT_MISSING, "is missing", NULL);
     expect(urlpattern_static_routes_fault(&routes, 3, buffer, BYTES, &length, &found) == URLPATTERN_DONE, "a pattern");

@@ -79,7 +79,8 @@ class Faults(unittest.TestCase):
             {"condition": {"urlPattern": {"baseURL": "//["}}, "source": "network"},
         ]
         mode, handler, text, name, base = self.faults(rules, has_handler=False)
-        self.assertEqual(mode, RouteFault(0, "requestMode", "is none of its names"))
+        listed = "is `x`, none of cors, navigate, no-cors, same-origin"
+        self.assertEqual(mode, RouteFault(0, "requestMode", listed))
         self.assertEqual(handler, RouteFault(0, "source", "needs a handler of fetch events"))
         self.assertEqual((text.rule, text.member, text.text), (0, "urlPattern", "/é(b"))
         self.assertEqual((text.place, text.component, text.in_base), ((2, 3), "pathname", False))

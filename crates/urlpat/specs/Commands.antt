@@ -17,12 +17,12 @@ use Rattle.urlpat_tables.specs.Checks.{Checks}
 use Rattle.urlpat_tables.specs.Unreached.{LeaveDoubts, Lists}
 use Rattle.urlpat_tables.specs.declared.findings.{Findings.Findings, Reached.Reached}
 use Rattle.urlpat_explain.specs.declared.explained.Explained.{Explained}
-use Rattle.urlpat_explain.specs.declared.outcome.Outcome.{Outcome}
+use Rattle.urlpat_explain.specs.declared.outcome.Outcomes.{Outcomes}
 
 -- Which file has which table, and how explanations and findings are printed.
 pub record Surroundings : Type 1 where
   pub Has : (name table : List ℕ) → Type 0
-  pub PrintsExplained : (json : Bool) → Explained → Option Outcome → (text : List ℕ) → Type 0
+  pub PrintsExplained : (json : Bool) → Explained → Option Outcomes → (text : List ℕ) → Type 0
   pub PrintsFindings : (json : Bool) → (file : List ℕ) → Findings → (text : List ℕ) → Type 0
   pub PrintsUnreached : (json : Bool) → Reached → (text : List ℕ) → Type 0
 
@@ -51,8 +51,8 @@ RunsCommand given flags (commands.Covers asked) status input old new =
 RunsCommand given flags (commands.Unreachable asked) status input old new =
     Lists given.Has (given.PrintsUnreached flags.json) flags.ignore_case asked status old new
 RunsCommand given flags (commands.Check asked) status input old new =
-    Checks given.Has (given.PrintsFindings flags.json) flags.ignore_case (option_copied asked.base)
-    (texts_view asked.files.now) status old new
+    Checks given.Has (given.PrintsFindings flags.json) asked.kind flags.ignore_case
+    (option_copied asked.base) (texts_view asked.files.now) status old new
 
 -- A command that does not fail may report something: that its input is no URL, that there is no
 -- link, or for which patterns it is not known whether they are ever the first match. `filter`,

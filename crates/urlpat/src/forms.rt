@@ -109,12 +109,14 @@ Example: urlpat first https://example.com/ /users/7 /about /users/:id",
 BASE is a URL for the patterns and the lines, or - for none; a word after the
 pattern that has a protocol is BASE. The lines are those of the files, or of
 standard input, which is also the file -. A line that is no URL does not match.
-If no line is selected, the status is 1. With -e or -f there is no PATTERN.
+If no line is selected, the status is 1. With -e or -f there is no PATTERN. The
+captures of several groups are printed with tabs between. With --json a line has
+the members `line` and `match`.
 
 Example: urlpat filter https://example.com/users/:id --group pathname.id",
         options: &[
             COMMON,
-            &["not", "count", "group"],
+            &["not", "count", "quiet", "group"],
             LINES,
             FIELDS,
             &[PATTERNS, PATTERN_FILES, INIT],
@@ -133,10 +135,12 @@ name; or - for standard input. A line with a tab is cut there, not at spaces.
 Lines that are empty or begin with # are skipped. BASE is a URL for the patterns
 and the lines, or - for none. The lines are those of the files, or of standard
 input, which is also the file -. For each line the number of the pattern's line,
-its name and its groups are printed with tabs between, or - if no pattern
-matches. If none matches any line, the status is 1. With --field each line is
-printed, with a further field: the name, or else the pattern. All files have the
-same fields, and none with a line end.
+its name, and the groups of components that are not * are printed with tabs
+between, or - if no pattern matches. If none matches any line, the status is 1.
+With --field each line is printed, with a further field `route`: the name, or
+else the pattern. All files have the same fields, and none with a line end. With
+--json a line has the members `line`, `match`, `name` and `number`. --summary
+prints how often, the number and the name, and - for lines without a match.
 
 Example: urlpat route routes.txt https://example.com/ urls.txt",
         options: &[COMMON, LINES, FIELDS, &["with-line", "summary"]],
@@ -167,8 +171,9 @@ Example: urlpat rewrite redirects.txt https://example.com/ urls.txt",
         usage: "urlpat explain [OPTIONS] PATTERN [BASE] [INPUT]",
         about: "Show the components of a pattern, and whether each matches",
         more: "\
-BASE is a URL for the pattern and the input, or - for none. If the input does
-not match, the status is 1.
+BASE is a URL for the pattern and the input, or - for none. A single URL is the
+input, and the base of a pattern that needs one; --base gives a base alone. If
+the input does not match, the status is 1. What differs in case matches with -i.
 
 Example: urlpat explain https://example.com/:id https://example.com/7",
         options: &[COMMON, &[INIT]],
@@ -183,7 +188,7 @@ Example: urlpat explain https://example.com/:id https://example.com/7",
         more: "\
 A group is named by its component, a dot and its name, or by its name alone if
 no other component has it. BASE is a URL for the pattern, or - for none. If
-there is no such URL, the status is 1.
+there is no such URL, the status is 1; if there is no such group, 2.
 
 Example: urlpat link https://example.com/users/:id id=7",
         options: &[&["base", "ignore-case", INIT]],
@@ -228,12 +233,15 @@ Example: urlpat unreachable routes.txt https://example.com/",
         more: "\
 A line is printed for each fault, with the file, the line and the column: for
 patterns that are rejected, or never the first match; for pairs of patterns
-whose order decides, with what both match; and for names that a table has twice.
-If there are faults, the status is 1; if that is not known, 2. TABLE is as that
-of `route`. BASE is a URL, as the last word or by --base; the word - is a TABLE.
+whose order decides, where neither covers the other, with what both match; and
+for names that a table has twice. If there are faults, the status is 1; if that
+is not known, 2. TABLE is as that of `route`, or with --rewrite as that of
+`rewrite`: then lines that have no rule are printed, and rules that lead from
+one to another without end, and no names. BASE is a URL, as the last word or by
+--base; the word - is a TABLE.
 
 Example: urlpat check routes.txt https://example.com/",
-        options: &[COMMON],
+        options: &[COMMON, &["rewrite"]],
         least: 1,
         most: usize::MAX,
         is_fixed: false,
@@ -244,17 +252,21 @@ Example: urlpat check routes.txt https://example.com/",
         about: "Decide about URLs by a policy, check it, or compare two",
         more: "\
 A file has lines such as `allow PATTERN` and `deny PATTERN`, or JSON. The first
-rule that matches decides; if none does, a URL is denied, or allowed by the line
-`default allow`. The line `base URL` gives the base of all patterns, and a line
-that begins with # is a comment. Rules are counted from 1.
+rule that matches decides. If none does, the line `default deny` or `default
+allow` decides, which may be the last; without it a URL is denied. The line
+`base URL` gives the base of all patterns: under it `deny *` is of its host
+alone. A line that begins with # is a comment. Rules are counted from 1.
 
-  decide FILE [URL..]  decide about URLs, or the lines of standard input; the
-                       status is 1 if one is denied
-  check FILE           print why the file is rejected; then it is 1
-  diff OLD NEW         print what only one policy allows; then it is 1
+  decide FILE [URL..]  decide about URLs, or the lines of standard input, which
+                       --with-line and --json print too; the status is 1 if one
+                       is denied
+  check FILE..         print why files are rejected, and which rules never
+                       decide; then it is 1, or 2 if that is not known
+  diff OLD NEW         print an example of what only NEW allows, and of what
+                       only OLD does; then it is 1
 
 Example: urlpat policy decide policy.txt https://example.com/users/7",
-        options: &[&["json"]],
+        options: &[&["with-line", "json"]],
         least: 2,
         most: usize::MAX,
         is_fixed: false,
@@ -262,17 +274,18 @@ Example: urlpat policy decide policy.txt https://example.com/users/7",
     Form {
         name: "routes",
         usage: "urlpat routes [OPTIONS] check|decide|diff FILE.. --script URL",
-        about: "Check the static routes of a service worker, decide by them, or compare two files",
+        about: "Check static routes of a worker, decide by them, or compare two",
         more: "\
 A file has what addRoutes() takes, in JSON; the file - is standard input. Rules
 are counted from 0. Sources are network, cache, {\"cacheName\": \"v1\"}, fetch-event
-and race-network-and-fetch-handler. Unknown members are ignored, as in browsers.
-The base of a pattern is the script; `new URLPattern({..})` has none, so give it
-here \"protocol\", \"hostname\" and \"port\", each as \"*\".
+and race-network-and-fetch-handler. The base of a pattern is the script, an
+absolute URL; `new URLPattern({..})` has no base, so give it here \"protocol\",
+\"hostname\" and \"port\", each as \"*\".
 
-  check FILE              print why a browser rejects the rules, or which rules
-                          never decide, or only outside of --scope; then the
-                          status is 1
+  check FILE              print why a browser rejects the rules, which members
+                          it does not know and ignores, and which rules never
+                          decide, or only outside of --scope; then the status
+                          is 1
   decide FILE METHOD URL  print the first rule that decides about the request,
                           whose --mode, --destination and --not-running may be
                           given; the status is 1 if none does
@@ -280,8 +293,8 @@ here \"protocol\", \"hostname\" and \"port\", each as \"*\".
                           the new rules; then it is 1
 
 If it is not known, the status is 2. `decide` and `diff` take any request, also
-one that the worker does not get. A navigation has --mode navigate and, by its
-kind, --destination document or iframe. No rule is like the source fetch-event.
+one that the worker does not get. With --mode navigate the destination is
+document, if no other one is given. No rule is like the source fetch-event.
 
 Example: urlpat routes check routes.json --script https://example.com/sw.js",
         options: &[&[

@@ -1,6 +1,6 @@
 //! The operands and options of the commands that read lines.
 
-use crate::operands::{Given, with_pattern, with_some_base};
+use crate::operands::{Given, is_like_pattern, with_pattern, with_some_base};
 use crate::options::{GROUP, PATTERN_FILES, PATTERNS};
 use clap::ArgMatches;
 use urlpat_matching::{
@@ -28,7 +28,8 @@ fn with_patterns<'m, 'w>(
     Some((GivenPatterns::Several(texts, files), words))
 }
 
-/// The arguments of `filter`, patterns and a base URL, and the operands after them.
+/// The arguments of `filter`, patterns and a base URL, and the operands after them. An operand for
+/// the base URL that is like a pattern is not accepted.
 pub(crate) fn filter_of<'m, 'w>(
     found: &'m ArgMatches<'w>,
     words: &'m [&'w str],
@@ -36,6 +37,9 @@ pub(crate) fn filter_of<'m, 'w>(
 ) -> Option<(Command<'m, 'w>, &'m [&'w str])> {
     let (patterns, rest) = with_patterns(found, words, given)?;
     let (base, files) = with_some_base(rest, given.base);
+    if given.base.is_none() && base.is_some_and(|word| is_like_pattern(word)) {
+        return None;
+    }
     let inverted = found.get_flag("not");
     let asked = FilterArguments {
         patterns,
@@ -81,12 +85,16 @@ fn style_of<'w>(found: &ArgMatches<'w>, json: bool, files: &[&str]) -> Option<Li
 }
 
 /// What `filter` prints. `None`: the options exclude each other.
-fn shape_of<'w>(found: &ArgMatches<'w>, json: bool, inverted: bool) -> Option<AskedShape<'w>> {
+fn shape_of<'m, 'w>(
+    found: &'m ArgMatches<'w>,
+    json: bool,
+    inverted: bool,
+) -> Option<AskedShape<'m, 'w>> {
     match (found.get_flag("count"), json, found.get_strs(GROUP)) {
         (false, false, None) => Some(AskedShape::Line),
         (true, false, None) => Some(AskedShape::Count),
         (false, true, None) if !inverted => Some(AskedShape::Json),
-        (false, false, Some([group])) if !inverted => Some(AskedShape::Group(*group)),
+        (false, false, Some(groups)) if !inverted => Some(AskedShape::Groups(groups)),
         _ => None,
     }
 }
@@ -159,7 +167,7 @@ fn route_shape_of(found: &ArgMatches<'_>, json: bool) -> Option<RouteShape> {
     match (found.get_flag("with-line"), json, found.get_flag("summary")) {
         (false, false, false) => Some(RouteShape::Rows),
         (true, false, false) => Some(RouteShape::RowsWithLines),
-        (false, true, false) => Some(RouteShape::Json),
+        (_, true, false) => Some(RouteShape::Json),
         (false, false, true) => Some(RouteShape::Summary(false)),
         _ => None,
     }

@@ -21,7 +21,7 @@ use line_operands::of_file;
 use operands::STANDARD_INPUT;
 use output::{Output, report_output};
 use parsing::{
-    Asked, COMPONENT_USAGE, FIRST_USAGE, MATCH_USAGE, asked_of, has_fixed_usage, misused,
+    Asked, COMPONENT_USAGE, FIRST_USAGE, MATCH_USAGE, asked_of, has_fixed_usage, is_quiet, misused,
     name_fixed, parse,
 };
 use printer::Printer;
@@ -118,7 +118,12 @@ fn run_words(rt: &HostRuntime, words: &[String]) -> u8 {
             Err(AllocError) => fail(&Error::OutOfMemory, &mut rt.stderr()),
         };
     };
-    match run_buffered(rt, asked) {
+    let ran = if is_quiet(&found) {
+        run_asked(rt, asked, &mut Output::new(io::sink()))
+    } else {
+        run_buffered(rt, asked)
+    };
+    match ran {
         Ok(status) => status,
         Err(_) => fail(&Error::OutOfMemory, &mut rt.stderr()),
     }
@@ -149,10 +154,19 @@ fn refuse(rt: &HostRuntime, words: &[String], error: &clap::Error) -> u8 {
     }
 }
 
-/// Runs a command, with buffered output. Returns the exit status. If errors are explained, reports
-/// why the output cannot be written.
+/// Runs a command, with buffered output. Returns the exit status.
 fn run_buffered(rt: &HostRuntime, asked: Asked<'_, '_>) -> io::Result<u8> {
     let mut out = Output::new(BufWriter::new(rt.alloc(), rt.stdout())?);
+    run_asked(rt, asked, &mut out)
+}
+
+/// Runs a command. Returns the exit status. If errors are explained, reports why the output cannot
+/// be written.
+fn run_asked<Out: Write>(
+    rt: &HostRuntime,
+    asked: Asked<'_, '_>,
+    out: &mut Output<Out>,
+) -> io::Result<u8> {
     let mut err = rt.stderr();
     // At a terminal a person reads the errors.
     let asked = shown(
@@ -161,7 +175,7 @@ fn run_buffered(rt: &HostRuntime, asked: Asked<'_, '_>) -> io::Result<u8> {
     );
     let files = HostFiles::new(rt);
     let status = match asked {
-        Asked::Command(arguments) => run_on_lines(&files, arguments, &mut out, &mut err)?,
+        Asked::Command(arguments) => run_on_lines(&files, arguments, out, &mut err)?,
         Asked::Policy(command, json) => {
             let mut input = BufReader::new(rt.alloc(), rt.stdin())?;
             run_on_policies::<PatternRegexp, _, _, _, _, _>(
@@ -171,7 +185,7 @@ fn run_buffered(rt: &HostRuntime, asked: Asked<'_, '_>) -> io::Result<u8> {
                 json,
                 command,
                 &mut input,
-                &mut out,
+                out,
                 &mut err,
             )
         }
@@ -182,7 +196,7 @@ fn run_buffered(rt: &HostRuntime, asked: Asked<'_, '_>) -> io::Result<u8> {
             json,
             script,
             command,
-            &mut out,
+            out,
             &mut err,
         ),
     };

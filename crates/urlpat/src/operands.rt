@@ -5,11 +5,12 @@ use crate::options::OPERANDS;
 use clap::ArgMatches;
 use urlpat_matching::{
     CheckArguments, Command, ComponentArguments, CoversArguments, ExplainArguments, FirstArguments,
-    GivenPattern, Kind, LinkArguments, MatchArguments, TableArguments,
+    GivenPattern, Kind, LinkArguments, MatchArguments, TableArguments, TableKind,
 };
 use urlpat_policies::PolicyCommand;
 use urlpat_routes::{AskedRequest, RouteCommand};
 use urlpattern::quirks::UrlPatternInit;
+use urlpattern_routes::{is_forbidden, is_method};
 
 /// The operand for no base URL.
 const NO_BASE: &str = "-";
@@ -55,7 +56,7 @@ pub(crate) fn command_of<'m, 'w>(
         "link" => link_of(words, given),
         "covers" => covers_of(words, given.base),
         "unreachable" => unreachable_of(words, given.base),
-        "check" => check_of(words, given.base),
+        "check" => check_of(found, words, given.base),
         _ => None,
     };
     Some((command?, given.none))
@@ -73,29 +74,27 @@ pub(crate) fn with_pattern<'m, 'w>(
     }
 }
 
-/// The command on policies with these operands: what is to be done, and files. `given` is the value
-/// of `--base`, which is not accepted.
+/// The command on policies with these operands: what is to be done, and files. `with_line` says
+/// whether decisions are to be printed with URLs. `given` is the value of `--base`, which is not
+/// accepted.
 pub(crate) fn policy_of<'m, 'w>(
     words: &'m [&'w str],
+    with_line: bool,
     given: Option<&'w str>,
 ) -> Option<PolicyCommand<'m, 'w>> {
     if given.is_some() {
         return None;
     }
-    let [action, file, rest @ ..] = words else {
-        return None;
-    };
-    match (*action, rest) {
-        ("decide", urls) => Some(PolicyCommand::Decide(file, urls)),
-        ("check", []) => Some(PolicyCommand::Check(file)),
-        ("diff", [new]) => Some(PolicyCommand::Diff(file, new)),
+    match (words, with_line) {
+        (["decide", file, urls @ ..], _) => Some(PolicyCommand::Decide(file, urls, with_line)),
+        (["check", files @ ..], false) if !files.is_empty() => Some(PolicyCommand::Check(files)),
+        (["diff", old, new], false) => Some(PolicyCommand::Diff(old, new)),
         _ => None,
     }
 }
 
 /// The command on static routes with these arguments: what is to be done, files, and of `decide` a
-/// method and a URL. Each option is of one command. A word with a slash is no method. `none` has no
-/// operands.
+/// method that a request may have and a URL. Each option is of one command. `none` has no operands.
 pub(crate) fn routes_of<'m, 'w>(
     found: &'m ArgMatches<'w>,
     none: &'m [&'w str],
@@ -109,18 +108,27 @@ pub(crate) fn routes_of<'m, 'w>(
     let is_plain = mode.is_none() && destination.is_none() && is_running;
     match (*action, rest) {
         ("check", []) if is_plain => Some(RouteCommand::Check(file, scope)),
-        ("decide", [method, url]) if scope.is_none() && !method.contains('/') => {
+        ("decide", [method, url])
+            if scope.is_none() && is_method(method) && !is_forbidden(method) => {
             let asked = AskedRequest {
                 method,
                 url,
                 mode: mode.unwrap_or("cors"),
-                destination: destination.unwrap_or(""),
+                destination: destination.unwrap_or(usual_destination(mode)),
                 is_running,
             };
             Some(RouteCommand::Decide(file, asked))
         }
         ("diff", [new]) if is_plain && scope.is_none() => Some(RouteCommand::Diff(file, new)),
         _ => None,
+    }
+}
+
+/// The destination of a request with this mode, if no other one is given.
+fn usual_destination(mode: Option<&str>) -> &'static str {
+    match mode {
+        Some("navigate") => "document",
+        _ => "",
     }
 }
 
@@ -158,6 +166,12 @@ pub(crate) fn with_some_base<'m, 'w>(
 /// Whether a word has the form of a base URL: it is `-`, or begins with a protocol.
 fn is_base(word: &str) -> bool {
     word == NO_BASE || begins_with_protocol(word)
+}
+
+/// Whether a word begins with a protocol and is like a pattern: it has a character that stands for
+/// other text there.
+pub(crate) fn is_like_pattern(word: &str) -> bool {
+    begins_with_protocol(word) && (word.contains(['*', '{', '(']) || word.contains("/:"))
 }
 
 /// Whether a word begins with a protocol, as a URL does.
@@ -267,7 +281,16 @@ fn unreachable_of<'m, 'w>(words: &'m [&'w str], given: Option<&'w str>) -> Optio
 
 /// The arguments of `check`: files, and a base URL, which is the last word if that begins with a
 /// protocol and none is given.
-fn check_of<'m, 'w>(words: &'m [&'w str], given: Option<&'w str>) -> Option<Command<'m, 'w>> {
+fn check_of<'m, 'w>(
+    found: &ArgMatches<'w>,
+    words: &'m [&'w str],
+    given: Option<&'w str>,
+) -> Option<Command<'m, 'w>> {
+    let kind = if found.get_flag("rewrite") {
+        TableKind::Rules
+    } else {
+        TableKind::Patterns
+    };
     let (files, base) = match (given, words) {
         (None, [files @ .., last]) if begins_with_protocol(last) => (files, Some(*last)),
         _ => (words, base_of(given.unwrap_or(NO_BASE))),
@@ -275,16 +298,21 @@ fn check_of<'m, 'w>(words: &'m [&'w str], given: Option<&'w str>) -> Option<Comm
     if files.is_empty() {
         return None;
     }
-    Some(Command::Check(CheckArguments { files, base }))
+    Some(Command::Check(CheckArguments { files, kind, base }))
 }
 
-/// The arguments of `explain`: a pattern, a base URL and an input. A single word after a pattern
-/// that needs no base URL is the input.
+/// The arguments of `explain`: a pattern, a base URL and an input. A single word after a pattern is
+/// the input, and also the base URL of a pattern that needs one.
 fn explain_of<'m, 'w>(words: &'m [&'w str], given: Given<'m, 'w>) -> Option<Command<'m, 'w>> {
     let (pattern, rest) = with_pattern(words, given)?;
     let (base, rest) = match rest {
-        [word] if *word != NO_BASE && is_absolute(pattern) && given.base.is_none() => {
-            (None, rest)
+        [word] if *word != NO_BASE && given.base.is_none() => {
+            let base = if is_absolute(pattern) {
+                None
+            } else {
+                Some(*word)
+            };
+            (base, rest)
         }
         _ => with_some_base(rest, given.base),
     };

@@ -34,15 +34,17 @@ const BY_COMPONENT: &str = "In place of PATTERN, by component (others match any 
 fn option<'a>(alloc: Global, id: &'a str) -> Result<Arg<'a>, AllocError> {
     let arg = Arg::new(alloc, id).long(id);
     match id {
-        "base" | "ignore-case" | "json" | "explain-errors" | "init" => common_option(arg, id),
-        "pattern" | "file" | "not" | "count" | "group" => selecting_option(arg, id),
+        "base" | "ignore-case" | "json" | "explain-errors" | "rewrite" | "init" => {
+            common_option(arg, id)
+        }
+        "pattern" | "file" | "not" | "count" | "quiet" | "group" => selecting_option(arg, id),
         "field" | "format" | "with-line" | "summary" => field_option(arg, id),
         "script" | "scope" | "mode" | "destination" | "not-running" => route_option(arg, id),
         _ => line_option(arg, id),
     }
 }
 
-/// The option with this id, one that most commands have, or `--init`.
+/// The option with this id, one that most commands have, or `--rewrite` or `--init`.
 fn common_option<'a>(arg: Arg<'a>, id: &str) -> Result<Arg<'a>, AllocError> {
     Ok(match id {
         "base" => arg
@@ -51,6 +53,7 @@ fn common_option<'a>(arg: Arg<'a>, id: &str) -> Result<Arg<'a>, AllocError> {
         "ignore-case" => flag(arg, "Ignore case in patterns").short('i'),
         "json" => flag(arg, "Print results as JSON"),
         "explain-errors" => flag(arg, "Print the reason and the place of an error"),
+        "rewrite" => flag(arg, "Each TABLE is one of `rewrite`"),
         _ => arg
             .value_name("JSON")
             .help("An init, such as {\"pathname\": \"/users/:id\"}")
@@ -73,10 +76,11 @@ fn selecting_option<'a>(arg: Arg<'a>, id: &str) -> Result<Arg<'a>, AllocError> {
         "count" => flag(arg, "Print how many lines are selected, and no line")
             .short('c')
             .conflicts_with("json")?,
+        "quiet" => flag(arg, "Print nothing: the status says if lines match").short('q'),
         _ => several(
             arg,
             "GROUP",
-            "Print what one group captured: pathname.id or id",
+            "Print captures: pathname.id or id; may repeat",
         )
         .conflicts_with_all(&["not", "count", "json"])?,
     })
@@ -87,7 +91,7 @@ fn field_option<'a>(arg: Arg<'a>, id: &str) -> Result<Arg<'a>, AllocError> {
     Ok(match id {
         "field" => arg
             .value_name("NAME|NUMBER")
-            .help("The URL's field: NAME by a header, else NUMBER")
+            .help("URL's field: a header's NAME, or NUMBER from 1")
             .conflicts_with_all(&["line-number", "with-filename"])?,
         "format" => arg
             .value_name("csv|tsv|json")
@@ -96,7 +100,7 @@ fn field_option<'a>(arg: Arg<'a>, id: &str) -> Result<Arg<'a>, AllocError> {
             .hide_possible_values(true)
             .requires_arg("field")?,
         "with-line" => flag(arg, "Print each line after the answer for it").conflicts_with_all(&[
-            "json", "field", "summary",
+            "field", "summary",
         ])?,
         _ => flag(arg, "Print how often each pattern matches first").conflicts_with_all(&[
             "json",
@@ -110,11 +114,11 @@ fn route_option<'a>(arg: Arg<'a>, id: &str) -> Result<Arg<'a>, AllocError> {
     Ok(match id {
         "script" => arg
             .value_name("URL")
-            .help("The URL of the worker's script, the base of all other URLs")
+            .help("The worker's script, the base of all other URLs")
             .required(true),
-        "scope" => arg.value_name("URL").help(
-            "The scope of the worker, by default the folder of its script",
-        ),
+        "scope" => arg
+            .value_name("URL")
+            .help("The worker's scope; else the folder of its script"),
         "mode" => arg
             .value_name("MODE")
             .help("The mode, such as navigate; else cors")
@@ -122,7 +126,7 @@ fn route_option<'a>(arg: Arg<'a>, id: &str) -> Result<Arg<'a>, AllocError> {
             .hide_possible_values(true),
         "destination" => arg
             .value_name("NAME")
-            .help("The destination, such as image; else that of fetch()")
+            .help("The destination, such as image; else by the mode")
             .value_parser(RouterAttribute::Destination.names())
             .hide_possible_values(true),
         _ => flag(arg, "The worker is not running"),

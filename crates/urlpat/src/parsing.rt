@@ -1,8 +1,8 @@
 //! Parses the words of the program.
 
 use crate::forms::{FORMS, Form, actions, command, program, short_form};
-use crate::operands::{Given, command_of, policy_of, routes_of, short_of};
-use crate::options::{GROUP, OPERANDS, PATTERN_FILES, PATTERNS};
+use crate::operands::{Given, command_of, is_like_pattern, policy_of, routes_of, short_of};
+use crate::options::{OPERANDS, PATTERN_FILES, PATTERNS};
 use clap::error::ErrorKind;
 use clap::{ArgMatches, Command as Parser, Error};
 use std::alloc::{AllocError, Global};
@@ -10,6 +10,7 @@ use urlpat_matching::{Arguments, Flags};
 use urlpat_policies::PolicyCommand;
 use urlpat_routes::RouteCommand;
 use urlpattern::quirks::UrlPatternInit;
+use urlpattern_routes::{is_forbidden, is_method};
 
 /// The usage of `component`, the first line that is printed if the words of the commands whose
 /// output is fixed are wrong.
@@ -88,7 +89,8 @@ pub fn asked_of<'m, 'w>(
                 return None;
             }
             let words = of_command.get_strs(OPERANDS)?;
-            let command = policy_of(words, found.get_str("base"))?;
+            let with_line = of_command.get_flag("with-line");
+            let command = policy_of(words, with_line, found.get_str("base"))?;
             let flags = flags_of(found, of_command)?;
             Some(Asked::Policy(command, flags.json))
         }
@@ -137,6 +139,11 @@ fn arguments_of<'m, 'w>(
         command,
         files,
     })
+}
+
+/// Whether the output is left out, so that the exit status alone is asked for.
+pub fn is_quiet(found: &ArgMatches<'_>) -> bool {
+    after_command(found).get_flag("quiet")
 }
 
 /// The arguments after the command, or all of them in the short form.
@@ -259,18 +266,33 @@ pub fn misused(alloc: Global, found: &ArgMatches<'_>, given: bool) -> Result<Err
         }
         None => {
             let message = match found.subcommand() {
-                Some(("routes", _)) => wrong_routes_use(words),
-                _ => wrong_use(after_command(found)),
+                Some(("policy", given)) if given.get_flag("with-line") => {
+                    String::from_str(alloc, wrong_line_use(words))?
+                }
+                Some(("routes", _)) => String::from_str(alloc, wrong_routes_use(words))?,
+                Some(("filter", _)) => wrong_filter_use(alloc, words.get(least))?,
+                _ => String::from_str(alloc, NOT_ITS_ARGUMENTS)?,
             };
-            parser.error(ErrorKind::WrongNumberOfValues, message)
+            parser.error(ErrorKind::WrongNumberOfValues, &message)
         }
     }
 }
 
-/// What is wrong with the arguments of a command that has neither too few nor too many operands.
-fn wrong_use(after: &ArgMatches<'_>) -> &'static str {
-    match after.get_strs(GROUP) {
-        Some([_, _, ..]) => "the argument '--group <GROUP>' cannot be used multiple times",
+/// What is wrong with the arguments of `filter`, which has not too few operands. `base` is the one
+/// after the pattern.
+fn wrong_filter_use(alloc: Global, base: Option<&&str>) -> Result<String, AllocError> {
+    match base {
+        Some(word) if is_like_pattern(word) => format!(in alloc;
+            "`{word}` would be BASE: give several patterns by -e, or a base by --base"
+        ),
+        _ => String::from_str(alloc, NOT_ITS_ARGUMENTS),
+    }
+}
+
+/// What is wrong with the arguments of `policy`, one of which is `--with-line`.
+fn wrong_line_use(words: &[&str]) -> &'static str {
+    match words {
+        ["check" | "diff", ..] => "only `decide` takes --with-line",
         _ => NOT_ITS_ARGUMENTS,
     }
 }
@@ -281,6 +303,10 @@ fn wrong_routes_use(words: &[&str]) -> &'static str {
         ["check", _] => "`check` takes no --mode, --destination and --not-running",
         ["check", ..] => "`check` takes one FILE",
         ["decide", _, method, _] if method.contains('/') => "METHOD comes before URL",
+        ["decide", _, method, _] if !is_method(method) => "METHOD is no method",
+        ["decide", _, method, _] if is_forbidden(method) => {
+            "METHOD is CONNECT, TRACE or TRACK, which no request has"
+        }
         ["decide", _, _, _] => "`decide` takes no --scope",
         ["decide", ..] => "`decide` takes FILE METHOD URL",
         ["diff", _, _] => "`diff` takes no --scope, --mode, --destination and --not-running",

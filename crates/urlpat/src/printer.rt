@@ -3,10 +3,10 @@
 ghost use Rattle.std.specs.Prelude.{⊤};
 
 use std::alloc::{AllocError, Global};
-use urlpat_explain::{Explained, ExplanationPrinter, Outcome, explanation_json, explanation_text};
+use urlpat_explain::{Explained, ExplanationPrinter, Outcomes, explanation_json, explanation_text};
 use urlpat_policies::{
-    NoPolicy, PolicyPrinter, decisions_json, decisions_text, difference_json, difference_text,
-    faults_json, faults_text,
+    PolicyFindings, PolicyPrinter, decisions_json, decisions_text, difference_json,
+    difference_text, policy_findings_text,
 };
 use urlpat_routes::{
     NoRoutes, RoutePrinter, RuleUse, decision_json, decision_text, refusal_json, refusal_text,
@@ -18,26 +18,26 @@ use urlpattern_policy::Decision;
 use urlpattern_policy_differences::PolicyDifference;
 use urlpattern_route_analysis::Decisions;
 use urlpattern_route_rules::RouterRules;
-use urlpattern_routes::RouterRule;
+use urlpattern_routes::{IgnoredMember, RouterRule};
 
 /// The printer of the program. Nothing is promised of its words.
 #[derive(Clone, Copy)]
 pub struct Printer;
 
 impl ExplanationPrinter for Printer {
-    ghost Prints = { λ printer json explained outcome text. ⊤ };
+    ghost Prints = { λ printer json explained outcomes text. ⊤ };
 
     fn print_explanation(
         &self,
         alloc: Global,
         json: bool,
         explained: &Explained<'_>,
-        outcome: Option<&Outcome<'_>>,
+        outcomes: Option<&Outcomes<'_>>,
     ) -> Result<String, AllocError> {
         if json {
-            explanation_json(alloc, explained, outcome)
+            explanation_json(alloc, explained, outcomes)
         } else {
-            explanation_text(alloc, explained, outcome)
+            explanation_text(alloc, explained, outcomes)
         }
     }
 }
@@ -68,9 +68,9 @@ impl FindingsPrinter for Printer {
 }
 
 impl PolicyPrinter for Printer {
-    ghost PrintsDecisions = { λ printer json decisions text. ⊤ };
+    ghost PrintsDecisions = { λ printer json with_line urls decisions text. ⊤ };
 
-    ghost PrintsFaults = { λ printer json refusal text. ⊤ };
+    ghost PrintsFindings = { λ printer json names found text. ⊤ };
 
     ghost PrintsDifference = { λ printer json difference text. ⊤ };
 
@@ -78,26 +78,25 @@ impl PolicyPrinter for Printer {
         &self,
         alloc: Global,
         json: bool,
+        with_line: bool,
+        urls: &[&str],
         decisions: &[Decision],
     ) -> Result<String, AllocError> {
         if json {
-            decisions_json(alloc, decisions)
+            decisions_json(alloc, urls, decisions)
         } else {
-            decisions_text(alloc, decisions)
+            decisions_text(alloc, with_line, urls, decisions)
         }
     }
 
-    fn print_faults(
+    fn print_findings(
         &self,
         alloc: Global,
         json: bool,
-        refusal: &NoPolicy,
+        names: &[&str],
+        found: &[PolicyFindings],
     ) -> Result<String, AllocError> {
-        if json {
-            faults_json(alloc, refusal)
-        } else {
-            faults_text(alloc, refusal)
-        }
+        policy_findings_text(alloc, json, names, found)
     }
 
     fn print_difference(
@@ -115,9 +114,9 @@ impl PolicyPrinter for Printer {
 }
 
 impl RoutePrinter for Printer {
-    ghost PrintsRefusal = { λ printer json refusal text. ⊤ };
+    ghost PrintsRefusal = { λ printer json refusal ignored text. ⊤ };
 
-    ghost PrintsUses = { λ printer json uses text. ⊤ };
+    ghost PrintsUses = { λ printer json rules ignored uses text. ⊤ };
 
     ghost PrintsDecision = { λ printer json decided text. ⊤ };
 
@@ -128,24 +127,27 @@ impl RoutePrinter for Printer {
         alloc: Global,
         json: bool,
         refusal: &NoRoutes,
+        ignored: &[IgnoredMember],
     ) -> Result<String, AllocError> {
         if json {
-            refusal_json(alloc, refusal)
+            refusal_json(alloc, refusal, ignored)
         } else {
-            refusal_text(alloc, refusal)
+            refusal_text(alloc, refusal, ignored)
         }
     }
 
-    fn print_uses(
+    fn print_uses<R: RegExp>(
         &self,
         alloc: Global,
         json: bool,
+        rules: &RouterRules<R>,
+        ignored: &[IgnoredMember],
         uses: &[RuleUse],
     ) -> Result<String, AllocError> {
         if json {
-            uses_json(alloc, uses)
+            uses_json(alloc, rules, ignored, uses)
         } else {
-            uses_text(alloc, uses)
+            uses_text(alloc, rules, ignored, uses)
         }
     }
 

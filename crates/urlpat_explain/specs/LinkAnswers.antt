@@ -38,6 +38,11 @@ LacksUrl pattern words (unlinked.NoLink error) =
     (error ≢ no_link.OutOfMemory) × RejectsLinkBy pattern words error
 LacksUrl pattern words unlinked.OutOfMemory = Unit {0}
 
+-- The reason is that the pattern has no URL with the texts that are given.
+abbrev pub IsNoLink : LinkError → Type 0
+IsNoLink (unlinked.NoLink error) = Unit {0}
+IsNoLink reason = ⊥
+
 -- ---- output
 
 -- `Is` is true of what the pattern that is given is compiled to, which keeps its parts.
@@ -56,10 +61,10 @@ WritesLink ignores asked old new =
     (url : Parts) × IsLinkBy pattern (texts_view asked.groups.now) url
     × Appends old new (serialize url ++ codes "\n")) ignores asked
 
--- The pattern has no URL with the texts that are given for its groups, or an argument gives no
--- group a text.
+-- The pattern has no URL with the texts that are given for its groups. Each argument gives a group
+-- a text.
 abbrev pub HasNoLink : (ignores : Bool) → LinkArguments → Type 0
 HasNoLink ignores asked =
     OfPattern (λ pattern.
-    (reason : LinkError) × (reason ≢ unlinked.OutOfMemory)
-    × LacksUrl pattern (texts_view asked.groups.now) reason) ignores asked
+    (error : NoLink) × (error ≢ no_link.OutOfMemory)
+    × RejectsLinkBy pattern (texts_view asked.groups.now) error) ignores asked

@@ -1,7 +1,7 @@
 //! An explanation as a line of JSON.
 
 use crate::explained::Explained;
-use crate::outcome::Outcome;
+use crate::outcome::Outcomes;
 use serde_json::{Map, Value, put};
 use std::alloc::{AllocError, Global};
 use urlpat_matching::json_line;
@@ -14,11 +14,11 @@ use urlpattern_inputs::json_writing::{put_optional, put_text};
 pub fn explanation_json(
     alloc: Global,
     explained: &Explained<'_>,
-    outcome: Option<&Outcome<'_>>,
+    outcomes: Option<&Outcomes<'_>>,
 ) -> Result<String, AllocError> {
     let mut members = Map::new(alloc);
     for name in ComponentName::all() {
-        let tree = component_tree(alloc, explained, outcome, name)?;
+        let tree = component_tree(alloc, explained, outcomes, name)?;
         put(&mut members, alloc, name.as_str(), tree)?;
     }
     let text = explained.text.as_deref();
@@ -31,7 +31,7 @@ pub fn explanation_json(
 fn component_tree(
     alloc: Global,
     explained: &Explained<'_>,
-    outcome: Option<&Outcome<'_>>,
+    outcomes: Option<&Outcomes<'_>>,
     name: ComponentName,
 ) -> Result<Value, AllocError> {
     let component = explained.pattern.get(name);
@@ -55,19 +55,35 @@ fn component_tree(
         put(&mut members, alloc, "start", Value::from(start))?;
         put(&mut members, alloc, "end", Value::from(end))?;
     }
-    if let Some(outcome) = outcome {
-        put_text(&mut members, alloc, "input", outcome.texts.get(name))?;
-        let captures = outcome.captures.get(name).as_deref();
-        put(
-            &mut members,
+    if let Some(outcomes) = outcomes {
+        put_outcome(
             alloc,
-            "matches",
-            Value::from(captures.is_some()),
+            &mut members,
+            &component.group_name_list,
+            outcomes,
+            name,
         )?;
-        let groups = groups_tree(alloc, &component.group_name_list, captures.unwrap_or(&[]))?;
-        put(&mut members, alloc, "groups", groups)?;
     }
     Ok(Value::Object(members))
+}
+
+/// Adds the outcome of the component `name`: its text, whether that matches, or does only if case
+/// is ignored, and the captures of the groups with these names.
+fn put_outcome(
+    alloc: Global,
+    members: &mut Map<String, Value>,
+    names: &[String],
+    outcomes: &Outcomes<'_>,
+    name: ComponentName,
+) -> Result<(), AllocError> {
+    put_text(members, alloc, "input", outcomes.own.texts.get(name))?;
+    let captures = outcomes.own.captures.get(name).as_deref();
+    put(members, alloc, "matches", Value::from(captures.is_some()))?;
+    if outcomes.differs_in_case(name) {
+        put(members, alloc, "differs_in_case", Value::from(true))?;
+    }
+    let groups = groups_tree(alloc, names, captures.unwrap_or(&[]))?;
+    put(members, alloc, "groups", groups)
 }
 
 /// An object with the capture of each group under its name, null for a group that took no part.

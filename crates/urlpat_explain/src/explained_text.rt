@@ -1,7 +1,7 @@
 //! An explanation as text: a line for each component, and notes.
 
 use crate::explained::Explained;
-use crate::outcome::Outcome;
+use crate::outcome::Outcomes;
 use std::alloc::{AllocError, Global};
 use std::fmt;
 use urlpattern_components::{ComponentName, Eight};
@@ -24,11 +24,11 @@ const EMPTY_PORT: &str = "the port is empty: only the default port of the protoc
 /// The note on a port that is removed since it is the default one.
 const DEFAULT_PORT: &str = "the port is the default port of the protocol, which a URL leaves out\n";
 
-/// An explanation, and the outcome for an input, if there is one that is a URL.
+/// An explanation, and the outcomes for an input, if there is one that is a URL.
 #[derive(Drop)]
 struct Shown<'a> {
     explained: &'a Explained<'a>,
-    outcome: Option<&'a Outcome<'a>>,
+    outcomes: Option<&'a Outcomes<'a>>,
 }
 
 /// Returns an explanation as text: a line for each component with its pattern, and, if there is an
@@ -36,16 +36,19 @@ struct Shown<'a> {
 pub fn explanation_text(
     alloc: Global,
     explained: &Explained<'_>,
-    outcome: Option<&Outcome<'_>>,
+    outcomes: Option<&Outcomes<'_>>,
 ) -> Result<String, AllocError> {
-    let shown = Shown { explained, outcome };
+    let shown = Shown {
+        explained,
+        outcomes,
+    };
     format!(in alloc; "{shown}")
 }
 
 impl fmt::Display for Shown<'_> {
     fn fmt<W: fmt::Write>(&self, f: &mut fmt::Formatter<W>) -> fmt::Result {
-        match self.outcome {
-            Some(outcome) => self.write_match_table(outcome, f)?,
+        match self.outcomes {
+            Some(outcomes) => self.write_match_table(outcomes, f)?,
             None => self.write_pattern_table(f)?,
         }
         self.write_places(f)?;
@@ -74,20 +77,20 @@ impl Shown<'_> {
     /// matches the text, and the captures.
     fn write_match_table<W: fmt::Write>(
         &self,
-        outcome: &Outcome<'_>,
+        outcomes: &Outcomes<'_>,
         f: &mut fmt::Formatter<W>,
     ) -> fmt::Result {
         let mut pattern_width = 0;
         let mut text_width = 0;
         for name in ComponentName::all() {
             pattern_width = pattern_width.max(length_of(self.pattern_cell(name)));
-            text_width = text_width.max(length_of(cell(outcome.texts.get(name))));
+            text_width = text_width.max(length_of(cell(outcomes.own.texts.get(name))));
         }
         for name in ComponentName::all() {
             write_cell(name.as_str(), NAME_WIDTH, f)?;
             write_cell(self.pattern_cell(name), pattern_width, f)?;
-            write_cell(cell(outcome.texts.get(name)), text_width, f)?;
-            self.write_verdict(outcome, name, f)?;
+            write_cell(cell(outcomes.own.texts.get(name)), text_width, f)?;
+            self.write_verdict(outcomes, name, f)?;
             f.write_str("\n")?;
         }
         Ok(())
@@ -98,15 +101,20 @@ impl Shown<'_> {
         cell(&self.explained.pattern.get(name).pattern_string)
     }
 
-    /// Writes whether the text of a component matches, and the captures of its groups if it does.
+    /// Writes whether the text of a component matches, or does only if case is ignored, and the
+    /// captures of its groups if it matches.
     fn write_verdict<W: fmt::Write>(
         &self,
-        outcome: &Outcome<'_>,
+        outcomes: &Outcomes<'_>,
         name: ComponentName,
         f: &mut fmt::Formatter<W>,
     ) -> fmt::Result {
-        let Some(captures) = outcome.captures.get(name) else {
-            return f.write_str("differs");
+        let Some(captures) = outcomes.own.captures.get(name) else {
+            return f.write_str(if outcomes.differs_in_case(name) {
+                "differs in case"
+            } else {
+                "differs"
+            });
         };
         f.write_str("matches")?;
         let names = &self.explained.pattern.get(name).group_name_list;

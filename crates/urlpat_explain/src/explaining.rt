@@ -4,17 +4,17 @@ ghost use Rattle.std.specs.Prelude.{◌≡◌, ◌≢◌, ◌⊎◌, ℕ, Bool, 
 ghost use Rattle.urlpat_explain.specs.Explained.{IsRead};
 ghost use Rattle.urlpat_explain.specs.Explanations.{Explains, HasNoUrl, IsAnswer, IsExplanation};
 ghost use Rattle.urlpat_explain.specs.declared.explained.Explained.{Explained};
-ghost use Rattle.urlpat_explain.specs.declared.outcome.Outcome.{Outcome};
+ghost use Rattle.urlpat_explain.specs.declared.outcome.Outcomes.{Outcomes};
 
 use crate::explained::Explained;
 use crate::given_init::given_init;
 use crate::noted::noted_of;
-use crate::outcome::{Outcome, outcome_of};
+use crate::outcome::{Outcomes, outcomes_of};
 use std::alloc::{AllocError, Global};
 use std::io::Write;
 use urlpat_matching::{
-    DONE, ExplainArguments, FAILED, Flags, NO_MATCH, compiled, fail, note_of, print, status_of,
-    write_refusal,
+    DONE, ExplainArguments, FAILED, Flags, GivenPattern, NO_MATCH, compiled, fail, note_of, print,
+    status_of, write_refusal,
 };
 use urlpattern_canonical::find_url;
 use urlpattern_compile::pattern_values;
@@ -27,21 +27,21 @@ use urlpattern_syntax::Error;
 
 /// A printer of explanations.
 pub trait ExplanationPrinter {
-    // `text` is how an explanation is printed, as JSON or not, with the outcome for an input, if
+    // `text` is how an explanation is printed, as JSON or not, with the outcomes for an input, if
     // there is one that is a URL.
-    ghost Prints: { Self → (json : Bool) → Explained → Option Outcome → (text : List ℕ) → Type 0 };
+    ghost Prints: { Self → (json : Bool) → Explained → Option Outcomes → (text : List ℕ) → Type 0 };
 
-    /// Returns an explanation as it is printed, as JSON or not. `outcome` is that for an input, if
-    /// there is one that is a URL.
+    /// Returns an explanation as it is printed, as JSON or not. `outcomes` are those for an input,
+    /// if there is one that is a URL.
     fn print_explanation(
         &self,
         alloc: Global,
         json: bool,
         explained: &Explained<'_>,
-        outcome: Option<&Outcome<'_>>,
+        outcomes: Option<&Outcomes<'_>>,
     ) -> Result<String, AllocError>
         ensures { IfOk result (λ text. Prints self.now json explained.now
-            (option_copied outcome.entry) (string_bytes text)) };
+            (option_copied outcomes.entry) (string_bytes text)) };
 }
 
 /// The output of `explain`, and the exit status, which says whether the pattern matches the input,
@@ -155,6 +155,7 @@ fn explanation_of<P: ExplanationPrinter>(
         printer,
         &explained,
         flags.json,
+        asked.pattern,
         asked.base,
         asked.input,
     );
@@ -163,16 +164,18 @@ fn explanation_of<P: ExplanationPrinter>(
 }
 
 /// The output for a pattern and an input, if there is one, and the exit status: `NO_MATCH` if the
-/// pattern does not match the input, or the input is not a URL.
+/// pattern does not match the input, or the input is not a URL. `pattern` is the pattern as it was
+/// given.
 fn answer<P: ExplanationPrinter>(
     alloc: Global,
     printer: &P,
     explained: &Explained<'_>,
     json: bool,
+    pattern: GivenPattern<'_, '_>,
     base: Option<&str>,
     input: Option<&str>,
 ) -> Result<Explanation, Error>
-    ensures text { IfOk result (IsAnswer (P.Prints printer.now json) explained.now
+    ensures text { IfOk result (IsAnswer (P.Prints printer.now json) pattern.entry explained.now
         (option_copied base.entry) (option_copied input.entry)) }
     ensures status { IfOk result (λ found. (found.status ≡ DONE) ⊎ (found.status ≡ NO_MATCH)) }
 {
@@ -188,8 +191,8 @@ fn answer<P: ExplanationPrinter>(
         });
     };
     let matched = explained.pattern.test_url(alloc, &url)?;
-    let outcome = outcome_of(alloc, explained.pattern, &url)?;
-    let text = printer.print_explanation(alloc, json, explained, Some(&outcome))?;
+    let outcomes = outcomes_of(alloc, explained.pattern, pattern, base, matched, &url)?;
+    let text = printer.print_explanation(alloc, json, explained, Some(&outcomes))?;
     Ok(Explanation {
         text,
         status: status_of(matched),

@@ -17,4 +17,4 @@ pub use explained_json::explanation_json;
 pub use explained_text::explanation_text;
 pub use explaining::{ExplanationPrinter, explain};
 pub use link_command::link;
-pub use outcome::Outcome;
+pub use outcome::{Outcome, Outcomes};

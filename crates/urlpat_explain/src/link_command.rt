@@ -1,10 +1,9 @@
 //! The command `link`: prints the URL of a pattern with given texts for its groups.
 
-ghost use Rattle.std.specs.Prelude.{◌≡◌, ◌≢◌, ◌⊎◌, ◌++◌, codes, IfErr, IfOk, OnOk};
+ghost use Rattle.std.specs.Prelude.{◌≡◌, ◌⊎◌, ◌++◌, codes, IfErr, IfOk, OnOk};
 ghost use Rattle.std.specs.Io.KnownBytes.{Appends};
 ghost use Rattle.url.specs.Parts.{serialize};
-ghost use Rattle.urlpat_explain.specs.LinkAnswers.{HasNoLink, IsLinkBy, LacksUrl, WritesLink};
-ghost use Rattle.urlpat_explain.specs.declared.link_command.LinkError.TheVariants as all_unlinked;
+ghost use Rattle.urlpat_explain.specs.LinkAnswers.{HasNoLink, IsLinkBy, IsNoLink, LacksUrl, WritesLink};
 ghost use Rattle.urlpat_matching.specs.Texts.{texts_view};
 
 use crate::given_words::{ArgumentError, given_by};
@@ -29,8 +28,9 @@ pub enum LinkError<'w> {
     OutOfMemory,
 }
 
-/// Runs `link`. Returns the exit status: `NO_MATCH` if there is no URL or an argument gives no
-/// group a text, which is reported to `err` with the reason.
+/// Runs `link`. Returns the exit status: `NO_MATCH` if there is no URL with the texts that are
+/// given, which is reported to `err` with the reason; `FAILED` also if an argument gives no group a
+/// text.
 pub fn link<Out: Write, Err: Write>(
     alloc: Global,
     asked: LinkArguments<'_, '_>,
@@ -61,16 +61,16 @@ pub fn link<Out: Write, Err: Write>(
     }
 }
 
-/// Reports why there is no URL. Returns the exit status: `FAILED` if memory ran out, else
-/// `NO_MATCH`.
+/// Reports why there is no URL. Returns the exit status: `NO_MATCH` if the pattern has none with
+/// the texts that are given.
 fn report<Err: Write>(reason: &LinkError<'_>, err: &mut Err) -> u8
     ensures status { (result ≡ NO_MATCH) ⊎ (result ≡ FAILED) }
-    ensures known { result ≡ NO_MATCH → reason.now ≢ all_unlinked.OutOfMemory }
+    ensures known { result ≡ NO_MATCH → IsNoLink reason.now }
 {
     let _ = write_reason(reason, err);
     match reason {
-        LinkError::Word(_) | LinkError::NoLink(_) => NO_MATCH,
-        LinkError::OutOfMemory => FAILED,
+        LinkError::NoLink(_) => NO_MATCH,
+        LinkError::Word(_) | LinkError::OutOfMemory => FAILED,
     }
 }
 

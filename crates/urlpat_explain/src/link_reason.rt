@@ -10,7 +10,7 @@ pub(crate) fn write_reason<Err: Write>(reason: &LinkError<'_>, err: &mut Err) ->
     match reason {
         LinkError::Word(word) => writeln!(
             err,
-            "urlpat: `{word}` gives nothing: write COMPONENT.NAME=VALUE, or NAME=VALUE where one component alone has that group"
+            "urlpat: `{word}` gives no group of the pattern a text: write NAME=VALUE, or COMPONENT.NAME=VALUE if several components have it"
         ),
         LinkError::NoLink(error) => write_refusal(error, err),
         LinkError::OutOfMemory => err.write_all(b"out of memory\n"),

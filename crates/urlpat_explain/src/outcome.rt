@@ -1,14 +1,16 @@
 //! The outcome of matching the texts of a URL, component by component.
 
-ghost use Rattle.std.specs.Prelude.{IfOk};
-ghost use Rattle.urlpat_explain.specs.Outcomes.{HasCaptures, IsOutcome};
+ghost use Rattle.std.specs.Prelude.{◌≡◌, ◌≢◌, IfOk, OnOk, option_copied};
+ghost use Rattle.urlpat_explain.specs.Outcomes.{AreOutcomes, HasCaptures, IsIgnoringCase, IsOutcome, differs_in_case};
 ghost use Rattle.urlpattern_components.specs.Eight.{at};
 ghost use Rattle.urlpattern_init.specs.Inheritance.{texts_of_url};
 ghost use Rattle.urlpattern_matches.specs.GroupTexts.{borrowed_texts};
 ghost use Rattle.urlpattern_pattern.specs.Patterns.{pattern_view};
+ghost use Rattle.urlpattern_syntax.specs.Errors.{ErrorView as errors, error_view};
 
 use std::alloc::Global;
 use url::Url;
+use urlpat_matching::{GivenPattern, compiled};
 use urlpattern_components::{ComponentName, Eight};
 use urlpattern_engine::PatternRegexp;
 use urlpattern_matches::url_texts;
@@ -25,10 +27,94 @@ pub struct Outcome<'u> {
     pub captures: Eight<Option<Vec<Option<&'u str>>>>,
 }
 
+/// The outcome for a URL, and the one where case is ignored.
+#[derive(Drop)]
+pub struct Outcomes<'u> {
+    /// The outcome of the pattern.
+    pub own: Outcome<'u>,
+    /// The outcome of the pattern if it is compiled to ignore case. `None`: the pattern matches the
+    /// URL as it is, or is rejected if it is to ignore case.
+    pub ignoring_case: Option<Outcome<'u>>,
+}
+
+impl Outcomes<'_> {
+    /// Whether a component differs in case alone: its text matches only if case is ignored.
+    pub fn differs_in_case(&self, name: ComponentName) -> bool
+        ensures { result ≡ differs_in_case self.now name }
+    {
+        match &self.ignoring_case {
+            Some(ignoring) => {
+                self.own.captures.get(name).is_none() && ignoring.captures.get(name).is_some()
+            }
+            None => false,
+        }
+    }
+}
+
+/// Matches each text of a URL by the pattern of its component, and if the URL does not match
+/// (`matched`) also by the pattern that ignores case, which is compiled as it was given.
+///
+/// The only error is that memory ran out.
+pub fn outcomes_of<'u>(
+    alloc: Global,
+    pattern: &UrlPattern<PatternRegexp>,
+    given: GivenPattern<'_, '_>,
+    base: Option<&str>,
+    matched: bool,
+    url: &'u Url,
+) -> Result<Outcomes<'u>, Error>
+    ensures { IfOk result (AreOutcomes given.entry (option_copied base.entry)
+        (pattern_view pattern.now) matched (texts_of_url url.now)) }
+{
+    let ignoring_case = outcome_ignoring_case(alloc, given, base, matched, url)?;
+    let own = outcome_of(alloc, pattern, url)?;
+    Ok(Outcomes { own, ignoring_case })
+}
+
+/// Matches each text of a URL that does not match (`matched`) by the pattern that ignores case.
+fn outcome_ignoring_case<'u>(
+    alloc: Global,
+    given: GivenPattern<'_, '_>,
+    base: Option<&str>,
+    matched: bool,
+    url: &'u Url,
+) -> Result<Option<Outcome<'u>>, Error>
+    ensures { IfOk result (IsIgnoringCase given.entry (option_copied base.entry) matched
+        (texts_of_url url.now)) }
+{
+    if matched {
+        return Ok(None);
+    }
+    match compiled(alloc, given, base, true) {
+        Ok(pattern) => {
+            let found = outcome_of(alloc, &pattern, url);
+            drop(pattern);
+            match found {
+                Ok(outcome) => Ok(Some(outcome)),
+                Err(error) => Err(error),
+            }
+        }
+        Err(error) => {
+            unless_memory(error)?;
+            Ok(None)
+        }
+    }
+}
+
+/// Returns the error if it is that memory ran out.
+fn unless_memory(error: Error) -> Result<(), Error>
+    ensures { OnOk result (error_view error ≢ errors.OutOfMemory) }
+{
+    match error {
+        Error::OutOfMemory => Err(Error::OutOfMemory),
+        _ => Ok(()),
+    }
+}
+
 /// Matches each text of a URL by the pattern of its component.
 ///
 /// The only error is that memory ran out.
-pub fn outcome_of<'u>(
+fn outcome_of<'u>(
     alloc: Global,
     pattern: &UrlPattern<PatternRegexp>,
     url: &'u Url,

@@ -5,7 +5,7 @@ use Rattle.std.specs.List.{list_any}
 use Rattle.std.specs.Prelude.{◌||◌}
 use Rattle.std.specs.Str.{IsUtf8, chars}
 use Rattle.std.specs.declared.alloc.Global.{Global}
-use Rattle.urlpattern_matches.proofs.MatchGroupLemmas.{chars-test}
+pub use Rattle.urlpattern_matches.proofs.MatchGroupLemmas.{chars-test}
 use Rattle.urlpattern_syntax.specs.Text.{text_of}
 
 -- A name is an element by its bytes exactly if it is one by its characters.

@@ -8,13 +8,13 @@ use Rattle.std.proofs.lemmas.Str.{encodes-chars}
 use Rattle.std.specs.Cmp.Lexicographic.{bytes_decides, nat_list_eq_equiv, on_texts, on_texts_equal, slice_cmp, texts_ties}
 use Rattle.std.specs.List.{AllByRecursion, Contains, dedup, flat_map}
 use Rattle.std.specs.List.Sorted.{IsPermutation, IsSorted, IsStrictlySortedBy}
-use Rattle.std.specs.Map.{keys_of}
+use Rattle.std.specs.Map.{keys_of, lookup}
 use Rattle.std.specs.Ordering.{nat_cmp, on}
-use Rattle.std.specs.Prelude.{IsSome, Option, String, encode_utf8_all, string_bytes}
+use Rattle.std.specs.Prelude.{IsSome, Option, Some, String, encode_utf8_all, string_bytes}
 use Rattle.std.specs.Str.{IsUtf8, chars}
 use Rattle.std.specs.declared.alloc.Global.{Global}
 use Rattle.urlpat_matching.proofs.MatchLemmas.{bytes_of_text}
-use Rattle.urlpat_matching.specs.GroupLines.{AreNames, group_bytes, named_group_line, group_line}
+use Rattle.urlpat_matching.specs.GroupLines.{AreGroups, AreNames, group_bytes, named_group}
 use Rattle.urlpattern_matches.specs.BorrowedMatches.{pattern_captures_view, groups_view}
 use Rattle.urlpattern_matches.specs.ResultViews.{ResultView}
 use Rattle.urlpattern_syntax.specs.Text.{text_of}
@@ -111,6 +111,14 @@ names-in_order found component gathered sorted are_all permuted in_order =
           (IsStrictlySortedBy-dedup (on_texts bytes_at) (λ x y. texts_ties (bytes_at x) (bytes_at y)) sorted in_order);
     }
 
+-- A component without groups has no names.
+pub no-names : (found : UrlPatternCaptures) (component : ComponentName) → groups_view found component ≡ [] → AreNames (pattern_captures_view found component) []
+unfolding IsStrictlySortedBy
+no-names found component none = record {
+  are_all = λ other. subst (λ names. Contains names other ↔ IsSome ((pattern_captures_view found component).group other)) (ap keys_of none) (named-group found component other);
+  in_order = tt;
+}
+
 -- A single name is sorted.
 pub only-name : (found : UrlPatternCaptures) (component : ComponentName) (name : List ℕ) → keys_of (groups_view found component) ≡ name ∷ [] →
     AreNames (pattern_captures_view found component) (name ∷ [])
@@ -120,20 +128,31 @@ only-name found component name alone = record {
   in_order = (tt, tt);
 }
 
--- ---- lines
+-- A single group has its capture.
+pub only-capture : (found : UrlPatternCaptures) (component : ComponentName) (name : List ℕ) (capture : Option (List ℕ)) → groups_view found component ≡ (name, capture) ∷ [] →
+    (pattern_captures_view found component).group name ≡ Some capture
+only-capture found component name capture alone =
+    ap (λ groups. lookup (bytes_eq name) (reverse groups)) alone ∙ rw ((bytes_decides name name).1 refl) refl
 
--- The line of a single name.
-pub only-line : (component : List ℕ) (found : ResultView) (name : List ℕ) → IsUtf8 name →
-    flat_map (named_group_line component found) (chars name ∷ []) ≡ group_line component name (group_bytes (found.group (chars name)))
-only-line component found name utf8 =
-    append-nil (named_group_line component found (chars name))
-    ∙ ap (λ bytes. group_line component bytes (group_bytes (found.group (chars name)))) (encodes-chars name utf8)
+-- ---- texts of groups
 
--- The lines by the bytes of names are those by their characters.
-pub lines-of_texts : (component : List ℕ) (found : ResultView) (names : List (String Global)) →
-    flat_map (λ name. group_line component name (group_bytes (found.group (chars name)))) (map bytes_at names) ≡ flat_map (named_group_line component found) (texts names)
-lines-of_texts component found [] = refl
-lines-of_texts component found (name ∷ names) =
-    ap₂ (λ first rest. first ++ rest)
-    (ap (λ bytes. group_line component bytes (group_bytes (found.group (text_at name)))) (bytes_of_text name (text_at name) refl))
-    (lines-of_texts component found names)
+module _ (text_of_group : (component name : List ℕ) → (capture : Option (List ℕ)) → List ℕ) (component : List ℕ) where
+  -- The text of a single group.
+  pub only-text : (found : UrlPatternCaptures) (of : ComponentName) (name : List ℕ) (capture : Option (List ℕ)) → keys_of (groups_view found of) ≡ chars name ∷ [] →
+      capture ≡ group_bytes ((pattern_captures_view found of).group (chars name)) → IsUtf8 name →
+      AreGroups text_of_group component (pattern_captures_view found of) (text_of_group component name capture)
+  only-text found of name capture alone is utf8 =
+      let result = pattern_captures_view found of in (
+        chars name ∷ [],
+        only-name found of (chars name) alone,
+        ap₂ (λ bytes it. text_of_group component bytes it) (sym (encodes-chars name utf8)) is ∙ sym (append-nil (named_group text_of_group component result (chars name))),
+      )
+
+  -- The texts by the bytes of names are those by their characters.
+  pub texts-of_names : (found : ResultView) (names : List (String Global)) →
+      flat_map (λ name. text_of_group component name (group_bytes (found.group (chars name)))) (map bytes_at names) ≡ flat_map (named_group text_of_group component found) (texts names)
+  texts-of_names found [] = refl
+  texts-of_names found (name ∷ names) =
+      ap₂ (λ first rest. first ++ rest)
+      (ap (λ bytes. text_of_group component bytes (group_bytes (found.group (text_at name)))) (bytes_of_text name (text_at name) refl))
+      (texts-of_names found names)

@@ -115,5 +115,7 @@ selected-most verdicts.Selected = omega arith
 selected-most verdicts.Passed = omega arith
 selected-most verdicts.NoUrl = omega arith
 selected-most verdicts.SelectedNoUrl = omega arith
+selected-most verdicts.NoField = omega arith
+selected-most verdicts.SelectedNoField = omega arith
 selected-most verdicts.NoLink = omega arith
 selected-most verdicts.Rejected = omega arith

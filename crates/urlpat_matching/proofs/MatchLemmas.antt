@@ -4,7 +4,7 @@ use Rattle.std.proofs.lemmas.List.{map-append, take_more}
 use Rattle.std.proofs.lemmas.Str.{encodes-chars, IsUtf8-string_bytes}
 use Rattle.std.specs.Prelude.{MatchOption, Option, None, Some, String, string_bytes, encode_utf8_all}
 use Rattle.std.specs.declared.alloc.Global.{Global}
-use Rattle.urlpat_matching.specs.GroupLines.{AreGroupLines, AreLines, named_results}
+use Rattle.urlpat_matching.specs.GroupLines.{AreAllGroups, AreGroups, AreLines, group_line, named_results}
 use Rattle.urlpat_matching.specs.MatchTexts.{IsMatchText, IsMatchTextBy, IsUnmatched, IsUnmatchedBy}
 use Rattle.urlpat_matching.specs.GivenPatterns.{IsPatternGiven}
 use Rattle.urlpat_matching.specs.declared.command.Flags.{Flags}
@@ -19,28 +19,28 @@ use Rattle.urlpattern_syntax.specs.Text.{text_of}
 
 -- ---- texts
 
--- The lines of a component are appended.
-pub lines-behind : (components : List (List ℕ × ResultView)) (component : List ℕ × ResultView) (lines more : List ℕ)
-    → AreLines components lines → AreGroupLines component.0 component.1 more → AreLines (components ++ component ∷ []) (lines ++ more)
-lines-behind [] component lines more none last = (more, [], ap (λ text. text ++ more) none ∙ sym (append-nil more), last, refl)
-lines-behind (first ∷ components) component lines more (own, others, split, group, rest) last = (
+-- The groups of some components go before those of others.
+pub groups-both : (text_of_group : (component name : List ℕ) → (capture : Option (List ℕ)) → List ℕ) (components others : List (List ℕ × ResultView)) (text more : List ℕ)
+    → AreAllGroups text_of_group components text → AreAllGroups text_of_group others more → AreAllGroups text_of_group (components ++ others) (text ++ more)
+groups-both text_of_group [] others text more none are = subst (λ them. AreAllGroups text_of_group others (them ++ more)) (sym none) are
+groups-both text_of_group (first ∷ components) others text more (own, rest, split, group, are) last = (
   own,
-  others ++ more,
-  ap (λ text. text ++ more) split ∙ append_assoc own others more,
+  rest ++ more,
+  ap (λ them. them ++ more) split ∙ append_assoc own rest more,
   group,
-  lines-behind components component others more rest last,
+  groups-both text_of_group components others rest more are last,
 )
 
 -- The lines of the next component go after those of the components before it.
 pub lines-next : (found : ComponentName → ResultView) (names : List ComponentName) (n : ℕ) (lines more : List ℕ) → n < length names
     → AreLines (named_results found (take n names)) lines
-    → AreGroupLines (name_text (get_or names n Protocol)) (found (get_or names n Protocol)) more
+    → AreGroups group_line (name_text (get_or names n Protocol)) (found (get_or names n Protocol)) more
     → AreLines (named_results found (take (n + 1) names)) (lines ++ more)
 lines-next found names n lines more within are own =
     let name = get_or names n Protocol in
     subst (λ components. AreLines components (lines ++ more))
     (sym (ap (named_results found) (take_more names n Protocol within) ∙ map-append (λ other. (name_text other, found other)) (take n names) (name ∷ [])))
-    (lines-behind (named_results found (take n names)) (name_text name, found name) lines more are own)
+    (groups-both group_line (named_results found (take n names)) ((name_text name, found name) ∷ []) lines more are (more, [], sym (append-nil more), own, refl))
 
 -- The bytes of a string are those of its characters.
 pub bytes_of_text : (string : String Global) (text : List ℕ) → text_of string ≡ text → string_bytes string ≡ encode_utf8_all text

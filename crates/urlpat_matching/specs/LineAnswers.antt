@@ -36,6 +36,7 @@ IsRejectedLine line = (longest < length line) ⊎ ¬ IsUtf8 (without_terminator 
 abbrev pub selected_by : Verdict → ℕ
 selected_by verdicts.Selected = 1
 selected_by verdicts.SelectedNoUrl = 1
+selected_by verdicts.SelectedNoField = 1
 selected_by verdict = 0
 
 module _ (Answers : LineRule) where

@@ -2,7 +2,7 @@
 ghost use Rattle.std.specs.Prelude.{◌≡◌, ◌+◌, ◌<◌, ◌^◌, ℕ, List, Option, IfOk, OnOk, option_copied};
 ghost use Rattle.std.specs.Io.KnownBytes.{Appends, Keeps};
 ghost use Rattle.urlpat_matching.specs.LineAnswers.{AppendsAnswer, AppendsAnswerTo, WritesInput, selected_by};
-ghost use Rattle.urlpat_matching.specs.LineLabels.{labelled};
+ghost use Rattle.urlpat_matching.specs.LineLabels.{label, labelled};
 ghost use Rattle.urlpat_matching.specs.declared.answers.Verdict.{Verdict};
 
 use crate::command::LineStyle;
@@ -24,6 +24,10 @@ pub enum Verdict {
     NoUrl,
     /// The line is selected, and not a URL.
     SelectedNoUrl,
+    /// The line is not selected, and lacks the field that has the URL, or the field is no text.
+    NoField,
+    /// The line is selected, and lacks the field that has the URL, or the field is no text.
+    SelectedNoField,
     /// The line is a URL, and not selected: the rule has no URL to write for it.
     NoLink,
     /// The line is not UTF-8, or too long.
@@ -51,13 +55,16 @@ pub trait Rule {
             written.old.items written.new.items) };
 }
 
-/// How many lines there are of each kind. A selected line that is not a URL is of two kinds.
+/// How many lines there are of each kind. A selected line that is not a URL, or lacks its field, is
+/// of two kinds.
 #[derive(Debug, Clone, Copy, PartialEq, Eq)]
 pub struct Tally {
     /// The number of lines that are selected.
     pub selected: u64,
     /// The number of lines that are not URLs.
     pub no_url: u64,
+    /// The number of lines that lack the field that has the URL.
+    pub no_field: u64,
     /// The number of lines for which the rule has no URL to write.
     pub no_link: u64,
     /// The number of lines that are not UTF-8, or too long.
@@ -108,6 +115,7 @@ pub fn answer_lines<In: BufRead, Out: Write, Err: Write, R: Rule>(
     let mut tally = Tally {
         selected: 0,
         no_url: 0,
+        no_field: 0,
         no_link: 0,
         rejected: 0,
     };
@@ -141,11 +149,27 @@ fn write_labelled<Out: Write>(
     if piece.is_empty() {
         return Ok(());
     }
-    let label = label_of(alloc, style, number)?;
-    write_piece(out, label.as_bytes())?;
+    write_label(alloc, style, number, out)?;
     write_piece(out, piece)?;
     flush_if(style.flushed, out)?;
     Ok(())
+}
+
+/// Writes the label of a line, if `style` asks for one. `number` is that of the line.
+fn write_label<Out: Write>(
+    alloc: Global,
+    style: LineStyle<'_>,
+    number: u64,
+    out: &mut Out,
+) -> Result<(), LinesError>
+    ensures { OnOk result (Appends (Out.contents out.old) (Out.contents out.new)
+        (label style.entry number)) }
+{
+    if !style.named && !style.numbered {
+        return Ok(());
+    }
+    let label = label_of(alloc, style, number)?;
+    write_piece(out, label.as_bytes())
 }
 
 /// Flushes the output, if `flushed`.
@@ -234,6 +258,15 @@ fn counted(tally: Tally, verdict: Verdict) -> Tally
         Verdict::SelectedNoUrl => Tally {
             selected: tally.selected + 1,
             no_url: tally.no_url.saturating_add(1),
+            ..tally
+        },
+        Verdict::NoField => Tally {
+            no_field: tally.no_field.saturating_add(1),
+            ..tally
+        },
+        Verdict::SelectedNoField => Tally {
+            selected: tally.selected + 1,
+            no_field: tally.no_field.saturating_add(1),
             ..tally
         },
         Verdict::NoLink => Tally {

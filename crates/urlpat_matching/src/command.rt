@@ -58,28 +58,28 @@ pub struct FirstArguments<'m, 'w> {
 
 /// What `filter` is asked to print for a selected line.
 #[derive(Clone, Copy, Debug)]
-pub enum AskedShape<'w> {
+pub enum AskedShape<'m, 'w> {
     /// The line itself.
     Line,
     /// Nothing: selected lines are counted.
     Count,
-    /// The capture of the group that the word names: by its component, a dot and its name, or by
-    /// its name alone.
-    Group(&'w str),
-    /// The match, as JSON.
+    /// The captures of the groups that the words name: each by its component, a dot and its name,
+    /// or by its name alone.
+    Groups(&'m [&'w str]),
+    /// The line and the match, as JSON.
     Json,
 }
 
 /// What `filter` prints for a selected line.
-#[derive(Clone, Copy, Debug)]
+#[derive(Debug, Drop)]
 pub enum Shape<'w> {
     /// The line itself.
     Line,
     /// Nothing: selected lines are counted.
     Count,
-    /// The capture of a group.
-    Group(ComponentName, &'w str),
-    /// The match, as JSON.
+    /// The captures of groups.
+    Groups(Vec<(ComponentName, &'w str)>),
+    /// The line and the match, as JSON.
     Json,
 }
 
@@ -155,7 +155,7 @@ pub struct FilterArguments<'m, 'w> {
     /// Whether the lines that do not match are selected, in place of those that match.
     pub inverted: bool,
     /// What is printed for a selected line.
-    pub shape: AskedShape<'w>,
+    pub shape: AskedShape<'m, 'w>,
     /// How lines are read and written.
     pub lines: LineArguments<'w>,
 }
@@ -203,11 +203,22 @@ pub struct TableArguments<'w> {
     pub base: Option<&'w str>,
 }
 
+/// What a line of a table has.
+#[derive(Clone, Copy, Debug, PartialEq, Eq)]
+pub enum TableKind {
+    /// A pattern, and perhaps its name.
+    Patterns,
+    /// A rule of `rewrite`: two patterns, and perhaps a status code.
+    Rules,
+}
+
 /// The arguments of `check`.
 #[derive(Clone, Copy, Debug)]
 pub struct CheckArguments<'m, 'w> {
     /// The names of the files that have tables.
     pub files: &'m [&'w str],
+    /// What a line of the tables has.
+    pub kind: TableKind,
     /// The base URL of the patterns.
     pub base: Option<&'w str>,
 }

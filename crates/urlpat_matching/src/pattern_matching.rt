@@ -3,10 +3,10 @@
 ghost use Rattle.std.specs.Map.{keys_of};
 ghost use Rattle.std.specs.Prelude.{◌≡◌, ◌++◌, ◌∷◌, [], map, option_copied, string_bytes, IfErr, IfOk, IfSome, OnOk};
 ghost use Rattle.std.specs.Str.{chars};
-ghost use Rattle.urlpat_matching.specs.GroupLines.{AreGroupLines, AreLines, AreNames, AppendsLines, group_bytes, all_named_results, group_line};
+ghost use Rattle.urlpat_matching.specs.GroupLines.{AreGroups, AreLines, AreNames, AppendsLines, group_bytes, all_named_results, group_line};
 ghost use Rattle.urlpat_matching.specs.MatchTexts.{FindsMatch, FindsMatchBy, ShowsMatch};
 ghost use Rattle.urlpat_matching.specs.GivenPatterns.{RejectsGiven};
-ghost use Rattle.urlpattern_matches.specs.BorrowedMatches.{pattern_captures_view, groups_view};
+ghost use Rattle.urlpattern_matches.specs.BorrowedMatches.{groups_view, pattern_captures_view};
 ghost use Rattle.urlpattern_components.specs.Eight.{name_text};
 ghost use Rattle.urlpattern_syntax.specs.Errors.{MemoryOr, OnlyOutOfMemory};
 ghost use Rattle.urlpattern_pattern.specs.Patterns.{pattern_view};
@@ -110,10 +110,11 @@ fn push_group_lines(
     name: ComponentName,
 ) -> Result<(), AllocError>
     ensures { OnOk result (AppendsLines
-        (AreGroupLines (name_text name) (pattern_captures_view found.now name)) text.old text.new) }
+        (AreGroups group_line (name_text name) (pattern_captures_view found.now name)) text.old
+        text.new) }
 {
-    if let Some(group) = only_group(found, name) {
-        push_group_line(text, name.as_str(), group, capture_of(found, name, group))?;
+    if let Some((group, capture)) = only_group(found, name) {
+        push_group_line(text, name.as_str(), group, capture)?;
         return Ok(());
     }
     let groups = sorted_names(alloc, found, name)?;
@@ -123,20 +124,30 @@ fn push_group_lines(
     Ok(())
 }
 
-/// The name of a component's only group. `None`: the component has no group, or several.
-fn only_group<'p>(found: &UrlPatternCaptures<'p, '_>, name: ComponentName) -> Option<&'p str>
-    ensures { IfSome result (λ group. keys_of (groups_view found.now name) ≡ chars group.now ∷ []) }
+/// The only group of a component: its name and its capture. `None`: the component has no group, or
+/// several.
+pub(crate) fn only_group<'p, 'u>(
+    found: &UrlPatternCaptures<'p, 'u>,
+    name: ComponentName,
+) -> Option<(&'p str, Option<&'u str>)>
+    ensures alone { IfSome result (λ group.
+        keys_of (groups_view found.now name) ≡ chars group.0.now ∷ []) }
+    ensures capture { IfSome result (λ group. option_copied group.1
+        ≡ group_bytes ((pattern_captures_view found.now name).group (chars group.0.now))) }
 {
     let mut groups = found.groups(name);
-    let (group, _) = groups.next()?;
+    let (group, capture) = groups.next()?;
     match groups.next() {
         Some(_) => None,
-        None => Some(group),
+        None => match capture {
+            Some(text) => Some((group, Some(text))),
+            None => Some((group, None)),
+        },
     }
 }
 
 /// The names of the groups of a component, each once, sorted by their bytes.
-fn sorted_names(
+pub(crate) fn sorted_names(
     alloc: Global,
     found: &UrlPatternCaptures<'_, '_>,
     name: ComponentName,

@@ -91,18 +91,22 @@ fn count_text(alloc: Global, style: LineStyle<'_>, selected: u64) -> Result<Stri
     Ok(text)
 }
 
-/// Reports how many lines were not URLs, had no URL to be written, or were rejected, if there are
-/// any.
+/// Reports how many lines were not URLs, lacked the field that has the URL, had no URL to be
+/// written, or were rejected, if there are any.
 fn report_tally<Err: Write>(tally: Tally, style: LineStyle<'_>, err: &mut Err) {
     let place = FilePlace(style.file);
     let Tally {
         selected: _,
         no_url,
+        no_field,
         no_link,
         rejected,
     } = tally;
     if no_url > 0 {
         let _ = writeln!(err, "urlpat: {place}lines that are no URL: {no_url}");
+    }
+    if no_field > 0 {
+        let _ = writeln!(err, "urlpat: {place}lines without the field: {no_field}");
     }
     if no_link > 0 {
         let _ = writeln!(err, "urlpat: {place}lines that have no new URL: {no_link}");

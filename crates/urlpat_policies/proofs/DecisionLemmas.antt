@@ -1,4 +1,4 @@
--- Lemmas on deciding about texts one by one.
+-- Lemmas on what is found of texts one by one, and on the output for lines.
 use Rattle.std.proofs.Common.{Bor, ◌≡◌, ◌∙◌, ◌≤◌, ◌+◌, ◌++◌, ◌∷◌, ◌==◌, ℕ, List, [], None, Option, Some, ap, append-nil, arith, length, map, slice_get, subst, sym, take, take_all}
 use Rattle.std.proofs.lemmas.List.{length-map, take_more}
 use Rattle.std.proofs.lemmas.Option.{get_or_from_slice_get, slice_get_within}
@@ -10,26 +10,25 @@ use Rattle.urlpat_matching.specs.LineAnswers.{LineRule, WritesAnswers, WritesInp
 use Rattle.urlpat_matching.specs.Status.{status_of}
 use Rattle.urlpat_matching.specs.declared.answers.Tally.{Tally}
 use Rattle.urlpat_matching.specs.declared.command.LineStyle.{LineStyle}
-use Rattle.urlpattern_matcher.specs.declared.regexp.RegExp.{Ghosts as Engine}
-use Rattle.urlpattern_policy.specs.declared.decision.Decision.{Decision}
-use Rattle.urlpattern_policy.specs.declared.policy.UrlPolicy.{UrlPolicy}
-use Rattle.urlpat_policies.specs.PolicyCommands.{IsDecided}
 
--- The decision about the next text is appended.
-pub decided_more : {E : Type 0} (engine : Engine E) (policy : UrlPolicy E) (urls : List (List ℕ)) (index : ℕ) (url : List ℕ) (old new : List Decision) (decision : Decision)
-    → slice_get urls index ≡ Some url → new ≡ old ++ decision ∷ [] → AllZip (IsDecided engine policy) (take index urls) old → IsDecided engine policy url decision → AllZip (IsDecided engine policy) (take (index + 1) urls) new
-decided_more engine policy urls index url old new decision there grown before is =
-    let taken : take (index + 1) urls ≡ take index urls ++ url ∷ [] =
-    take_more urls index url (slice_get_within urls index url there) ∙ ap (λ (one : List ℕ). take index urls ++ one ∷ []) (get_or_from_slice_get urls index url url there) in
-    subst (λ (them : List (List ℕ)). AllZip (IsDecided engine policy) them new) (sym taken)
-    (subst (λ (them : List Decision). AllZip (IsDecided engine policy) (take index urls ++ url ∷ []) them) (sym grown) (all_zipped_more (IsDecided engine policy) (take index urls) old url decision before is))
+-- The next text is the last of those that are taken.
+pub taken_more : (words : List (List ℕ)) (index : ℕ) (word : List ℕ) → slice_get words index ≡ Some word → take (index + 1) words ≡ take index words ++ word ∷ []
+taken_more words index word there =
+    take_more words index word (slice_get_within words index word there) ∙ ap (λ (one : List ℕ). take index words ++ one ∷ []) (get_or_from_slice_get words index word word there)
 
--- The decisions about all texts.
-pub all_decided : {E : Type 0} (engine : Engine E) (policy : UrlPolicy E) (urls : List (Bor (List ℕ))) (index : ℕ) (decisions : List Decision) → length urls ≤ index
-    → AllZip (IsDecided engine policy) (take index (map (λ url. url.now) urls)) decisions → AllZip (IsDecided engine policy) (map (λ url. url.now) urls) decisions
-all_decided engine policy urls index decisions past are =
-    let count : length (map (λ (url : Bor (List ℕ)). url.now) urls) ≡ length urls = length-map urls (λ url. url.now) in
-    subst (λ (them : List (List ℕ)). AllZip (IsDecided engine policy) them decisions) (take_all index (map (λ url. url.now) urls) (omega (arith, past, count))) are
+-- What is so of the next text is appended.
+pub zipped_more : {A : Type 0} (Is : List ℕ → A → Type 0) (words : List (List ℕ)) (index : ℕ) (word : List ℕ) (old new : List A) (one : A)
+    → slice_get words index ≡ Some word → new ≡ old ++ one ∷ [] → AllZip Is (take index words) old → Is word one → AllZip Is (take (index + 1) words) new
+zipped_more {A} Is words index word old new one there grown before is =
+    subst (λ (them : List (List ℕ)). AllZip Is them new) (sym (taken_more words index word there))
+    (subst (λ (them : List A). AllZip Is (take index words ++ word ∷ []) them) (sym grown) (all_zipped_more Is (take index words) old word one before is))
+
+-- All texts are taken.
+pub all_zipped : {A : Type 0} (Is : List ℕ → A → Type 0) (words : List (Bor (List ℕ))) (index : ℕ) (found : List A) → length words ≤ index
+    → AllZip Is (take index (map (λ word. word.now) words)) found → AllZip Is (map (λ word. word.now) words) found
+all_zipped Is words index found past are =
+    let count : length (map (λ (word : Bor (List ℕ)). word.now) words) ≡ length words = length-map words (λ word. word.now) in
+    subst (λ (them : List (List ℕ)). AllZip Is them found) (take_all index (map (λ word. word.now) words) (omega (arith, past, count))) are
 
 appends_kept : (old mid new : Option (List ℕ)) (written : List ℕ) → Appends old mid written → Appends mid new [] → Appends old new written
 appends_kept None mid new written first second = tt

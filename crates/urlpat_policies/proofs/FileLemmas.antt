@@ -10,12 +10,13 @@ use Rattle.urlpattern_policy_text.specs.PolicyJson.{IsPolicyOfJson}
 use Rattle.urlpattern_policy_text.specs.PolicyTexts.{IsPolicyOf}
 use Rattle.urlpattern_policy.specs.declared.policy.UrlPolicy.{UrlPolicy}
 use Rattle.urlpattern_matcher.specs.declared.regexp.RegExp.{Ghosts as Engine}
+use Rattle.urlpat_matching.specs.Tables.{without_mark}
 use Rattle.urlpat_policies.specs.PolicyFiles.{HasNoPolicy, HasPolicy, IsNoPolicyIn, IsNoPolicyInJson, IsNoPolicyInText, IsNoPolicyInTree, IsPolicyIn, IsPolicyInJson, IsUnread, is_json}
 use Rattle.urlpat_policies.specs.declared.policy_file.NoPolicy.{NoPolicy}
 use Rattle.urlpat_policies.specs.declared.policy_file.NoPolicy.TheVariants as refusals
 
 module _ {E : Type 0} (engine : Engine E) where
-  pub has_policy : (Has : List ℕ → Type 0) (bytes given : List ℕ) (result : Result (UrlPolicy E) NoPolicy) → Has bytes → given ≡ bytes → IfOk result (IsPolicyIn engine given) → IfOk result (HasPolicy engine Has)
+  pub has_policy : (Has : List ℕ → Type 0) (bytes given : List ℕ) (result : Result (UrlPolicy E) NoPolicy) → Has bytes → given ≡ without_mark bytes → IfOk result (IsPolicyIn engine given) → IfOk result (HasPolicy engine Has)
   has_policy Has bytes given (Ok policy) has same is = (bytes, has, subst (λ (it : List ℕ). IsPolicyIn engine it policy) same is)
   has_policy Has bytes given (Err refusal) has same is = tt
 
@@ -67,7 +68,7 @@ module _ {E : Type 0} (engine : Engine E) where
   refused_as_text bytes utf8 same (refusals.Parts found) is = absurd is
   refused_as_text bytes utf8 same refusals.OutOfMemory is = chosen bytes refusals.OutOfMemory false same utf8 is
 
-  pub refused_in_file : (Has : List ℕ → Type 0) (bytes : List ℕ) → Has bytes → (refusal : NoPolicy) → IsNoPolicyIn engine bytes refusal → HasNoPolicy engine Has refusal
+  pub refused_in_file : (Has : List ℕ → Type 0) (bytes : List ℕ) → Has bytes → (refusal : NoPolicy) → IsNoPolicyIn engine (without_mark bytes) refusal → HasNoPolicy engine Has refusal
   refused_in_file Has bytes has (refusals.Unreadable error) is = tt
   refused_in_file Has bytes has refusals.NotUtf8 is = (bytes, has, is)
   refused_in_file Has bytes has (refusals.NotJson error) is = (bytes, has, is)

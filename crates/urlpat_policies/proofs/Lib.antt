@@ -1,2 +1,3 @@
 pub mod DecisionLemmas
 pub mod FileLemmas
+pub mod FindingLemmas

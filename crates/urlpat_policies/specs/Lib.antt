@@ -1,2 +1,3 @@
 pub mod PolicyCommands
 pub mod PolicyFiles
+pub mod PolicyFindings

@@ -3,7 +3,7 @@
 -- and `new` are the output before and after, as far as they are known.
 use Rattle.std.specs.Io.KnownBytes.{Appends}
 use Rattle.std.specs.List.{AllZip, list_any}
-use Rattle.std.specs.Prelude.{◌≡◌, ◌==◌, ◌⊎◌, ◌||◌, ℕ, Bool, false, true, not, List, [], ◌∷◌, None, Option, Some, IfSome, map, if◌then◌else◌}
+use Rattle.std.specs.Prelude.{◌≡◌, ◌==◌, ◌||◌, ℕ, Bool, false, true, not, List, [], ◌∷◌, None, Option, Some, IfSome, map, if◌then◌else◌}
 use Rattle.urlpat_matching.specs.LineAnswers.{WritesAnswers}
 use Rattle.urlpat_matching.specs.Status.{status_of}
 use Rattle.urlpat_matching.specs.declared.answers.Verdict.{Verdict}
@@ -21,8 +21,9 @@ use Rattle.urlpattern_policy_differences.specs.declared.comparing.PolicyExcess.{
 use Rattle.urlpattern_policy_differences.specs.declared.comparing.PolicyExcess.TheVariants.{Texts, Unknown}
 use Rattle.urlpat_policies.specs.declared.command.PolicyCommand.{PolicyCommand}
 use Rattle.urlpat_policies.specs.declared.command.PolicyCommand.TheVariants as commands
-use Rattle.urlpat_policies.specs.PolicyFiles.{HasNoPolicy, HasPolicy, is_failure}
-use Rattle.urlpat_policies.specs.declared.policy_file.NoPolicy.{NoPolicy}
+use Rattle.urlpat_policies.specs.PolicyFiles.{HasPolicy}
+use Rattle.urlpat_policies.specs.PolicyFindings.{IsFoundIn, found_status}
+use Rattle.urlpat_policies.specs.declared.findings.PolicyFindings.{PolicyFindings}
 
 -- ---- decisions
 
@@ -42,13 +43,13 @@ verdict_of (Deny reason) = Selected
 
 -- The decision about the line's text is printed, or nothing if the line is rejected.
 abbrev pub IsLineDecided : {E : Type 0} → Engine E → UrlPolicy E
-    → (Prints : List Decision → List ℕ → Type 0) → (text : Option (List ℕ)) → (line : List ℕ)
-    → Verdict → (written : List ℕ) → Type 0
+    → (Prints : List (List ℕ) → List Decision → List ℕ → Type 0) → (text : Option (List ℕ))
+    → (line : List ℕ) → Verdict → (written : List ℕ) → Type 0
 IsLineDecided engine policy Prints None line verdict written =
     (verdict ≡ Rejected) × (written ≡ [])
 IsLineDecided engine policy Prints (Some text) line verdict written =
     (decision : Decision) × IsDecided engine policy text decision
-    × Prints (decision ∷ []) written × (verdict ≡ verdict_of decision)
+    × Prints (text ∷ []) (decision ∷ []) written × (verdict ≡ verdict_of decision)
 
 -- Nothing is written before the output for a line.
 abbrev pub unlabelled : LineStyle
@@ -57,7 +58,7 @@ unlabelled = record { file = None; named = false; numbered = false; flushed = fa
 -- The decisions about the lines of the reader are printed, if they are known. The exit status is 0
 -- if none of the lines is denied, else 1.
 abbrev pub DecidesLines : {E : Type 0} → Engine E → UrlPolicy E
-    → (Prints : List Decision → List ℕ → Type 0) → (status : ℕ)
+    → (Prints : List (List ℕ) → List Decision → List ℕ → Type 0) → (status : ℕ)
     → (input old new : Option (List ℕ)) → Type 0
 DecidesLines engine policy Prints status input old new =
     IfSome input (λ text. (denied : ℕ) × (status ≡ status_of (denied == 0))
@@ -72,16 +73,16 @@ PrintsDecided Prints decisions status old new =
 
 -- The decisions about the URLs are printed, in order.
 abbrev pub DecidesWords : {E : Type 0} → Engine E → UrlPolicy E
-    → (Prints : List Decision → List ℕ → Type 0) → (urls : List (List ℕ)) → (status : ℕ)
-    → (old new : Option (List ℕ)) → Type 0
+    → (Prints : List (List ℕ) → List Decision → List ℕ → Type 0) → (urls : List (List ℕ))
+    → (status : ℕ) → (old new : Option (List ℕ)) → Type 0
 DecidesWords engine policy Prints urls status old new =
     (decisions : List Decision) × AllZip (IsDecided engine policy) urls decisions
-    × PrintsDecided Prints decisions status old new
+    × PrintsDecided (Prints urls) decisions status old new
 
 -- The decisions about the URLs are printed, or if there are none those about the lines.
 abbrev pub DecidesBy : {E : Type 0} → Engine E → UrlPolicy E
-    → (Prints : List Decision → List ℕ → Type 0) → (urls : List (List ℕ)) → (status : ℕ)
-    → (input old new : Option (List ℕ)) → Type 0
+    → (Prints : List (List ℕ) → List Decision → List ℕ → Type 0) → (urls : List (List ℕ))
+    → (status : ℕ) → (input old new : Option (List ℕ)) → Type 0
 DecidesBy engine policy Prints [] status input old new =
     DecidesLines engine policy Prints status input old new
 DecidesBy engine policy Prints (url ∷ urls) status input old new =
@@ -89,28 +90,29 @@ DecidesBy engine policy Prints (url ∷ urls) status input old new =
 
 -- What `policy decide` prints, by the policy of the file.
 abbrev pub Decides : {E : Type 0} → Engine E → (Has : List ℕ → Type 0)
-    → (Prints : List Decision → List ℕ → Type 0) → (urls : List (List ℕ)) → (status : ℕ)
-    → (input old new : Option (List ℕ)) → Type 0
+    → (Prints : List (List ℕ) → List Decision → List ℕ → Type 0) → (urls : List (List ℕ))
+    → (status : ℕ) → (input old new : Option (List ℕ)) → Type 0
 Decides {E} engine Has Prints urls status input old new =
     (policy : UrlPolicy E) × HasPolicy engine Has policy
     × DecidesBy engine policy Prints urls status input old new
 
--- ---- faults
+-- ---- findings
 
--- Why a file has no policy is known, and printed.
-abbrev pub PrintsRefusal : (Prints : NoPolicy → List ℕ → Type 0) → NoPolicy
-    → (old new : Option (List ℕ)) → Type 0
-PrintsRefusal Prints refusal old new =
-    (is_failure refusal ≡ false) × (text : List ℕ) × Prints refusal text × Appends old new text
+-- What is found in files with these names is printed.
+abbrev pub PrintsFound : (Prints : List (List ℕ) → List PolicyFindings → List ℕ → Type 0)
+    → (names : List (List ℕ)) → List PolicyFindings → (status : ℕ) → (old new : Option (List ℕ))
+    → Type 0
+PrintsFound Prints names found status old new =
+    (text : List ℕ) × Prints names found text × (status ≡ found_status found)
+    × Appends old new text
 
--- What `policy check` prints: nothing, with the exit status 0, if the file has a policy; else why
--- the file has none, with the exit status 1.
-abbrev pub Checks : {E : Type 0} → Engine E → (Has : List ℕ → Type 0)
-    → (Prints : NoPolicy → List ℕ → Type 0) → (status : ℕ) → (old new : Option (List ℕ)) → Type 0
-Checks {E} engine Has Prints status old new =
-    ((status ≡ 0) × (new ≡ old) × ((policy : UrlPolicy E) × HasPolicy engine Has policy))
-    ⊎ ((status ≡ 1) × ((refusal : NoPolicy) × HasNoPolicy engine Has refusal
-    × PrintsRefusal Prints refusal old new))
+-- What `policy check` prints: what is found in each file.
+abbrev pub Checks : {E : Type 0} → Engine E → (Has : (name bytes : List ℕ) → Type 0)
+    → (Prints : List (List ℕ) → List PolicyFindings → List ℕ → Type 0)
+    → (names : List (List ℕ)) → (status : ℕ) → (old new : Option (List ℕ)) → Type 0
+Checks engine Has Prints names status old new =
+    (found : List PolicyFindings) × AllZip (IsFoundIn engine Has) names found
+    × PrintsFound Prints names found status old new
 
 -- ---- differences
 
@@ -163,20 +165,21 @@ Differs engine HasOld HasNew Prints status old new =
 
 -- ---- commands
 
--- How decisions, faults and differences are printed.
+-- How decisions, findings and differences are printed.
 pub record Printing : Type 1 where
-  pub PrintsDecisions : List Decision → (text : List ℕ) → Type 0
-  pub PrintsFaults : NoPolicy → (text : List ℕ) → Type 0
+  pub PrintsDecisions : (with_line : Bool) → (urls : List (List ℕ)) → List Decision
+      → (text : List ℕ) → Type 0
+  pub PrintsFindings : (names : List (List ℕ)) → List PolicyFindings → (text : List ℕ) → Type 0
   pub PrintsDifference : PolicyDifference → (text : List ℕ) → Type 0
 
 -- A command that does not fail ends with the status, and its output turns `old` into `new`. `Has`
 -- says which file has which bytes.
 abbrev pub Runs : {E : Type 0} → Engine E → (Has : (name bytes : List ℕ) → Type 0) → Printing
     → PolicyCommand → (status : ℕ) → (input old new : Option (List ℕ)) → Type 0
-Runs engine Has given (commands.Decide file urls) status input old new =
-    Decides engine (Has file.now) given.PrintsDecisions (map (λ url. url.now) urls.now) status
-    input old new
-Runs engine Has given (commands.Check file) status input old new =
-    Checks engine (Has file.now) given.PrintsFaults status old new
+Runs engine Has given (commands.Decide file urls with_line) status input old new =
+    Decides engine (Has file.now) (given.PrintsDecisions with_line) (map (λ url. url.now) urls.now)
+    status input old new
+Runs engine Has given (commands.Check files) status input old new =
+    Checks engine Has given.PrintsFindings (map (λ name. name.now) files.now) status old new
 Runs engine Has given (commands.Diff one other) status input old new =
     Differs engine (Has one.now) (Has other.now) given.PrintsDifference status old new

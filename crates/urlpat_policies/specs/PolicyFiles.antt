@@ -7,6 +7,7 @@ use Rattle.serde_json.specs.Read.{read as read_text}
 use Rattle.serde_json.specs.declared.error.Error.{Error}
 use Rattle.urlpattern_matcher.specs.declared.regexp.RegExp.{Ghosts as Engine}
 use Rattle.urlpattern_policy.specs.declared.policy.UrlPolicy.{UrlPolicy}
+use Rattle.urlpat_matching.specs.Tables.{without_mark}
 use Rattle.urlpattern_policy_text.specs.PolicyJson.{AreFaultsOfJson, IsPolicyOfJson}
 use Rattle.urlpattern_policy_text.specs.PolicyTexts.{AreFaultsOf, IsPolicyOf}
 use Rattle.urlpat_policies.specs.declared.policy_file.NoPolicy.{NoPolicy}
@@ -33,9 +34,10 @@ IsPolicyIn engine bytes policy =
     × MatchBool (is_json bytes) (IsPolicyInJson engine bytes policy)
     (IsPolicyOf engine bytes policy)
 
--- The file has the policy.
+-- The file has the policy. A byte order mark does not count.
 abbrev pub HasPolicy : {E : Type 0} → Engine E → (Has : List ℕ → Type 0) → UrlPolicy E → Type 0
-HasPolicy engine Has policy = (bytes : List ℕ) × Has bytes × IsPolicyIn engine bytes policy
+HasPolicy engine Has policy =
+    (bytes : List ℕ) × Has bytes × IsPolicyIn engine (without_mark bytes) policy
 
 -- Why the lines of a text are no policy.
 abbrev pub IsNoPolicyInText : {E : Type 0} → Engine E → (text : List ℕ) → NoPolicy → Type 0
@@ -64,11 +66,11 @@ IsNoPolicyIn engine bytes refusal =
     × MatchBool (is_json bytes) (IsNoPolicyInJson engine bytes refusal)
     (IsNoPolicyInText engine bytes refusal)
 
--- Why the file has no policy.
+-- Why the file has no policy. A byte order mark does not count.
 abbrev pub HasNoPolicy : {E : Type 0} → Engine E → (Has : List ℕ → Type 0) → NoPolicy → Type 0
 HasNoPolicy engine Has (refusals.Unreadable error) = Unit {0}
 HasNoPolicy engine Has refusal =
-    (bytes : List ℕ) × Has bytes × IsNoPolicyIn engine bytes refusal
+    (bytes : List ℕ) × Has bytes × IsNoPolicyIn engine (without_mark bytes) refusal
 
 -- Whether it is not known if the file has a policy: it cannot be read, or memory ran out.
 abbrev pub is_failure : NoPolicy → Bool

@@ -3,10 +3,11 @@
 /// A command on policies. Each policy is named by the file that has it.
 #[derive(Clone, Copy, Debug)]
 pub enum PolicyCommand<'m, 'w> {
-    /// Decides about URLs: these, or if there are none the lines of standard input.
-    Decide(&'w str, &'m [&'w str]),
-    /// Finds the faults of the file.
-    Check(&'w str),
+    /// Decides about URLs: these, or if there are none the lines of standard input. The flag says
+    /// whether each URL is printed after its decision.
+    Decide(&'w str, &'m [&'w str], bool),
+    /// Finds what is wrong with the files.
+    Check(&'m [&'w str]),
     /// Compares the old policy and the new one.
     Diff(&'w str, &'w str),
 }

@@ -17,11 +17,12 @@ pub(crate) struct Decider<'a, R: RegExp, P> {
     pub(crate) policy: &'a UrlPolicy<R>,
     pub(crate) printer: &'a P,
     pub(crate) json: bool,
+    pub(crate) with_line: bool,
 }
 
 impl<R: RegExp, P: PolicyPrinter> Rule for Decider<'_, R, P> {
     ghost Answers = { λ decider. IsLineDecided R.RegExp decider.policy.now
-        (P.PrintsDecisions decider.printer.now decider.json) };
+        (P.PrintsDecisions decider.printer.now decider.json decider.with_line) };
 
     fn answer(
         &self,
@@ -33,10 +34,10 @@ impl<R: RegExp, P: PolicyPrinter> Rule for Decider<'_, R, P> {
             return Ok(Verdict::Rejected);
         };
         let decision = decision_of(self.alloc, self.policy, text)?;
-        let decisions = [decision];
+        let (texts, decisions) = ([text], [decision]);
         let piece = self
             .printer
-            .print_decisions(self.alloc, self.json, &decisions)?;
+            .print_decisions(self.alloc, self.json, self.with_line, &texts, &decisions)?;
         let pushed = written.extend_from_slice(piece.as_bytes());
         drop(piece);
         pushed?;

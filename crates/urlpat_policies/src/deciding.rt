@@ -25,6 +25,7 @@ pub(crate) fn decide<R: RegExp, T: Tables, P: PolicyPrinter, In: BufRead, Out: W
     files: &T,
     printer: &P,
     json: bool,
+    with_line: bool,
     file: &str,
     urls: &[&str],
     input: &mut In,
@@ -33,7 +34,7 @@ pub(crate) fn decide<R: RegExp, T: Tables, P: PolicyPrinter, In: BufRead, Out: W
 ) -> u8
     ensures status { (result ≡ DONE) ⊎ (result ≡ NO_MATCH) ⊎ (result ≡ FAILED) }
     ensures answers { result ≢ FAILED → Decides R.RegExp (T.Has files.now file.now)
-        (P.PrintsDecisions printer.now json) (map (λ url. url.now) urls.now) result
+        (P.PrintsDecisions printer.now json with_line) (map (λ url. url.now) urls.now) result
         (In.remaining input.old) (Out.contents out.old) (Out.contents out.new) }
 {
     match read_policy::<T, R>(alloc, files, file) {
@@ -43,6 +44,7 @@ pub(crate) fn decide<R: RegExp, T: Tables, P: PolicyPrinter, In: BufRead, Out: W
                 policy: &policy,
                 printer,
                 json,
+                with_line,
             };
             let status = decide_by(&decider, urls, input, out, err);
             drop(policy);
@@ -67,7 +69,7 @@ fn decide_by<R: RegExp, P: PolicyPrinter, In: BufRead, Out: Write, Err: Write>(
 ) -> u8
     ensures status { (result ≡ DONE) ⊎ (result ≡ NO_MATCH) ⊎ (result ≡ FAILED) }
     ensures answers { result ≢ FAILED → DecidesBy R.RegExp decider.now.policy.now
-        (P.PrintsDecisions decider.now.printer.now decider.now.json)
+        (P.PrintsDecisions decider.now.printer.now decider.now.json decider.now.with_line)
         (map (λ url. url.now) urls.now) result
         (In.remaining input.old) (Out.contents out.old) (Out.contents out.new) }
 {
@@ -86,7 +88,7 @@ fn decide_lines<R: RegExp, P: PolicyPrinter, In: BufRead, Out: Write, Err: Write
 ) -> u8
     ensures status { (result ≡ DONE) ⊎ (result ≡ NO_MATCH) ⊎ (result ≡ FAILED) }
     ensures answers { result ≢ FAILED → DecidesLines R.RegExp decider.now.policy.now
-        (P.PrintsDecisions decider.now.printer.now decider.now.json) result
+        (P.PrintsDecisions decider.now.printer.now decider.now.json decider.now.with_line) result
         (In.remaining input.old) (Out.contents out.old) (Out.contents out.new) }
 {
     let style = LineStyle {
@@ -131,14 +133,14 @@ fn decide_words<R: RegExp, P: PolicyPrinter, Out: Write, Err: Write>(
 ) -> u8
     ensures status { (result ≡ DONE) ⊎ (result ≡ NO_MATCH) ⊎ (result ≡ FAILED) }
     ensures answers { result ≢ FAILED → DecidesWords R.RegExp decider.now.policy.now
-        (P.PrintsDecisions decider.now.printer.now decider.now.json)
+        (P.PrintsDecisions decider.now.printer.now decider.now.json decider.now.with_line)
         (map (λ url. url.now) urls.now) result (Out.contents out.old) (Out.contents out.new) }
 {
     let Ok(decisions) = decisions_of(decider.alloc, decider.policy, urls) else {
         report_memory(err);
         return FAILED;
     };
-    let status = print_decided(decider, &decisions, out, err);
+    let status = print_decided(decider, urls, &decisions, out, err);
     drop(decisions);
     status
 }
@@ -154,35 +156,41 @@ fn decisions_of<R: RegExp>(
 {
     let mut decisions = Vec::new(alloc);
     for index in 0..urls.len() {
-        let decision = decision_of(alloc, policy, url_at(urls, index))?;
+        let decision = decision_of(alloc, policy, word_at(urls, index))?;
         decisions.push(decision)?;
     }
     Ok(decisions)
 }
 
-/// Returns the URL at the index.
-fn url_at<'u>(urls: &[&'u str], index: usize) -> &'u str
-    requires { index < length urls.now }
-    ensures { slice_get (map (λ url. url.now) urls.now) index ≡ Some result.now }
+/// Returns the word at the index.
+pub(crate) fn word_at<'w>(words: &[&'w str], index: usize) -> &'w str
+    requires { index < length words.now }
+    ensures { slice_get (map (λ word. word.now) words.now) index ≡ Some result.now }
 {
-    urls[index]
+    words[index]
 }
 
-/// Prints decisions. Returns the exit status.
+/// Prints the decisions about URLs. Returns the exit status.
 fn print_decided<R: RegExp, P: PolicyPrinter, Out: Write, Err: Write>(
     decider: &Decider<'_, R, P>,
+    urls: &[&str],
     decisions: &[Decision],
     out: &mut Out,
     err: &mut Err,
 ) -> u8
     ensures status { (result ≡ DONE) ⊎ (result ≡ NO_MATCH) ⊎ (result ≡ FAILED) }
     ensures answers { result ≢ FAILED → PrintsDecided
-        (P.PrintsDecisions decider.now.printer.now decider.now.json) decisions.now result
-        (Out.contents out.old) (Out.contents out.new) }
+        (P.PrintsDecisions decider.now.printer.now decider.now.json decider.now.with_line
+        (map (λ url. url.now) urls.now))
+        decisions.now result (Out.contents out.old) (Out.contents out.new) }
 {
-    let printed = decider
-        .printer
-        .print_decisions(decider.alloc, decider.json, decisions);
+    let printed = decider.printer.print_decisions(
+        decider.alloc,
+        decider.json,
+        decider.with_line,
+        urls,
+        decisions,
+    );
     let Ok(text) = printed else {
         report_memory(err);
         return FAILED;

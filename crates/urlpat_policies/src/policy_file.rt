@@ -10,6 +10,7 @@ use serde_json::Value;
 use std::alloc::Global;
 use std::{io, str};
 use urlpat_commands::Tables;
+use urlpat_matching::without_mark;
 use urlpattern_matcher::regexp::RegExp;
 use urlpattern_policy::UrlPolicy;
 use urlpattern_policy_text::{
@@ -33,7 +34,8 @@ pub enum NoPolicy {
     OutOfMemory,
 }
 
-/// Reads the policy of a file, or returns why the file has none.
+/// Reads the policy of a file, or returns why the file has none. A byte order mark at its beginning
+/// is passed over.
 pub(crate) fn read_policy<T: Tables, R: RegExp>(
     alloc: Global,
     files: &T,
@@ -44,7 +46,7 @@ pub(crate) fn read_policy<T: Tables, R: RegExp>(
 {
     match files.read(name) {
         Ok(bytes) => {
-            let found = policy_in(alloc, &bytes);
+            let found = policy_in(alloc, without_mark(&bytes));
             drop(bytes);
             found
         }
@@ -64,7 +66,10 @@ fn policy_in<R: RegExp>(alloc: Global, bytes: &[u8]) -> Result<UrlPolicy<R>, NoP
 }
 
 /// Returns the policy that a text is, as JSON or as lines, or why it is none.
-fn policy_in_lines_or_json<R: RegExp>(alloc: Global, text: &str) -> Result<UrlPolicy<R>, NoPolicy>
+pub(crate) fn policy_in_lines_or_json<R: RegExp>(
+    alloc: Global,
+    text: &str,
+) -> Result<UrlPolicy<R>, NoPolicy>
     ensures policy { IfOk result (IsPolicyIn R.RegExp text.now) }
     ensures refused { IfErr result (IsNoPolicyIn R.RegExp text.now) }
 {
@@ -76,7 +81,7 @@ fn policy_in_lines_or_json<R: RegExp>(alloc: Global, text: &str) -> Result<UrlPo
 }
 
 /// Whether a text is read as JSON: after white space it begins with an opening brace.
-fn is_json(text: &str) -> bool
+pub(crate) fn is_json(text: &str) -> bool
     ensures { result ≡ is_json text.now }
 {
     begins_object(text.trim())

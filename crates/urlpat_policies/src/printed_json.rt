@@ -1,6 +1,5 @@
 //! What is found of policies, as JSON.
 
-use crate::policy_file::NoPolicy;
 use crate::printed_text::{decision_words, doubt_words, reason_words, rule_number, rule_words};
 use serde_json::{Map, Value, put};
 use std::alloc::{AllocError, Global};
@@ -9,21 +8,25 @@ use urlpattern_components::{ComponentName, Eight};
 use urlpattern_inputs::json_writing::put_text;
 use urlpattern_policy::{Decision, DenyReason};
 use urlpattern_policy_differences::{PolicyDifference, PolicyExcess};
-use urlpattern_policy_text::{JsonFault, PolicyFault};
+use urlpattern_urls::url_with;
 
-/// Returns a line of JSON for each decision: an object with `decision` and `reason`, and with
-/// `rule`, a number counted from 1, if one decides.
-pub fn decisions_json(alloc: Global, decisions: &[Decision]) -> Result<String, AllocError> {
+/// Returns a line of JSON for each decision about a URL: an object with `decision`, `reason` and
+/// the `url` as it was given, and with `rule`, a number counted from 1, if one decides.
+pub fn decisions_json(
+    alloc: Global,
+    urls: &[&str],
+    decisions: &[Decision],
+) -> Result<String, AllocError> {
     let mut text = String::new(alloc);
-    for decision in decisions {
-        let line = decision_line(alloc, *decision)?;
+    for (url, decision) in urls.iter().zip(decisions) {
+        let line = decision_line(alloc, url, *decision)?;
         text.push_str(&line)?;
     }
     Ok(text)
 }
 
-/// The line for a decision.
-fn decision_line(alloc: Global, decision: Decision) -> Result<String, AllocError> {
+/// The line for a decision about a URL.
+fn decision_line(alloc: Global, url: &str, decision: Decision) -> Result<String, AllocError> {
     let mut members = Map::new(alloc);
     let (effect, reason) = decision_words(alloc, decision)?;
     put_text(&mut members, alloc, "decision", effect)?;
@@ -31,63 +34,12 @@ fn decision_line(alloc: Global, decision: Decision) -> Result<String, AllocError
     if let Decision::Allow(Some(rule)) | Decision::Deny(DenyReason::Rule(rule)) = decision {
         put(&mut members, alloc, "rule", Value::from(rule_number(rule)))?;
     }
-    json_line(alloc, &Value::Object(members))
-}
-
-/// Returns a line of JSON for each reason why a file has no policy: an object with `message`, and
-/// in a text also with `line` and `column`.
-pub fn faults_json(alloc: Global, refusal: &NoPolicy) -> Result<String, AllocError> {
-    match refusal {
-        NoPolicy::Unreadable(error) => fault_line(alloc, &format!(in alloc; "{error}")?, None),
-        NoPolicy::NotUtf8 => fault_line(alloc, "the file is not UTF-8", None),
-        NoPolicy::NotJson(error) => {
-            let place = (error.line(), error.column());
-            fault_line(alloc, &format!(in alloc; "{error}")?, Some(place))
-        }
-        NoPolicy::Lines(faults) => lines_json(alloc, faults),
-        NoPolicy::Parts(faults) => parts_json(alloc, faults),
-        NoPolicy::OutOfMemory => fault_line(alloc, "out of memory", None),
-    }
-}
-
-/// A line of JSON for each fault of a text.
-fn lines_json(alloc: Global, faults: &[PolicyFault]) -> Result<String, AllocError> {
-    let mut text = String::new(alloc);
-    for fault in faults {
-        let message = format!(in alloc; "{fault}")?;
-        let line = fault_line(alloc, &message, Some((fault.line, fault.column)))?;
-        text.push_str(&line)?;
-    }
-    Ok(text)
-}
-
-/// A line of JSON for each fault of JSON.
-fn parts_json(alloc: Global, faults: &[JsonFault]) -> Result<String, AllocError> {
-    let mut text = String::new(alloc);
-    for fault in faults {
-        let line = fault_line(alloc, &format!(in alloc; "{fault}")?, None)?;
-        text.push_str(&line)?;
-    }
-    Ok(text)
-}
-
-/// The line for a fault, with its line and its column if there are any.
-fn fault_line(
-    alloc: Global,
-    message: &str,
-    place: Option<(usize, usize)>,
-) -> Result<String, AllocError> {
-    let mut members = Map::new(alloc);
-    if let Some((line, column)) = place {
-        put(&mut members, alloc, "column", Value::from(column))?;
-        put(&mut members, alloc, "line", Value::from(line))?;
-    }
-    put_text(&mut members, alloc, "message", message)?;
+    put_text(&mut members, alloc, "url", url)?;
     json_line(alloc, &Value::Object(members))
 }
 
 /// Returns how two policies differ, as a line of JSON: an object with `gained` and `lost`, each
-/// `null` or an object with `allowing`, `denying`, and `texts` or `unknown`, and with
+/// `null` or an object with `allowing`, `denying`, and `unknown` or `texts` and `url`, and with
 /// `same_spelling`.
 pub fn difference_json(alloc: Global, found: &PolicyDifference) -> Result<String, AllocError> {
     let mut members = Map::new(alloc);
@@ -108,6 +60,7 @@ fn excess_tree(alloc: Global, excess: &PolicyExcess) -> Result<Value, AllocError
             let texts = texts_tree(alloc, &found.texts)?;
             put_rules(alloc, &mut members, found.allowing, found.denying)?;
             put(&mut members, alloc, "texts", texts)?;
+            put(&mut members, alloc, "url", url_tree(alloc, &found.texts)?)?;
         }
         PolicyExcess::Nothing => return Ok(Value::Null),
         PolicyExcess::Unknown(found) => {
@@ -138,4 +91,12 @@ fn texts_tree(alloc: Global, texts: &Eight<String>) -> Result<Value, AllocError>
         put_text(&mut members, alloc, name.as_str(), texts.get(name))?;
     }
     Ok(Value::Object(members))
+}
+
+/// The URL that has the texts, or `null` if none does.
+fn url_tree(alloc: Global, texts: &Eight<String>) -> Result<Value, AllocError> {
+    match url_with(alloc, texts)? {
+        Ok(url) => Ok(Value::String(String::from_str(alloc, url.as_str())?)),
+        Err(_) => Ok(Value::Null),
+    }
 }

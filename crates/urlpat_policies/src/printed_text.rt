@@ -1,6 +1,5 @@
 //! What is found of policies, as text.
 
-use crate::policy_file::NoPolicy;
 use std::alloc::{AllocError, Global};
 use urlpattern_compare::{Doubt, Reason};
 use urlpattern_components::ComponentName;
@@ -8,15 +7,34 @@ use urlpattern_policy::{Decision, DenyReason};
 use urlpattern_policy_differences::{
     DifferenceDoubt, DifferentTexts, PolicyDifference, PolicyExcess,
 };
+use urlpattern_urls::url_with;
 
-/// Returns a line for each decision.
-pub fn decisions_text(alloc: Global, decisions: &[Decision]) -> Result<String, AllocError> {
+/// Returns a line for each decision about a URL. If `with_line`, the URL follows after a tab.
+pub fn decisions_text(
+    alloc: Global,
+    with_line: bool,
+    urls: &[&str],
+    decisions: &[Decision],
+) -> Result<String, AllocError> {
     let mut text = String::new(alloc);
-    for decision in decisions {
+    for (url, decision) in urls.iter().zip(decisions) {
         let (effect, reason) = decision_words(alloc, *decision)?;
-        writeln!(text, "{effect}: {reason}")?;
+        write!(text, "{effect}: {reason}")?;
+        if with_line {
+            push_in_line(&mut text, url)?;
+        }
+        text.push('\n')?;
     }
     Ok(text)
+}
+
+/// Appends a tab and a text. In place of each control character there is a space.
+fn push_in_line(text: &mut String, own: &str) -> Result<(), AllocError> {
+    text.push('\t')?;
+    for c in own.chars() {
+        text.push(if c.is_control() { ' ' } else { c })?;
+    }
+    Ok(())
 }
 
 /// Returns whether a decision allows, and why, in words.
@@ -58,28 +76,6 @@ pub(crate) fn reason_words(alloc: Global, reason: DenyReason) -> Result<String, 
     }
 }
 
-/// Returns a line for each reason why a file has no policy.
-pub fn faults_text(alloc: Global, refusal: &NoPolicy) -> Result<String, AllocError> {
-    let mut text = String::new(alloc);
-    match refusal {
-        NoPolicy::Unreadable(error) => writeln!(text, "{error}")?,
-        NoPolicy::NotUtf8 => text.push_str("the file is not UTF-8\n")?,
-        NoPolicy::NotJson(error) => writeln!(text, "{error}")?,
-        NoPolicy::Lines(faults) => {
-            for fault in faults {
-                writeln!(text, "{fault}")?;
-            }
-        }
-        NoPolicy::Parts(faults) => {
-            for fault in faults {
-                writeln!(text, "{fault}")?;
-            }
-        }
-        NoPolicy::OutOfMemory => text.push_str("out of memory\n")?,
-    }
-    Ok(text)
-}
-
 /// Returns what the new policy allows and the old one denies (`gained`), and the other way round
 /// (`lost`): a line for each, with texts that show it if there are any.
 pub fn difference_text(alloc: Global, found: &PolicyDifference) -> Result<String, AllocError> {
@@ -106,7 +102,7 @@ fn push_excess(
     }
 }
 
-/// Appends texts that one policy allows and the other denies.
+/// Appends texts that one policy allows and the other denies, and the URL that has them, if any.
 fn push_texts(
     alloc: Global,
     text: &mut String,
@@ -123,7 +119,10 @@ fn push_texts(
         let own = found.texts.get(name);
         writeln!(text, "{name}={own}")?;
     }
-    Ok(())
+    match url_with(alloc, &found.texts)? {
+        Ok(url) => writeln!(text, "url={url}"),
+        Err(_) => Ok(()),
+    }
 }
 
 /// Appends why it is not known what one policy allows and the other denies.

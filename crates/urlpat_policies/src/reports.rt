@@ -4,7 +4,7 @@ ghost use Rattle.std.specs.Prelude.{◌≡◌};
 ghost use Rattle.urlpat_policies.specs.PolicyFiles.{is_failure};
 
 use crate::policy_file::NoPolicy;
-use crate::printed_text::faults_text;
+use crate::printed_findings::refusal_text;
 use std::alloc::Global;
 use std::io;
 use std::io::Write;
@@ -35,7 +35,7 @@ fn report_unreadable<Err: Write>(file: &str, error: &io::Error, err: &mut Err) {
 
 /// Reports what is wrong with a file.
 fn report_faults<Err: Write>(alloc: Global, file: &str, refusal: &NoPolicy, err: &mut Err) {
-    match faults_text(alloc, refusal) {
+    match refusal_text(alloc, file, refusal) {
         Ok(text) => {
             let _ = writeln!(err, "urlpat: the file `{file}` is rejected");
             let _ = err.write_all(text.as_bytes());

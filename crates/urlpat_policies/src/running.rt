@@ -32,17 +32,17 @@ pub fn run_on_policies<R: RegExp, T: Tables, P: PolicyPrinter, In: BufRead, Out:
     ensures answers { result ≢ FAILED
         → Runs R.RegExp (T.Has files.now) (record {
           PrintsDecisions = P.PrintsDecisions printer.now json;
-          PrintsFaults = P.PrintsFaults printer.now json;
+          PrintsFindings = P.PrintsFindings printer.now json;
           PrintsDifference = P.PrintsDifference printer.now json;
         }) command.entry result (In.remaining input.old) (Out.contents out.old)
         (Out.contents out.new) }
 {
     match command {
-        PolicyCommand::Decide(file, urls) => decide::<R, T, P, In, Out, Err>(
-            alloc, files, printer, json, file, urls, input, out, err,
+        PolicyCommand::Decide(file, urls, with_line) => decide::<R, T, P, In, Out, Err>(
+            alloc, files, printer, json, with_line, file, urls, input, out, err,
         ),
-        PolicyCommand::Check(file) => {
-            check::<R, T, P, Out, Err>(alloc, files, printer, json, file, out, err)
+        PolicyCommand::Check(names) => {
+            check::<R, T, P, Out, Err>(alloc, files, printer, json, names, out, err)
         }
         PolicyCommand::Diff(old, new) => {
             diff::<R, T, P, Out, Err>(alloc, files, printer, json, old, new, out, err)

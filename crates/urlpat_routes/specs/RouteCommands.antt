@@ -5,7 +5,9 @@
 use Rattle.std.specs.Borrow.{Bor}
 use Rattle.std.specs.Io.KnownBytes.{Appends}
 use Rattle.std.specs.List.{list_any}
-use Rattle.std.specs.Prelude.{◌≡◌, ◌⊎◌, ◌||◌, ℕ, Bool, false, true, not, List, Option, Ok, Err, Some, codes, is_some, map, option_copied, unwrap_or}
+use Rattle.std.specs.Prelude.{◌≡◌, ◌⊎◌, ◌||◌, ◌&&◌, ◌==◌, ℕ, Bool, false, true, not, IsTrue, List, None, Option, Ok, Err, Some, codes, is_some, length, map, option_copied, unwrap_or}
+use Rattle.std.specs.Str.{bytes_eq}
+use Rattle.url.specs.Origin.{ascii_serialization, origin_of}
 use Rattle.url.specs.Parts.{Parts}
 use Rattle.urlpat_matching.specs.Status.{status_of}
 use Rattle.urlpattern_canonical.specs.BaseUrls.{IsUrlOf}
@@ -17,8 +19,9 @@ use Rattle.urlpattern_route_analysis.specs.declared.decisions.Decisions.{Decisio
 use Rattle.urlpattern_route_rules.specs.Fetches.{request_with, status as running_status}
 use Rattle.urlpattern_route_rules.specs.declared.rules.RouterRules.{RouterRules}
 use Rattle.urlpattern_routes.specs.Methods.{normalized}
+use Rattle.urlpattern_routes.specs.declared.ignored.IgnoredMember.{IgnoredMember}
 use Rattle.urlpattern_routes.specs.declared.rule.RouterRule.{RouterRule}
-use Rattle.urlpat_routes.specs.RouteFiles.{HasRoutes}
+use Rattle.urlpat_routes.specs.RouteFiles.{HasRoutes, HasRules}
 use Rattle.urlpat_routes.specs.RouteUses.{AreDifferences, AreUses, Rules, has_url, is_unknown, is_unused}
 use Rattle.urlpat_routes.specs.declared.command.AskedRequest.{AskedRequest}
 use Rattle.urlpat_routes.specs.declared.command.RouteCommand.{RouteCommand}
@@ -41,31 +44,61 @@ found_status false false = 0
 
 -- ---- faults
 
--- The exit status for the use of each rule: 1 if one decides about no request that the worker gets.
-abbrev pub uses_status : List RuleUse → ℕ
-uses_status found = found_status (list_any is_unused found) (list_any is_unknown found)
+-- Whether the URL's origin is opaque, which is written as null.
+abbrev pub has_opaque_origin : Parts → Bool
+has_opaque_origin url = bytes_eq (ascii_serialization (origin_of url)) (codes "null")
 
--- The use of each rule of a worker with this scope is printed. Without one, the scope is the folder
--- of the script.
-abbrev pub ShowsUses : {E : Type 0} → Engine E → (Prints : List RuleUse → (text : List ℕ) → Type 0)
-    → (script : List ℕ) → (scope : Option (List ℕ)) → Rules E → (status : ℕ)
+-- Whether two URLs have the same scheme and the same origin, which is not opaque.
+abbrev pub is_same_origin : (one other : Parts) → Bool
+is_same_origin one other =
+    bytes_eq one.scheme other.scheme && not (has_opaque_origin one)
+    && bytes_eq (ascii_serialization (origin_of one)) (ascii_serialization (origin_of other))
+
+-- The URL is that of a scope, by default the folder of the script. It has the script's origin.
+pub record IsScope (script : List ℕ) (scope : Option (List ℕ)) (url : Parts) : Type 0 where
+  pub own : Parts
+  pub is_url : IsUrlOf (unwrap_or scope (codes "./")) (Some script) url
+  pub is_script : IsUrlOf script None own
+  pub same_origin : IsTrue (is_same_origin own url)
+
+-- The exit status for the members that browsers ignore and the use of each rule: 1 if there is such
+-- a member, or a rule decides about no request that the worker gets.
+abbrev pub uses_status : List IgnoredMember → List RuleUse → ℕ
+uses_status ignored found =
+    found_status (not (length ignored == 0) || list_any is_unused found)
+    (list_any is_unknown found)
+
+-- How the members that browsers ignore and the use of each rule are printed.
+abbrev pub PrintingUses : Type 1
+PrintingUses = List RouterRule → List IgnoredMember → List RuleUse → (text : List ℕ) → Type 0
+
+-- The members that browsers ignore, and the use of each rule of a worker with this scope, are
+-- printed.
+abbrev pub ShowsUses : {E : Type 0} → Engine E → (Prints : PrintingUses) → (script : List ℕ)
+    → (scope : Option (List ℕ)) → List IgnoredMember → Rules E → (status : ℕ)
     → (old new : Option (List ℕ)) → Type 0
-ShowsUses engine Prints script scope rules status old new =
-    (url : Parts) × (found : List RuleUse)
-    × IsUrlOf (unwrap_or scope (codes "./")) (Some script) url
-    × AreUses engine url rules found × Shows (Prints found) (uses_status found) status old new
+ShowsUses engine Prints script scope ignored rules status old new =
+    (url : Parts) × (found : List RuleUse) × IsScope script scope url
+    × AreUses engine url rules found
+    × Shows (Prints (map (λ rule. rule.value) rules) ignored found) (uses_status ignored found)
+    status old new
+
+-- How it is printed why a file is rejected, with the members that browsers ignore.
+abbrev pub PrintingRefusal : Type 1
+PrintingRefusal = NoRoutes → List IgnoredMember → (text : List ℕ) → Type 0
 
 -- What `routes check` prints: why the file is rejected, with the exit status 1, or else the use of
--- each rule.
+-- each rule; and the members that browsers ignore.
 abbrev pub Checks : {E : Type 0} → Engine E → (Has : List ℕ → Type 0)
-    → (PrintsRefusal : NoRoutes → (text : List ℕ) → Type 0)
-    → (PrintsUses : List RuleUse → (text : List ℕ) → Type 0) → (script : List ℕ)
+    → (PrintsRefusal : PrintingRefusal) → (PrintsUses : PrintingUses) → (script : List ℕ)
     → (scope : Option (List ℕ)) → (status : ℕ) → (old new : Option (List ℕ)) → Type 0
 Checks {E} engine Has PrintsRefusal PrintsUses script scope status old new =
-    ((refusal : NoRoutes) × HasRoutes engine Has script (Err refusal)
-    × Shows (PrintsRefusal refusal) 1 status old new)
-    ⊎ ((rules : RouterRules E) × HasRoutes engine Has script (Ok rules)
-    × ShowsUses engine PrintsUses script scope rules.table.rules.items status old new)
+    ((refusal : NoRoutes) × (ignored : List IgnoredMember)
+    × HasRoutes engine Has script (Err refusal) ignored
+    × Shows (PrintsRefusal refusal ignored) 1 status old new)
+    ⊎ ((rules : RouterRules E) × (ignored : List IgnoredMember)
+    × HasRoutes engine Has script (Ok rules) ignored
+    × ShowsUses engine PrintsUses script scope ignored rules.table.rules.items status old new)
 
 -- ---- decisions
 
@@ -91,7 +124,7 @@ abbrev pub Decides : {E : Type 0} → Engine E → (Has : List ℕ → Type 0)
     → (Prints : Decided → (text : List ℕ) → Type 0) → (script : List ℕ) → AskedRequest
     → (status : ℕ) → (old new : Option (List ℕ)) → Type 0
 Decides {E} engine Has Prints script asked status old new =
-    (rules : RouterRules E) × (url : Parts) × HasRoutes engine Has script (Ok rules)
+    (rules : RouterRules E) × (url : Parts) × HasRules engine Has script rules
     × IsUrlOf asked.url.now (Some script) url
     × ShowsDecision engine Prints url asked rules.table.rules.items status old new
 
@@ -117,16 +150,16 @@ abbrev pub Differs : {E : Type 0} → Engine E → (HasOld HasNew : List ℕ →
     → (Prints : (ones others : List RouterRule) → Decisions → (text : List ℕ) → Type 0)
     → (script : List ℕ) → (status : ℕ) → (old new : Option (List ℕ)) → Type 0
 Differs {E} engine HasOld HasNew Prints script status old new =
-    (rules others : RouterRules E) × HasRoutes engine HasOld script (Ok rules)
-    × HasRoutes engine HasNew script (Ok others)
+    (rules others : RouterRules E) × HasRules engine HasOld script rules
+    × HasRules engine HasNew script others
     × ShowsDifference engine Prints rules.table.rules.items others.table.rules.items status old new
 
 -- ---- commands
 
 -- How faults, the use of rules, decisions and differences are printed.
 pub record Printing : Type 1 where
-  pub PrintsRefusal : NoRoutes → (text : List ℕ) → Type 0
-  pub PrintsUses : List RuleUse → (text : List ℕ) → Type 0
+  pub PrintsRefusal : PrintingRefusal
+  pub PrintsUses : PrintingUses
   pub PrintsDecision : Decided → (text : List ℕ) → Type 0
   pub PrintsDifference : (ones others : List RouterRule) → Decisions → (text : List ℕ) → Type 0
 

@@ -1,7 +1,9 @@
 //! What is found of static routes, as JSON.
 
 use crate::comparing::rule_at;
-use crate::printed_text::{doubt_words, fault_words, is_shown, takers_in, use_words};
+use crate::printed_text::{
+    NO_RULE, doubt_words, fault_words, ignored_words, is_shown, takers_in, use_words,
+};
 use crate::route_file::NoRoutes;
 use crate::rule_use::RuleUse;
 use serde_json::{Map, Value, put};
@@ -11,14 +13,19 @@ use urlpattern_inputs::json_writing::put_text;
 use urlpattern_matcher::regexp::RegExp;
 use urlpattern_route_analysis::{Decisions, JointDecision};
 use urlpattern_route_rules::{PatternFault, RouteFault, RouterRules};
-use urlpattern_routes::{RouterRule, RouterSource};
+use urlpattern_routes::{IgnoredMember, RouterRule, RouterSource};
 use urlpattern_urls::CommonUrl;
 
 /// Returns a line of JSON for each reason why a file is rejected: an object with `message`. If the
 /// file is not JSON, it also has `line` and `column`; for a rule, `rule`, its index, and `member`;
 /// for a pattern, also `component`, or `text`, `start` and `end`, the text that is rejected and the
-/// bytes of it that are at fault.
-pub fn refusal_json(alloc: Global, refusal: &NoRoutes) -> Result<String, AllocError> {
+/// bytes of it that are at fault. Then it returns a line for each member that browsers ignore, with
+/// `rule`, `member` and `message`.
+pub fn refusal_json(
+    alloc: Global,
+    refusal: &NoRoutes,
+    ignored: &[IgnoredMember],
+) -> Result<String, AllocError> {
     let mut text = String::new(alloc);
     match refusal {
         NoRoutes::NotUtf8 => {
@@ -32,6 +39,7 @@ pub fn refusal_json(alloc: Global, refusal: &NoRoutes) -> Result<String, AllocEr
             let message = format!(in alloc; "{error}")?;
             push_line(alloc, &mut text, members, &message)?;
         }
+        NoRoutes::NoRule => push_line(alloc, &mut text, Map::new(alloc), NO_RULE)?,
         NoRoutes::Rejected(faults) => {
             for fault in faults {
                 let members = fault_members(alloc, fault)?;
@@ -40,7 +48,24 @@ pub fn refusal_json(alloc: Global, refusal: &NoRoutes) -> Result<String, AllocEr
             }
         }
     }
+    push_ignored(alloc, &mut text, ignored)?;
     Ok(text)
+}
+
+/// Appends a line for each member that browsers ignore.
+fn push_ignored(
+    alloc: Global,
+    text: &mut String,
+    ignored: &[IgnoredMember],
+) -> Result<(), AllocError> {
+    for it in ignored {
+        let mut members = Map::new(alloc);
+        put(&mut members, alloc, "rule", Value::from(it.rule))?;
+        put_text(&mut members, alloc, "member", &it.name)?;
+        let words = ignored_words(alloc, it)?;
+        push_line(alloc, text, members, &words)?;
+    }
+    Ok(())
 }
 
 /// Appends the line with an object that has a message and these members.
@@ -82,13 +107,20 @@ fn fault_members(alloc: Global, fault: &RouteFault) -> Result<Map<String, Value>
     Ok(members)
 }
 
-/// Returns a line of JSON for each rule that does not decide about any request that the worker
-/// gets, or of which that is not known: an object with `rule` and `message`, and `because_of`, the
-/// rules that decide in its place.
-pub fn uses_json(alloc: Global, uses: &[RuleUse]) -> Result<String, AllocError> {
+/// Returns a line of JSON for each member that browsers ignore, an object with `rule`, `member` and
+/// `message`; then for each rule that does not decide about any request that the worker gets, or of
+/// which that is not known: an object with `rule` and `message`, and `because_of`, the rules that
+/// decide in its place.
+pub fn uses_json<R: RegExp>(
+    alloc: Global,
+    rules: &RouterRules<R>,
+    ignored: &[IgnoredMember],
+    uses: &[RuleUse],
+) -> Result<String, AllocError> {
     let mut text = String::new(alloc);
+    push_ignored(alloc, &mut text, ignored)?;
     for (index, it) in uses.iter().enumerate() {
-        if let Some(words) = use_words(alloc, it)? {
+        if let Some(words) = use_words(alloc, rule_at(rules, Some(index)), it)? {
             let mut members = Map::new(alloc);
             put(&mut members, alloc, "rule", Value::from(index))?;
             if let RuleUse::Never(found) = it {

@@ -8,23 +8,59 @@ use urlpattern_compare::{Doubt, Reason};
 use urlpattern_matcher::regexp::RegExp;
 use urlpattern_route_analysis::{Decisions, JointDecision};
 use urlpattern_route_rules::{PatternFault, RouteFault, RouterRules};
-use urlpattern_routes::{RouterRule, RouterSource};
+use urlpattern_routes::{
+    IgnoredMember, RouterAttribute, RouterCondition, RouterDictionary, RouterRule, RouterSource,
+};
 use urlpattern_urls::CommonUrl;
 
+/// What is said of JSON that is no rule and no array.
+pub(crate) const NO_RULE: &str = "a rule or an array of rules is expected";
+
 /// Returns a line for each reason why a file is rejected, and after it the pattern and the marks
-/// under it, if a pattern is at fault.
-pub fn refusal_text(alloc: Global, refusal: &NoRoutes) -> Result<String, AllocError> {
+/// under it, if a pattern is at fault; then a line for each member that browsers ignore.
+pub fn refusal_text(
+    alloc: Global,
+    refusal: &NoRoutes,
+    ignored: &[IgnoredMember],
+) -> Result<String, AllocError> {
     let mut text = String::new(alloc);
     match refusal {
         NoRoutes::NotUtf8 => text.push_str("the file is not UTF-8\n")?,
         NoRoutes::NotJson(error) => writeln!(text, "{error}")?,
+        NoRoutes::NoRule => writeln!(text, "{NO_RULE}")?,
         NoRoutes::Rejected(faults) => {
             for fault in faults {
                 push_fault(alloc, &mut text, fault)?;
             }
         }
     }
+    push_ignored(alloc, &mut text, ignored)?;
     Ok(text)
+}
+
+/// Appends a line for each member that browsers ignore.
+fn push_ignored(
+    alloc: Global,
+    text: &mut String,
+    ignored: &[IgnoredMember],
+) -> Result<(), AllocError> {
+    for it in ignored {
+        let words = ignored_words(alloc, it)?;
+        let rule = it.rule;
+        writeln!(text, "rule {rule}: {words}")?;
+    }
+    Ok(())
+}
+
+/// Returns in words that browsers ignore a member, without its rule.
+pub(crate) fn ignored_words(alloc: Global, it: &IgnoredMember) -> Result<String, AllocError> {
+    let name = it.name.as_str();
+    let place = match it.dictionary {
+        RouterDictionary::Rule | RouterDictionary::Condition => "",
+        RouterDictionary::Init => "urlPattern: ",
+        RouterDictionary::Source => "source: ",
+    };
+    format!(in alloc; "{place}`{name}` is not known, and ignored")
 }
 
 /// Appends a fault.
@@ -56,12 +92,18 @@ pub(crate) fn fault_words(alloc: Global, fault: &RouteFault) -> Result<String, A
     }
 }
 
-/// Returns a line for each rule that does not decide about any request that the worker gets, or of
-/// which that is not known.
-pub fn uses_text(alloc: Global, uses: &[RuleUse]) -> Result<String, AllocError> {
+/// Returns a line for each member that browsers ignore, and then for each rule that does not decide
+/// about any request that the worker gets, or of which that is not known.
+pub fn uses_text<R: RegExp>(
+    alloc: Global,
+    rules: &RouterRules<R>,
+    ignored: &[IgnoredMember],
+    uses: &[RuleUse],
+) -> Result<String, AllocError> {
     let mut text = String::new(alloc);
+    push_ignored(alloc, &mut text, ignored)?;
     for (index, it) in uses.iter().enumerate() {
-        if let Some(words) = use_words(alloc, it)? {
+        if let Some(words) = use_words(alloc, rule_at(rules, Some(index)), it)? {
             writeln!(text, "rule {index}: {words}")?;
         }
     }
@@ -69,29 +111,57 @@ pub fn uses_text(alloc: Global, uses: &[RuleUse]) -> Result<String, AllocError> 
 }
 
 /// Returns the use of a rule in words. `None`: the rule decides about requests.
-pub(crate) fn use_words(alloc: Global, it: &RuleUse) -> Result<Option<String>, AllocError> {
+pub(crate) fn use_words(
+    alloc: Global,
+    rule: Option<&RouterRule>,
+    it: &RuleUse,
+) -> Result<Option<String>, AllocError> {
     let words = match it {
         RuleUse::Decides => return Ok(None),
         RuleUse::Outside => String::from_str(alloc, "decides only outside of the scope")?,
         RuleUse::Unknown => String::from_str(alloc, "not known whether it ever decides")?,
-        RuleUse::Never(found) => never_words(alloc, found)?,
+        RuleUse::Never(found) => never_words(alloc, rule, found)?,
     };
     Ok(Some(words))
 }
 
 /// Returns in words why a rule never decides. `found` is which rules before it decide about the
 /// requests for which its condition holds.
-fn never_words(alloc: Global, found: &Decisions) -> Result<String, AllocError> {
+fn never_words(
+    alloc: Global,
+    rule: Option<&RouterRule>,
+    found: &Decisions,
+) -> Result<String, AllocError> {
     let takers = takers_in(alloc, found)?;
     let mut text = String::from_str(alloc, "never decides")?;
     if found.is_complete && !found.found.iter().any(|it| it.other.is_some()) {
         text.push_str(": its condition never holds")?;
+        if let Some(name) = unrouted_destination(rule) {
+            write!(
+                text,
+                ", as no request that rules get has the destination {name}"
+            )?;
+        }
     }
     for (place, rule) in takers.iter().enumerate() {
         let before = if place == 0 { ", because of" } else { "," };
         write!(text, "{before} rule {rule}")?;
     }
     Ok(text)
+}
+
+/// Returns the destination that the condition of a rule names, if no request that rules get has it.
+fn unrouted_destination(rule: Option<&RouterRule>) -> Option<&str> {
+    let RouterCondition::Request(request) = &rule?.condition else {
+        return None;
+    };
+    let name = request.destination.as_deref()?;
+    let mut routed = RouterAttribute::Destination.names().iter();
+    if routed.any(|known| *known == name) {
+        None
+    } else {
+        Some(name)
+    }
 }
 
 /// Returns the rules that decide about requests in place of another one, in order.
@@ -185,11 +255,20 @@ fn request_words(alloc: Global, it: &JointDecision) -> Result<String, AllocError
             0 => write!(text, "{name} {url}")?,
             1 if name.as_str() != "cors" => write!(text, " --mode {name}")?,
             2 if !name.is_empty() => write!(text, " --destination {name}")?,
+            2 if navigates(it) => text.push_str(" --destination \"\"")?,
             3 if name.as_str() != "running" => text.push_str(" --not-running")?,
             _ => {}
         }
     }
     Ok(text)
+}
+
+/// Whether a request is a navigation, whose destination is `document` if no other one is given.
+fn navigates(it: &JointDecision) -> bool {
+    match it.names.get(1) {
+        Some(mode) => mode.as_str() == "navigate",
+        None => false,
+    }
 }
 
 /// Returns why it is not known whether there is a URL, in words.

@@ -73,7 +73,7 @@ pub(crate) fn report_refusal<Err: Write>(
     refusal: &NoRoutes,
     err: &mut Err,
 ) {
-    match refusal_text(alloc, refusal) {
+    match refusal_text(alloc, refusal, &[]) {
         Ok(text) => {
             let _ = writeln!(err, "urlpat: the file `{file}` is rejected");
             let _ = err.write_all(text.as_bytes());

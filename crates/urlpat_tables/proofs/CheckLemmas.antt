@@ -11,6 +11,7 @@ use Rattle.std.specs.Map.{values_of}
 use Rattle.std.specs.Prelude.{IfSome, if◌then◌else◌}
 use Rattle.urlpat_matching.proofs.LineAnswerLemmas.{appends-both}
 use Rattle.urlpat_matching.specs.Tables.{EntryView, entries_view, entry_view, table_entries}
+use Rattle.urlpat_matching.specs.declared.command.TableKind.{TableKind}
 use Rattle.urlpat_matching.specs.declared.table.Entry.{Entry}
 use Rattle.urlpat_tables.proofs.ListLemmas.{map-taken, zipped-both}
 use Rattle.urlpat_tables.specs.Checks.{AreChecked, IsFileChecked, seen_both}
@@ -107,16 +108,16 @@ repeated-taken entries index none old new within are goes =
 -- ---- patterns
 
 -- The number of the next rule's line is appended.
-pub numbers-more : (rules before left next : Rules Entry) (rule : UrlPattern PatternRegexp × Entry) (old new : List ℕ) → rules ≡ before ++ left → left ≡ rule ∷ next
-    → old ≡ map (λ entry. entry.number) (values_of before) → new ≡ old ++ rule.1.number ∷ []
-    → (so_far : Rules Entry) × (rules ≡ so_far ++ next) × (new ≡ map (λ entry. entry.number) (values_of so_far))
-numbers-more rules before left next rule old new are is numbers goes = (
+pub numbers-more : {T : Type 0} (number_of : T → ℕ) (rules before left next : Rules T) (rule : UrlPattern PatternRegexp × T) (old new : List ℕ) → rules ≡ before ++ left → left ≡ rule ∷ next
+    → old ≡ map number_of (values_of before) → new ≡ old ++ number_of rule.1 ∷ []
+    → (so_far : Rules T) × (rules ≡ so_far ++ next) × (new ≡ map number_of (values_of so_far))
+numbers-more {T} number_of rules before left next rule old new are is numbers goes = (
   before ++ rule ∷ [],
-  are ∙ ap (λ (rest : Rules Entry). before ++ rest) is ∙ sym (append_assoc before (rule ∷ []) next),
+  are ∙ ap (λ (rest : Rules T). before ++ rest) is ∙ sym (append_assoc before (rule ∷ []) next),
   goes
-      ∙ ap (λ (them : List ℕ). them ++ rule.1.number ∷ []) numbers
-      ∙ sym (map-append (λ (entry : Entry). entry.number) (values_of before) (rule.1 ∷ []))
-      ∙ ap (map (λ (entry : Entry). entry.number)) (sym (map-append (λ (it : UrlPattern PatternRegexp × Entry). it.1) before (rule ∷ []))),
+      ∙ ap (λ (them : List ℕ). them ++ number_of rule.1 ∷ []) numbers
+      ∙ sym (map-append number_of (values_of before) (rule.1 ∷ []))
+      ∙ ap (map number_of) (sym (map-append (λ (it : UrlPattern PatternRegexp × T). it.1) before (rule ∷ []))),
 )
 
 -- ---- tables
@@ -125,18 +126,18 @@ appends-nothing : (old : Option (List ℕ)) → Appends old old []
 appends-nothing None = tt
 appends-nothing (Some text) = sym (append-nil text)
 
-module _ (Has : (name table : List ℕ) → Type 0) (Prints : (file : List ℕ) → Findings → (text : List ℕ) → Type 0) (ignores : Bool) (base : Option (List ℕ)) where
+module _ (Has : (name table : List ℕ) → Type 0) (Prints : (file : List ℕ) → Findings → (text : List ℕ) → Type 0) (kind : TableKind) (ignores : Bool) (base : Option (List ℕ)) where
   -- No table is checked.
-  pub checks-none : (old : Option (List ℕ)) → AreChecked Has Prints ignores base [] false false old old
+  pub checks-none : (old : Option (List ℕ)) → AreChecked Has Prints kind ignores base [] false false old old
   checks-none old = ([], tt, refl, refl, appends-nothing old)
 
   -- More tables are checked.
   pub checks-more : (files more : List (List ℕ)) (fault doubt also_fault also_doubt : Bool) (old between new : Option (List ℕ))
-      → AreChecked Has Prints ignores base files fault doubt old between → AreChecked Has Prints ignores base more also_fault also_doubt between new
-      → AreChecked Has Prints ignores base (files ++ more) (fault || also_fault) (doubt || also_doubt) old new
+      → AreChecked Has Prints kind ignores base files fault doubt old between → AreChecked Has Prints kind ignores base more also_fault also_doubt between new
+      → AreChecked Has Prints kind ignores base (files ++ more) (fault || also_fault) (doubt || also_doubt) old new
   checks-more files more fault doubt also_fault also_doubt old between new (all, are, faults, doubts, goes) (others, too, more_faults, more_doubts, went) = (
     all ++ others,
-    zipped-both (IsFileChecked Has Prints ignores base) files more all others are too,
+    zipped-both (IsFileChecked Has Prints kind ignores base) files more all others are too,
     ap₂ (λ (a b : Bool). a || b) faults more_faults ∙ sym (list_any-append (λ shown. is_at_fault shown.0) all others),
     ap₂ (λ (a b : Bool). a || b) doubts more_doubts ∙ sym (list_any-append (λ shown. is_in_doubt shown.0) all others),
     subst (Appends old new) (sym (flat_map-append (λ shown. shown.1) all others))
@@ -148,8 +149,8 @@ module _ (Has : (name table : List ℕ) → Type 0) (Prints : (file : List ℕ) 
   or-none false = refl
 
   -- A table is checked.
-  pub checked-one : (file table text : List ℕ) (found : Findings) (fault doubt : Bool) (old new : Option (List ℕ)) → Has file table → AreFindings ignores base (table_entries table) found
-      → Prints file found text → fault ≡ is_at_fault found → doubt ≡ is_in_doubt found → Appends old new text → AreChecked Has Prints ignores base (file ∷ []) fault doubt old new
+  pub checked-one : (file table text : List ℕ) (found : Findings) (fault doubt : Bool) (old new : Option (List ℕ)) → Has file table → AreFindings kind ignores base (table_entries table) found
+      → Prints file found text → fault ≡ is_at_fault found → doubt ≡ is_in_doubt found → Appends old new text → AreChecked Has Prints kind ignores base (file ∷ []) fault doubt old new
   checked-one file table text found fault doubt old new has are prints faults doubts goes = (
     (found, text) ∷ [],
     ((table, has, are, prints), tt),
@@ -160,7 +161,7 @@ module _ (Has : (name table : List ℕ) → Type 0) (Prints : (file : List ℕ) 
 
   -- What is seen in tables, if all can be read.
   abbrev pub AreSeen : (files : List (List ℕ)) → (seen : Option (Bool × Bool)) → (old new : Option (List ℕ)) → Type 0
-  AreSeen files seen old new = IfSome seen (λ it. AreChecked Has Prints ignores base files it.0 it.1 old new)
+  AreSeen files seen old new = IfSome seen (λ it. AreChecked Has Prints kind ignores base files it.0 it.1 old new)
 
   -- The next table is checked.
   pub seen-more : (files : List (List ℕ)) (file : List ℕ) (seen more : Option (Bool × Bool)) (old between new : Option (List ℕ)) → AreSeen files seen old between → AreSeen (file ∷ []) more between new

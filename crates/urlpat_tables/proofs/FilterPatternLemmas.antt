@@ -1,8 +1,9 @@
 -- Lemmas on the patterns of `filter`.
-use Rattle.std.proofs.Common.{◌≡◌, ◌∙◌, ◌+◌, ◌<◌, ℕ, Bool, List, [], ◌∷◌, ◌++◌, ap, append_assoc, append-nil, get_or, length, map, refl, subst, sym, take}
+use Rattle.std.proofs.Common.{◌≡◌, ◌∙◌, ◌+◌, ◌<◌, ℕ, Bool, List, [], ◌∷◌, ◌++◌, ap, append_assoc, append-nil, codes, get_or, length, map, refl, subst, sym, take}
 use Rattle.std.proofs.lemmas.List.{map-append}
 use Rattle.std.proofs.lemmas.Slice.Zip.{all_zipped_more}
 use Rattle.std.specs.Borrow.{Bor}
+use Rattle.std.specs.List.{flat_map}
 use Rattle.urlpat_matching.specs.Tables.{EntryView, entries_view, entry_view, table_entries}
 use Rattle.urlpat_matching.specs.Texts.{texts_view}
 use Rattle.urlpat_matching.specs.declared.command.FilterArguments.{FilterArguments}
@@ -12,11 +13,22 @@ use Rattle.urlpat_matching.specs.declared.command.Shape.{Shape}
 use Rattle.urlpat_matching.specs.declared.given_pattern.GivenPattern.{GivenPattern}
 use Rattle.urlpat_matching.specs.declared.given_pattern.GivenPattern.TheVariants as one
 use Rattle.urlpat_matching.specs.declared.table.Entry.{Entry}
-use Rattle.urlpat_tables.proofs.ListLemmas.{map-taken, zipped-both}
-use Rattle.urlpat_tables.specs.FilterLines.{AddsFiles, AddsPattern, AddsTexts, AreGiven, AreTextsIn, IsTextRule}
+use Rattle.urlpat_tables.proofs.ListLemmas.{flat-more, map-taken, zipped-both}
+use Rattle.urlpat_tables.specs.FilterLines.{AddsFiles, AddsPattern, AddsTexts, AreGiven, AreTextsIn, IsTextRule, captured, tabbed}
 use Rattle.urlpat_tables.specs.FirstRules.{Rules}
+use Rattle.urlpattern.specs.ResultViews.{ResultView}
 use Rattle.urlpattern.specs.UrlPattern.{UrlPattern}
+use Rattle.urlpattern_components.specs.declared.eight.ComponentName.{ComponentName}
 use Rattle.urlpattern_engine.specs.declared.pattern_regexp.PatternRegexp.{PatternRegexp}
+
+-- What the next group captured is appended after a tab.
+pub columns-more : (result : ComponentName → ResultView) (groups : List (ComponentName × Bor (List ℕ))) (index : ℕ) (none : ComponentName × Bor (List ℕ)) (start old after new : List ℕ)
+    → index < length groups → old ≡ start ++ flat_map (tabbed result) (take index groups) → after ≡ old ++ codes "\t" → new ≡ after ++ captured result (get_or groups index none)
+    → new ≡ start ++ flat_map (tabbed result) (take (index + 1) groups)
+columns-more result groups index none start old after new within are tab goes =
+    let text = captured result (get_or groups index none) in
+    flat-more (tabbed result) groups index none start old new within are
+    (goes ∙ ap (λ (them : List ℕ). them ++ text) tab ∙ append_assoc old (codes "\t") text)
 
 module _ (ignores : Bool) (asked : FilterArguments) where
   -- No text is added.

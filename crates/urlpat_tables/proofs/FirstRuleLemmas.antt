@@ -56,9 +56,9 @@ module _ {T : Type 0} (Matched : MatchedReply T) (Leaves : LeftReply) (rules : R
           (subst (λ (found : Option (List ℕ)). IsTextAnswered Matched Leaves rules base found line verdict piece) (sym is) answers),
     )
 
-    -- The answer to a line without a URL at the place.
+    -- The answer to a line that lacks the field at the place.
     pub place-left : (answer : Result Verdict AllocError) → field_of place text ≡ None
-        → IfOk answer (λ verdict. AppendsPiece (Leaves unmatched.NoUrl line verdict) old new)
+        → IfOk answer (λ verdict. AppendsPiece (Leaves unmatched.NoField line verdict) old new)
         → IfOk answer (AppendsAnswer (IsAnswered Matched Leaves rules base place) known line old new)
     place-left (Err error) is gets = tt
     place-left (Ok verdict) is (piece, goes, answers) = (

@@ -10,7 +10,9 @@ use Rattle.serde_json.specs.View.{members_view, view}
 use Rattle.serde_json.specs.Written.{compact_text, has_float}
 use Rattle.serde_json.specs.declared.value.Value.{Value}
 use Rattle.urlpat_matching.specs.Filters.{AppendsPiece}
-use Rattle.urlpat_tables.specs.Labels.{IsMemberLabelled, is_bare, label_tree, labelled_object, line_end}
+use Rattle.urlpat_tables.proofs.LineJsonLemmas.{text-none}
+use Rattle.urlpat_tables.specs.Labels.{IsMemberLabelled, is_bare, labelled_object, line_end}
+use Rattle.urlpat_tables.specs.LineJson.{text_tree}
 
 -- A text is appended, if there is memory.
 pub text-appended : (IsSuch : List ℕ → Type 0) (result : Result (Unit {0}) AllocError) (old new text : List ℕ) → new ≡ (if is_ok result then old ++ text else old) → IsSuch text
@@ -49,12 +51,8 @@ bare-is [] false is = is.1 refl
 bare-is (entry ∷ entries) true is = absurd (omega (arith, is.0 refl))
 bare-is (entry ∷ entries) false is = refl
 
-no-float : (label : Option (List ℕ)) → has_float (label_tree label) ≡ false
-no-float None = refl
-no-float (Some label) = refl
-
 -- The text of a label in JSON.
-pub label-text : {E : Type 0} (tree : Data) (label : Option (List ℕ)) (text : Result (String Global) E) → tree ≡ label_tree label
-    → IfOk text (λ it. has_float tree ≡ false → string_bytes it ≡ compact_text tree) → IfOk text (λ it. string_bytes it ≡ compact_text (label_tree label))
-label-text tree label (Ok text) is writes = writes (ap has_float is ∙ no-float label) ∙ ap compact_text is
+pub label-text : {E : Type 0} (tree : Data) (label : Option (List ℕ)) (text : Result (String Global) E) → tree ≡ text_tree label
+    → IfOk text (λ it. has_float tree ≡ false → string_bytes it ≡ compact_text tree) → IfOk text (λ it. string_bytes it ≡ compact_text (text_tree label))
+label-text tree label (Ok text) is writes = writes (ap has_float is ∙ text-none label) ∙ ap compact_text is
 label-text tree label (Err error) is writes = tt

@@ -2,7 +2,9 @@ pub mod RowLemmas
 pub mod TableRuleLemmas
 pub mod FirstRuleLemmas
 mod TableExamples
+mod LineExamples
 pub mod EndlessLemmas
+pub mod LoopLemmas
 pub mod CheckLemmas
 pub mod FilterPatternLemmas
 pub mod ListLemmas
@@ -11,6 +13,7 @@ pub mod NeededLemmas
 pub mod SummaryLemmas
 pub mod AutomataLemmas
 pub mod LabelLemmas
+pub mod LineJsonLemmas
 pub mod TakenLemmas
 pub mod SecondLemmas
 pub mod RouteLemmas

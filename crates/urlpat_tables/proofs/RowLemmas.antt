@@ -1,36 +1,46 @@
 -- Lemmas on the rows of `route`.
-use Rattle.std.proofs.Common.{◌≡◌, ◌∙◌, ℕ, false, List, [], ◌∷◌, ◌++◌, ap, append_assoc, codes, decimal, refl}
-use Rattle.std.proofs.lemmas.List.{flat_map_more}
-use Rattle.std.specs.List.{flat_map}
-use Rattle.serde_json.specs.Data.{Data, no_members, number, put, string, unsigned}
-use Rattle.serde_json.specs.Written.{has_float}
-use Rattle.urlpat_matching.proofs.MatchJsonLemmas.{put-none}
-use Rattle.urlpat_matching.specs.Tables.{EntryView}
-use Rattle.urlpat_tables.specs.TableRoutes.{bare_lines, cell_text, route_tree, row_text}
-
--- A line is appended after a tab.
-pub cells-more : (old row tabbed next : List ℕ) (before : List (List ℕ)) (line : List ℕ)
-    → row ≡ old ++ flat_map cell_text before → tabbed ≡ row ++ codes "\t" → next ≡ tabbed ++ line
-    → next ≡ old ++ flat_map cell_text (before ++ line ∷ [])
-cells-more old row tabbed next before line was tab goes =
-    goes
-    ∙ ap (λ (text : List ℕ). text ++ line) (tab ∙ ap (λ (text : List ℕ). text ++ codes "\t") was)
-    ∙ append_assoc (old ++ flat_map cell_text before) (codes "\t") line
-    ∙ flat_map_more cell_text old before line
+use Rattle.std.proofs.Common.{◌≡◌, ◌∙◌, ◌<◌, ◌+◌, ℕ, Bool, List, [], ◌∷◌, ◌++◌, ap, append_assoc, append-nil, false, get_or, length, map, refl, rules, subst, sym, take, true}
+use Rattle.std.proofs.lemmas.List.{map-append, take_more}
+use Rattle.std.proofs.lemmas.List.Elements.{filter-append}
+use Rattle.std.specs.Prelude.{not}
+use Rattle.urlpat_matching.proofs.MatchLemmas.{groups-both}
+use Rattle.urlpat_matching.specs.GroupLines.{AreCells, AreGroups, group_cell, named_results}
+use Rattle.urlpat_tables.specs.TableRoutes.{is_wildcard, shown_among}
+use Rattle.urlpattern.specs.Patterns.{PatternView}
+use Rattle.urlpattern.specs.ResultViews.{ResultView}
+use Rattle.urlpattern_components.specs.Eight.{name_text}
+use Rattle.urlpattern_components.specs.declared.eight.ComponentName.{ComponentName}
+use Rattle.urlpattern_components.specs.declared.eight.ComponentName.TheVariants.{Protocol}
 
 -- A row is the concatenation of its pieces.
-pub row-of : (entry : EntryView) (text old headed new : List ℕ)
-    → headed ≡ old ++ (decimal entry.number ++ codes "\t" ++ entry.name) → new ≡ headed ++ flat_map cell_text (bare_lines text)
-    → new ≡ old ++ row_text entry text
-row-of entry text old headed new head cells =
-    let front = decimal entry.number ++ codes "\t" ++ entry.name in
-    let middle = flat_map cell_text (bare_lines text) in
-    cells ∙ ap (λ (row : List ℕ). row ++ middle) head ∙ append_assoc old front middle
+pub row-of : (number tab name cells old a b c new : List ℕ) → a ≡ old ++ number → b ≡ a ++ tab → c ≡ b ++ name → new ≡ c ++ cells → new ≡ old ++ (number ++ tab ++ name ++ cells)
+row-of number tab name cells old a b c new one two three four =
+    four
+    ∙ ap (λ (them : List ℕ). them ++ cells) (three ∙ ap (λ (them : List ℕ). them ++ name) (two ∙ ap (λ (them : List ℕ). them ++ tab) one))
+    ∙ ap (λ (them : List ℕ). them ++ name ++ cells) (append_assoc old number tab)
+    ∙ ap (λ (them : List ℕ). them ++ cells) (append_assoc old (number ++ tab) name)
+    ∙ append_assoc old (number ++ tab ++ name) cells
 
--- The JSON of a route has no float.
-pub route-none : (entry : EntryView) (found : Data) → has_float found ≡ false → has_float (route_tree entry found) ≡ false
-route-none entry found none =
-    let numbered = put (codes "number") (number (unsigned entry.number)) no_members in
-    let named = put (codes "name") (string entry.name) numbered in
-    put-none (codes "match") found named none
-    (put-none (codes "name") (string entry.name) numbered refl (put-none (codes "number") (number (unsigned entry.number)) no_members refl refl))
+module _ {E : Type 0} (pattern : PatternView E) (result : ComponentName → ResultView) where
+  -- The cells of a component that is a wildcard alone, of which there are none.
+  pub cells-none : (name : ComponentName) → is_wildcard pattern name ≡ true → AreCells (named_results result (shown_among pattern (name ∷ []))) []
+  cells-none name is = rw is refl
+
+  -- The cells of a component that is no wildcard alone.
+  pub cells-one : (name : ComponentName) (cells : List ℕ) → is_wildcard pattern name ≡ false → AreGroups group_cell (name_text name) (result name) cells
+      → AreCells (named_results result (shown_among pattern (name ∷ []))) cells
+  cells-one name cells is are = rw is (cells, [], sym (append-nil cells), are, refl)
+
+  -- The cells of the next component go after those of the components before it.
+  pub cells-next : (names : List ComponentName) (n : ℕ) (cells more : List ℕ) → n < length names → AreCells (named_results result (shown_among pattern (take n names))) cells
+      → AreCells (named_results result (shown_among pattern (get_or names n Protocol ∷ []))) more
+      → AreCells (named_results result (shown_among pattern (take (n + 1) names))) (cells ++ more)
+  cells-next names n cells more within are own =
+      let name = get_or names n Protocol in
+      let shown = λ (other : ComponentName). not (is_wildcard pattern other) in
+      subst (λ (components : List (List ℕ × ResultView)). AreCells components (cells ++ more))
+      (sym
+      (ap (λ (them : List ComponentName). named_results result (shown_among pattern them)) (take_more names n Protocol within)
+      ∙ ap (named_results result) (filter-append shown (take n names) (name ∷ []))
+      ∙ map-append (λ (other : ComponentName). (name_text other, result other)) (shown_among pattern (take n names)) (shown_among pattern (name ∷ []))))
+      (groups-both group_cell (named_results result (shown_among pattern (take n names))) (named_results result (shown_among pattern (name ∷ []))) cells more are own)

@@ -1,6 +1,6 @@
 -- Lemmas on how often entries are counted.
-use Rattle.std.proofs.Common.{◌≡◌, ◌==◌, ◌&&◌, ◌∙◌, ◌<◌, ◌+◌, ◌++◌, ℕ, Bool, List, Ordering, [], ◌∷◌, ap, ap₂, arith, cond, false, get_or, length, ltb, map, not, refl, sym, take, true}
-use Rattle.std.proofs.lemmas.Bool.{ltb-false}
+use Rattle.std.proofs.Common.{◌≡◌, ◌≢◌, ◌==◌, ◌&&◌, ◌∙◌, ◌<◌, ◌+◌, ◌++◌, ℕ, Bool, List, None, Ordering, Some, [], ◌∷◌, ap, ap₂, append-nil, arith, cond, false, get_or, length, ltb, map, not, refl, sym, take, true}
+use Rattle.std.proofs.lemmas.Bool.{cond-false, cond-true, eq-eqb, ltb-false, ne_eqb}
 use Rattle.std.proofs.lemmas.Bool.Decides.{nat_tests}
 use Rattle.std.proofs.lemmas.List.{flat_map_more, get_or-map, length-map, map-append}
 use Rattle.std.proofs.lemmas.List.MinMax.{IsStrictWeakOrder-by_number, IsStrictWeakOrder-flip}
@@ -15,7 +15,7 @@ use Rattle.std.specs.Ordering.{is_lt, nat_cmp}
 use Rattle.urlpat_matching.specs.Tables.{EntryView, entries_view, entry_view}
 use Rattle.urlpat_matching.specs.declared.table.Entry.{Entry}
 use Rattle.urlpat_tables.proofs.ListLemmas.{map-taken}
-use Rattle.urlpat_tables.specs.Summaries.{IsMostFirst, KeepsTies, counted, counted_view}
+use Rattle.urlpat_tables.specs.Summaries.{Count, IsMostFirst, KeepsTies, count_of, counted, counted_view, counts_in, number_cell, unmatched_count}
 use Rattle.urlpat_tables.specs.declared.counting.Counted.{Counted}
 
 less-if : (a b : ℕ) → is_lt (nat_cmp a b) ≡ ltb a b
@@ -34,8 +34,8 @@ most-first {g = g} {f = f} (first ∷ all) sorted compares i j none before withi
     let order = IsStrictWeakOrder-flip (λ (one other : Counted). ltb one.count other.count) (IsStrictWeakOrder-by_number (λ (one : Counted). one.count)) in
     let same = answers_always g (λ a r. is_lt r ≡ less a.0.now a.1.0.now) f (λ f a r f' called. ap is_lt (compares f a r f' called) ∙ less-if a.1.0.now.count a.0.now.count) in
     let far = sorted_far less order whole (sorted less order same) i j first before short in
-    let at_i = ap (λ (it : EntryView × ℕ). it.1) (get_or-map counted_view whole i first none (omega arith)) in
-    let at_j = ap (λ (it : EntryView × ℕ). it.1) (get_or-map counted_view whole j first none short) in
+    let at_i = ap (λ (it : Count). it.1) (get_or-map counted_view whole i first none (omega arith)) in
+    let at_j = ap (λ (it : Count). it.1) (get_or-map counted_view whole j first none short) in
     omega (arith, at_i, at_j, ltb-false (get_or whole i first).count (get_or whole j first).count far)
 
 -- Whether two numbers tie.
@@ -51,7 +51,7 @@ kept-view true one all = refl
 kept-view false one all = refl
 
 module _ (count : ℕ) where
-  abbrev is-tied : EntryView × ℕ → Bool
+  abbrev is-tied : Count → Bool
   is-tied one = one.1 == count
 
   -- The entries that are counted so often.
@@ -59,7 +59,7 @@ module _ (count : ℕ) where
   tied some [] = refl
   tied some (one ∷ all) =
       let rest = filter (ties is-more (record some { count = count })) all in
-      ap (λ (them : List (EntryView × ℕ)). cond (one.count == count) (counted_view one ∷ them) them) (tied some all)
+      ap (λ (them : List Count). cond (one.count == count) (counted_view one ∷ them) them) (tied some all)
       ∙ kept-view (one.count == count) one rest
       ∙ ap (λ (kept : Bool). map counted_view (cond kept (one ∷ rest) rest)) (sym (tie-is count one.count))
 
@@ -83,17 +83,39 @@ ties-kept {g = g} {f = f} old new stable compares count =
 
 -- The next entry is counted.
 pub counted-more : (numbers : List ℕ) (entries : List Entry) (index : ℕ) (none : Entry) (all new : List Counted) (one : Counted) → index < length entries
-    → map counted_view all ≡ map (counted numbers) (entries_view (take index entries)) → counted_view one ≡ counted numbers (entry_view (get_or entries index none)) → new ≡ all ++ one ∷ []
-    → map counted_view new ≡ map (counted numbers) (entries_view (take (index + 1) entries))
+    → map counted_view all ≡ map (λ entry. counted numbers (Some entry)) (entries_view (take index entries)) → counted_view one ≡ counted numbers (Some (entry_view (get_or entries index none)))
+    → new ≡ all ++ one ∷ [] → map counted_view new ≡ map (λ entry. counted numbers (Some entry)) (entries_view (take (index + 1) entries))
 counted-more numbers entries index none all new one within are is goes =
+    let count = λ (entry : EntryView). counted numbers (Some entry) in
     ap (map counted_view) goes
     ∙ map-append counted_view all (one ∷ [])
-    ∙ ap₂ (λ (them : List (EntryView × ℕ)) (it : EntryView × ℕ). them ++ it ∷ []) are is
-    ∙ sym (map-append (counted numbers) (entries_view (take index entries)) (entry_view (get_or entries index none) ∷ []))
-    ∙ ap (map (counted numbers)) (sym (map-taken entry_view entries index none within))
+    ∙ ap₂ (λ (them : List Count) (it : Count). them ++ it ∷ []) are is
+    ∙ sym (map-append count (entries_view (take index entries)) (entry_view (get_or entries index none) ∷ []))
+    ∙ ap (map count) (sym (map-taken entry_view entries index none within))
+
+-- There are no lines that no pattern matches.
+pub unmatched-none : (numbers : List ℕ) (entries : List EntryView) (all : List Counted) (one : Counted) → map counted_view all ≡ map (λ entry. counted numbers (Some entry)) entries
+    → counted_view one ≡ counted numbers None → one.count ≡ 0 → map counted_view all ≡ counts_in numbers entries
+unmatched-none numbers entries all one are is zero =
+    let count = count_of (number_cell None) numbers in
+    let none : count ≡ 0 = sym (ap (λ (it : Count). it.1) is) ∙ zero in
+    let out : unmatched_count numbers ≡ [] = cond-true (count == 0) [] (counted numbers None ∷ []) (eq-eqb count 0 none) in
+    are ∙ sym (append-nil (map (λ entry. counted numbers (Some entry)) entries)) ∙ ap (λ (last : List Count). map (λ entry. counted numbers (Some entry)) entries ++ last) (sym out)
+
+-- The lines that no pattern matches are counted last.
+pub unmatched-last : (numbers : List ℕ) (entries : List EntryView) (all new : List Counted) (one : Counted) → map counted_view all ≡ map (λ entry. counted numbers (Some entry)) entries
+    → counted_view one ≡ counted numbers None → one.count ≢ 0 → new ≡ all ++ one ∷ [] → map counted_view new ≡ counts_in numbers entries
+unmatched-last numbers entries all new one are is some goes =
+    let count = count_of (number_cell None) numbers in
+    let other : count ≢ 0 = λ none. some (ap (λ (it : Count). it.1) is ∙ none) in
+    let last : unmatched_count numbers ≡ counted numbers None ∷ [] = cond-false (count == 0) [] (counted numbers None ∷ []) (ne_eqb count 0 other) in
+    ap (map counted_view) goes
+    ∙ map-append counted_view all (one ∷ [])
+    ∙ ap₂ (λ (them : List Count) (it : Count). them ++ it ∷ []) are is
+    ∙ ap (λ (them : List Count). map (λ entry. counted numbers (Some entry)) entries ++ them) (sym last)
 
 -- The line of the next entry is appended.
-pub lines-more : (line : EntryView × ℕ → List ℕ) (all : List Counted) (index : ℕ) (none : Counted) (old new : List ℕ) → index < length all → old ≡ flat_map line (map counted_view (take index all))
+pub lines-more : (line : Count → List ℕ) (all : List Counted) (index : ℕ) (none : Counted) (old new : List ℕ) → index < length all → old ≡ flat_map line (map counted_view (take index all))
     → new ≡ old ++ line (counted_view (get_or all index none)) → new ≡ flat_map line (map counted_view (take (index + 1) all))
 lines-more line all index none old new within are goes =
     let before = map counted_view (take index all) in

@@ -1,9 +1,11 @@
 -- Worked examples of what the commands on tables write.
-use Rattle.std.proofs.Common.{◌≡◌, None, Some, [], ◌∷◌, codes, refl}
+use Rattle.std.proofs.Common.{◌≡◌, ◌∙◌, ℕ, Bool, List, None, Some, zero, suc, [], ◌∷◌, codes, refl, sym}
+use Rattle.std.proofs.lemmas.Bool.{true≢false}
 use Rattle.urlpat_tables.specs.Checks.{checked_status, seen_both}
 use Rattle.urlpat_tables.specs.Findings.{first_named}
 use Rattle.urlpat_tables.specs.Labels.{cell, column}
-use Rattle.urlpat_tables.specs.RewriteRules.{code_in}
+use Rattle.urlpat_tables.specs.Loops.{LeadsBy, LeadsOn, is_led}
+use Rattle.urlpat_tables.specs.RewriteRules.{code_in, redirects}
 use Rattle.urlpat_tables.specs.Summaries.{bar}
 use Rattle.std.specs.Prelude.{false, true}
 
@@ -19,6 +21,34 @@ two_digits = refl
 
 no_digit : code_in (codes "30x") ≡ None
 no_digit = refl
+
+-- A status code of the three hundreds is that of a redirect.
+moved : redirects (Some 301) ≡ true
+moved = refl
+
+written_anew : redirects (Some 200) ≡ false
+written_anew = refl
+
+-- Rule 0 leads to rule 1, and rules 1 and 2 lead to each other.
+abbrev into_a_loop : List (List Bool)
+into_a_loop = (false ∷ true ∷ false ∷ []) ∷ (false ∷ false ∷ true ∷ []) ∷ (false ∷ true ∷ false ∷ []) ∷ []
+
+-- Rule 1 leads on to itself, over rule 2.
+in_the_loop : LeadsOn into_a_loop 1 1
+unfolding LeadsBy
+in_the_loop = (2 ∷ [], (refl, refl))
+
+-- No rule leads to rule 0, so that rule 0 does not lead on to itself.
+not_led : (index : ℕ) → is_led into_a_loop index 0 ≡ false
+not_led zero = refl
+not_led (suc zero) = refl
+not_led (suc (suc zero)) = refl
+not_led (suc (suc (suc index))) = refl
+
+before_the_loop : (index : ℕ) (path : List ℕ) → ¬ LeadsBy into_a_loop index path 0
+unfolding LeadsBy
+before_the_loop index [] by = true≢false (sym by ∙ not_led index)
+before_the_loop index (next ∷ path) by = before_the_loop next path by.1
 
 -- A field with the delimiter, a quote or a carriage return is within quotes, and its quotes are
 -- doubled.

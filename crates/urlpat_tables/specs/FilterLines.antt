@@ -1,14 +1,16 @@
 -- The output of `filter` for its arguments and for the lines that it reads. Arguments and texts are
 -- bytes. `input` is what the reader has left, and `old` and `new` are the output before and after,
 -- as far as they are known.
+use Rattle.serde_json.specs.Data.{Data}
 use Rattle.std.specs.Borrow.{Bor}
-use Rattle.std.specs.Prelude.{◌≡◌, ◌++◌, ◌∷◌, ℕ, Bool, true, false, List, [], codes, map, Option, option_copied, unwrap_or}
-use Rattle.std.specs.List.{AllZip}
+use Rattle.std.specs.Prelude.{◌≡◌, ◌++◌, ◌∷◌, ℕ, Bool, true, false, List, [], codes, map, Option, Some, Vec, option_copied, unwrap_or}
+use Rattle.std.specs.List.{AllZip, Contains, flat_map}
 use Rattle.std.specs.Str.{chars}
+use Rattle.std.specs.declared.alloc.Global.{Global}
 use Rattle.urlpat_matching.specs.GivenPatterns.{IsPatternGiven}
 use Rattle.urlpat_matching.specs.GroupLines.{group_bytes}
 use Rattle.urlpat_matching.specs.Groups.{IsOwnGroup, LacksGroup}
-use Rattle.urlpat_matching.specs.MatchJson.{IsMatchJson}
+use Rattle.urlpat_matching.specs.MatchJson.{IsMatchTree, json_line}
 use Rattle.urlpat_matching.specs.PatternWords.{IsPatternOf}
 use Rattle.urlpat_matching.specs.Tables.{table_entries}
 use Rattle.urlpat_matching.specs.Texts.{texts_view}
@@ -23,6 +25,7 @@ use Rattle.urlpat_matching.specs.declared.command.Shape.{Shape}
 use Rattle.urlpat_matching.specs.declared.command.Shape.TheVariants as shapes
 use Rattle.urlpat_matching.specs.declared.given_pattern.GivenPattern.{GivenPattern}
 use Rattle.urlpat_tables.specs.FirstRules.{FiltersFields, IsAnswered, Rules, passed_verdict}
+use Rattle.urlpat_tables.specs.LineJson.{line_tree}
 use Rattle.urlpat_tables.specs.declared.first_rule.Unmatched.{Unmatched}
 use Rattle.urlpat_tables.specs.declared.first_rule.Unmatched.TheVariants as unmatched
 use Rattle.urlpattern.specs.Patterns.{PatternView, pattern_view}
@@ -31,16 +34,39 @@ use Rattle.urlpattern.specs.UrlPattern.{UrlPattern}
 use Rattle.urlpattern_canonical.specs.BaseUrls.{base_view}
 use Rattle.urlpattern_components.specs.declared.eight.ComponentName.{ComponentName}
 use Rattle.urlpattern_engine.specs.declared.pattern_regexp.PatternRegexp.{PatternRegexp}
+use Rattle.urlpattern_inputs.specs.Trees.{object_of}
 
--- What is printed of a line that matches and is selected: the line, a line with the capture of a
--- group, a line of JSON, or nothing.
+-- What a group captured. Empty if it took no part.
+abbrev pub captured : (ComponentName → ResultView) → ComponentName × Bor (List ℕ) → List ℕ
+captured result group = unwrap_or (group_bytes ((result group.0).group (chars group.1.now))) []
+
+-- What a group captured, after a tab.
+abbrev pub tabbed : (ComponentName → ResultView) → ComponentName × Bor (List ℕ) → List ℕ
+tabbed result group = codes "\t" ++ captured result group
+
+-- What groups captured, with tabs between.
+abbrev pub columns : (ComponentName → ResultView) → List (ComponentName × Bor (List ℕ)) → List ℕ
+columns result [] = []
+columns result (group ∷ groups) = captured result group ++ flat_map (tabbed result) groups
+
+-- The JSON for a line that matches: the line, and `found`, the JSON of the match.
+abbrev pub found_tree : (line : List ℕ) → (found : Data) → Data
+found_tree line found =
+    object_of ((codes "line", Some (line_tree line)) ∷ (codes "match", Some found) ∷ [])
+
+-- `written` is the JSON for a line that matches.
+abbrev pub IsFoundJson : (ComponentName → ResultView) → (line written : List ℕ) → Type 0
+IsFoundJson result line written =
+    (found : Data) × IsMatchTree result found × (written ≡ json_line (found_tree line found))
+
+-- What is printed of a line that matches and is selected: the line, a line with the captures of
+-- groups, a line of JSON, or nothing.
 abbrev pub IsShown : Shape → (ComponentName → ResultView) → (line written : List ℕ) → Type 0
 IsShown shapes.Line result line written = written ≡ line
 IsShown shapes.Count result line written = written ≡ []
-IsShown (shapes.Group component name) result line written =
-    written ≡ unwrap_or (group_bytes ((result component).group (chars name.now))) []
-    ++ codes "\n"
-IsShown shapes.Json result line written = IsMatchJson result written
+IsShown (shapes.Groups groups) result line written =
+    written ≡ columns result groups.items ++ codes "\n"
+IsShown shapes.Json result line written = IsFoundJson result line written
 
 -- What is printed of a line that does not match and is selected: the line, unless lines are
 -- counted.
@@ -60,6 +86,7 @@ AnswersMatched false shape result line verdict written =
 -- The verdict on a line that no pattern matches and that is selected.
 abbrev pub selected_verdict : Unmatched → Verdict
 selected_verdict unmatched.Rejected = verdicts.Rejected
+selected_verdict unmatched.NoField = verdicts.SelectedNoField
 selected_verdict unmatched.NoUrl = verdicts.SelectedNoUrl
 selected_verdict unmatched.NoMatch = verdicts.Selected
 
@@ -72,20 +99,28 @@ LeavesLine true asked why line verdict written =
 LeavesLine false asked why line verdict written =
     (verdict ≡ passed_verdict why) × (written ≡ [])
 
--- ---- the group that is printed
+-- ---- the groups that are printed
 
--- `shape` is what is printed of a selected line, as it is asked for. A group is one of the pattern.
+-- The word names the group, which the pattern has.
+abbrev pub IsGroupOf : PatternView PatternRegexp → (word : Bor (List ℕ))
+    → (group : ComponentName × Bor (List ℕ)) → Type 0
+IsGroupOf compiled word group = IsOwnGroup compiled word.now group.0 group.1.now
+
+-- `shape` is what is printed of a selected line, as it is asked for. Each group is one of the
+-- pattern.
 abbrev pub IsShapeOf : PatternView PatternRegexp → AskedShape → Shape → Type 0
 IsShapeOf compiled asks.Line shape = shape ≡ shapes.Line
 IsShapeOf compiled asks.Count shape = shape ≡ shapes.Count
-IsShapeOf compiled (asks.Group word) shape =
-    (component : ComponentName) × (name : Bor (List ℕ))
-    × IsOwnGroup compiled word.now component name.now × (shape ≡ shapes.Group component name)
+IsShapeOf compiled (asks.Groups words) shape =
+    (groups : Vec (ComponentName × Bor (List ℕ)) Global)
+    × AllZip (IsGroupOf compiled) words.now groups.items × (shape ≡ shapes.Groups groups)
 IsShapeOf compiled asks.Json shape = shape ≡ shapes.Json
 
 -- A group is asked for by this word, which names none of the pattern.
 abbrev pub IsMissingGroup : PatternView PatternRegexp → AskedShape → (word : Bor (List ℕ)) → Type 0
-IsMissingGroup compiled asked word = (asked ≡ asks.Group word) × LacksGroup compiled word.now
+IsMissingGroup compiled asked word =
+    (words : Bor (List (Bor (List ℕ)))) × (asked ≡ asks.Groups words) × Contains words.now word
+    × LacksGroup compiled word.now
 
 -- The message that a word names no group of the pattern.
 abbrev pub missing_group_line : (word : List ℕ) → List ℕ

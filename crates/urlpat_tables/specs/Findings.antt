@@ -1,12 +1,15 @@
--- What is found in a table. Texts are bytes. `ignores` says whether patterns ignore case, and
--- `base` is the text of a base URL.
+-- What is found in a table of patterns, or of rules of `rewrite`. Texts are bytes. `ignores` says
+-- whether patterns ignore case, and `base` is the text of a base URL.
 use Rattle.std.specs.List.{cons_option, list_any}
 use Rattle.std.specs.Map.{keys_of}
 use Rattle.std.specs.Prelude.{◌≡◌, ◌||◌, ◌==◌, ◌++◌, ℕ, Bool, List, None, Option, Some, [], ◌∷◌, bytes_eq, false, if◌then◌else◌, length, not, option_map, true}
 use Rattle.std.specs.Str.{trim}
 use Rattle.urlpat_tables.specs.FirstRules.{Rules}
 use Rattle.urlpat_matching.specs.Tables.{EntryView}
+use Rattle.urlpat_matching.specs.declared.command.TableKind.{TableKind}
+use Rattle.urlpat_matching.specs.declared.command.TableKind.TheVariants as kinds
 use Rattle.urlpat_matching.specs.declared.table.Entry.{Entry}
+use Rattle.urlpat_tables.specs.RewriteRules.{AreEndlessLines, IsRewriteFault, IsRewriteRule, RewriteRules}
 use Rattle.urlpat_tables.specs.TableRoutes.{IsRoute}
 use Rattle.urlpat_tables.specs.TableRules.{AreRead, IsRejectedCell}
 use Rattle.urlpat_tables.specs.Unreached.{AreReached, any_never, any_unknown}
@@ -24,9 +27,11 @@ use Rattle.urlpattern_policy_text.specs.Statements.{column_of}
 -- ---- patterns
 
 -- How the patterns of the rules compare: which are ever the first match, and which pairs contend,
--- that is, both match some texts, and each matches some that the other does not.
-pub record AreCompared (rules : Rules Entry) (found : Compared) : Type 0 where
-  pub reached : AreReached rules found.reached
+-- that is, both match some texts, and each matches some that the other does not. `number_of` is the
+-- number of the line of a rule, by its value.
+pub record AreCompared {T : Type 0} (number_of : T → ℕ) (rules : Rules T) (found : Compared)
+    : Type 0 where
+  pub reached : AreReached number_of rules found.reached
   pub contending : AreContentionsBy pattern_engine USUAL_LIMITS (keys_of rules)
       found.contentions.items
 
@@ -57,17 +62,26 @@ repeated_names before (entry ∷ entries) =
 
 -- ---- tables
 
--- What is found in the entries of a table: the faults of lines whose pattern is rejected, how the
--- other patterns compare, and names that are given again.
-abbrev pub AreFindings : (ignores : Bool) → (base : Option (List ℕ)) → List EntryView → Findings
-    → Type 0
-AreFindings ignores base entries found =
+-- What is found in the entries of a table. Of patterns: the faults of lines whose pattern is
+-- rejected, how the other patterns compare, and names that are given again. Of rules of `rewrite`:
+-- the faults of lines that have no rule, how the first patterns of the others compare, and the
+-- lines of rules that are known to lead on to themselves.
+abbrev pub AreFindings : TableKind → (ignores : Bool) → (base : Option (List ℕ)) → List EntryView
+    → Findings → Type 0
+AreFindings kinds.Patterns ignores base entries found =
     ((rules : Rules Entry)
     × AreRead (IsRoute ignores base)
     (λ entry. IsRejectedCell ignores base entry (trim entry.line) entry.pattern) entries rules
     found.rejected.items
-    × AreCompared rules found.compared)
-    × (found.repeated.items ≡ repeated_names [] entries)
+    × AreCompared (λ entry. entry.number) rules found.compared)
+    × (found.repeated.items ≡ repeated_names [] entries) × (found.endless.items ≡ [])
+AreFindings kinds.Rules ignores base entries found =
+    ((rules : RewriteRules)
+    × AreRead (IsRewriteRule ignores base) (IsRewriteFault ignores base) entries rules
+    found.rejected.items
+    × AreCompared (λ rule. rule.entry.number) rules found.compared
+    × AreEndlessLines rules found.endless.items)
+    × (found.repeated.items ≡ [])
 
 -- Whether it is known that there are such texts.
 abbrev pub known_texts : Contended → Bool
@@ -82,12 +96,12 @@ contends pair = known_texts pair.found
 abbrev pub is_some_list : {A : Type 0} → List A → Bool
 is_some_list all = not (length all == 0)
 
--- Whether something is to be reported: a pattern is rejected, a name is given again, a pattern is
--- never the first match, or two contend.
+-- Whether something is to be reported: a line is at fault, a name is given again, rules are known
+-- to lead on to themselves, a pattern is never the first match, or two contend.
 abbrev pub is_at_fault : Findings → Bool
 is_at_fault found =
     is_some_list found.rejected.items || is_some_list found.repeated.items
-    || any_never found.compared.reached
+    || is_some_list found.endless.items || any_never found.compared.reached
     || list_any contends found.compared.contentions.items
 
 -- Whether it is not known of a pattern if it is ever the first match, or of two if they contend.

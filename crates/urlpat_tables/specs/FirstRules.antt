@@ -42,6 +42,7 @@ pub record IsFirst {T : Type 0} (rules : Rules T) (base : BaseView) (text : List
 -- The verdict on a line that is not selected since no pattern matches it.
 abbrev pub passed_verdict : Unmatched → Verdict
 passed_verdict unmatched.Rejected = verdicts.Rejected
+passed_verdict unmatched.NoField = verdicts.NoField
 passed_verdict unmatched.NoUrl = verdicts.NoUrl
 passed_verdict unmatched.NoMatch = verdicts.Passed
 
@@ -68,12 +69,12 @@ IsUrlAnswered {T} Matched Leaves rules base text line verdict written =
     ⊎ (HaveNoMatchUnder (entry_patterns rules) text base
     × Leaves unmatched.NoMatch line verdict written)
 
--- The verdict on a line, and what is written for it, by its URL, if it has one.
+-- The verdict on a line, and what is written for it, by its URL, if it has the field for it.
 abbrev pub IsTextAnswered : {T : Type 0} → (Matched : MatchedReply T) → (Leaves : LeftReply)
     → Rules T → BaseView → (url : Option (List ℕ)) → (line : List ℕ) → Verdict
     → (written : List ℕ) → Type 0
 IsTextAnswered Matched Leaves rules base None line verdict written =
-    Leaves unmatched.NoUrl line verdict written
+    Leaves unmatched.NoField line verdict written
 IsTextAnswered Matched Leaves rules base (Some url) line verdict written =
     IsUrlAnswered Matched Leaves rules base url line verdict written
 

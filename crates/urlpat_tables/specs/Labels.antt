@@ -1,6 +1,6 @@
 -- Lines with the name of a route as another field, the last one: a line that has a field of this
 -- name gets another. Texts are bytes.
-use Rattle.serde_json.specs.Data.{Data, Members, no_members, null, object, string}
+use Rattle.serde_json.specs.Data.{Members, no_members, object}
 use Rattle.serde_json.specs.Read.{read as read_text}
 use Rattle.serde_json.specs.Written.{compact_text}
 use Rattle.std.specs.List.{flat_map, list_any}
@@ -10,6 +10,7 @@ use Rattle.bstr.specs.Text.{without_terminator}
 use Rattle.urlpat_matching.specs.declared.command.LineFormat.{LineFormat}
 use Rattle.urlpat_matching.specs.declared.command.LineFormat.TheVariants as formats
 use Rattle.urlpat_tables.specs.Fields.{delimiter_of}
+use Rattle.urlpat_tables.specs.LineJson.{text_tree}
 
 -- The name of the field.
 abbrev pub route_name : List ℕ
@@ -52,11 +53,6 @@ abbrev pub header_column : LineFormat → (header : List ℕ) → List ℕ
 header_column format header =
     if length header == 0 then [] else column (delimiter_of format) route_name header
 
--- A label as JSON, null without one.
-abbrev pub label_tree : Option (List ℕ) → Data
-label_tree None = null
-label_tree (Some label) = string label
-
 -- The text is UTF-8, and in JSON an object with these members.
 abbrev pub HasMembers : (text : List ℕ) → Members → Type 0
 HasMembers text members = IsUtf8 text × (read_text text ≡ Some (object members))
@@ -74,7 +70,7 @@ comma bare = if bare then [] else codes ","
 abbrev pub labelled_object : (label : Option (List ℕ)) → (bare : Bool) → (text : List ℕ) → List ℕ
 labelled_object label bare text =
     take (length text - 1) text ++ comma bare ++ codes "\"route\":"
-    ++ compact_text (label_tree label) ++ codes "}"
+    ++ compact_text (text_tree label) ++ codes "}"
 
 -- The line is an object in JSON, and the label is added as its last member; any other line is as it
 -- came.

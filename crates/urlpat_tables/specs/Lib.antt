@@ -4,6 +4,8 @@ pub mod FilterLines
 pub mod Findings
 pub mod FirstRules
 pub mod Labels
+pub mod LineJson
+pub mod Loops
 pub mod RewriteRules
 pub mod Rewrites
 pub mod Summaries

@@ -1,11 +1,12 @@
 -- The rules of a table of `rewrite`: two patterns a line, and a status code. Texts are bytes.
 -- `ignores` says whether patterns ignore case, and `base` is the text of a base URL.
 use Rattle.std.specs.Char.{is_ascii_digit}
-use Rattle.std.specs.List.{flat_map}
-use Rattle.std.specs.Prelude.{◌≡◌, ◌⊎◌, ◌&&◌, ◌+◌, ◌-◌, ◌*◌, ◌<◌, ◌++◌, ◌∷◌, ℕ, All, Bool, Contains, IsTrue, List, None, Option, Some, [], codes, false, if◌then◌else◌, length, not, slice_get, slice_index, true}
+use Rattle.std.specs.List.{AllZip, cons_option, flat_map}
+use Rattle.std.specs.Prelude.{◌≡◌, ◌≢◌, ◌⊎◌, ◌&&◌, ◌+◌, ◌-◌, ◌*◌, ◌∷◌, ℕ, Bool, Contains, IsTrue, List, None, Option, Some, [], codes, false, if◌then◌else◌, not, option_map, slice_get, slice_index, true, ◌/◌, ◌==◌}
 use Rattle.std.specs.Str.{trim}
 use Rattle.urlpat_matching.specs.Groups.{has_group, owners}
 use Rattle.urlpat_matching.specs.Tables.{EntryView, entry_view, first_cell, other_cells}
+use Rattle.urlpat_tables.specs.Loops.{AreLoops}
 use Rattle.urlpat_tables.specs.TableRules.{AreRulesOf, IsCompiledTo, IsRejectedCell}
 use Rattle.urlpat_tables.specs.declared.endless_rules.RuleAutomata.{RuleAutomata}
 use Rattle.urlpat_tables.specs.declared.rewrite_rules.RewriteRule.{RewriteRule}
@@ -148,11 +149,12 @@ code_in (a ∷ b ∷ c ∷ []) =
     then Some (Some ((digit a * 10 + digit b) * 10 + digit c)) else None
 code_in text = None
 
--- What the entry has after its first pattern is read as the rule: a second pattern, which needs no
--- group that the first has not, and a status code.
+-- What the entry has after its first pattern is read as the rule: a second pattern, whose text is
+-- not empty and which needs no group that the first has not, and a status code.
 pub record IsSecond (ignores : Bool) (base : Option (List ℕ)) (entry : EntryView)
     (first : UrlPattern PatternRegexp) (rule : RewriteRule) : Type 0 where
   pub has_entry : entry_view rule.entry ≡ entry
+  pub has_second : first_cell entry.name ≢ []
   pub compiled : IsCompiledTo ignores base (first_cell entry.name) rule.to
   pub code : code_in (other_cells entry.name) ≡ Some rule.code
   pub needs : NeedsNothing first rule.to
@@ -200,6 +202,12 @@ IsRewriteFault ignores base entry fault =
 
 -- ---- rules that lead to others
 
+-- Whether a rule with this status code sends a client on to another URL, as a redirect does. A rule
+-- without a code does.
+abbrev pub redirects : (code : Option ℕ) → Bool
+redirects None = true
+redirects (Some code) = code / 100 == 3
+
 -- The automata are those of the parts of the pattern.
 abbrev pub AreAutomataOf : UrlPattern PatternRegexp → PatternAutomata → Type 0
 AreAutomataOf pattern automata =
@@ -209,78 +217,52 @@ AreAutomataOf pattern automata =
 abbrev pub AreRuleAutomata : (rule : UrlPattern PatternRegexp × RewriteRule) → RuleAutomata → Type 0
 AreRuleAutomata rule automata =
     AreAutomataOf rule.0 automata.first × AreAutomataOf rule.1.to automata.second
+    × (automata.redirects ≡ redirects rule.1.code)
 
 -- Whether texts are found.
 abbrev pub are_texts : Common → Bool
 are_texts (Texts texts) = true
 are_texts found = false
 
--- `leads` is whether texts are known that two patterns both match, the second of a rule and the
--- first of a rule, by their automata.
-abbrev pub DecidesLeading : (second first : PatternAutomata) → (leads : Bool) → Type 0
-DecidesLeading second first leads =
-    (found : Common) × IsAnswer USUAL_LIMITS (second ∷ first ∷ []) [] found
-    × (leads ≡ are_texts found)
+-- `leads` is whether a rule is known to lead to another, by their automata: texts are known
+-- that its second pattern and the first of the other both match, and it redirects.
+abbrev pub DecidesLeading : (one other : RuleAutomata) → (leads : Bool) → Type 0
+DecidesLeading one other leads =
+    (found : Common) × IsAnswer USUAL_LIMITS (one.second ∷ other.first ∷ []) [] found
+    × (leads ≡ (are_texts found && one.redirects))
 
--- `leads` is whether the rule at `index` is known to lead to the one at `next`: texts are known
--- that its second pattern and the other's first both match.
-abbrev pub LeadsIf : RewriteRules → (index next : ℕ) → (leads : Bool) → Type 0
-LeadsIf rules index next leads =
-    (one other : UrlPattern PatternRegexp × RewriteRule)
-    × (slice_get rules index ≡ Some one) × (slice_get rules next ≡ Some other)
-    × ((second first : PatternAutomata) × AreAutomataOf one.1.to second
-    × AreAutomataOf other.0 first × DecidesLeading second first leads)
+-- `leads` is whether the rule is known to lead to the other. The rules before the other are not
+-- asked, so the first rule that matches such a text may be one of them.
+abbrev pub LeadsIf : (rule other : UrlPattern PatternRegexp × RewriteRule) → (leads : Bool) → Type 0
+LeadsIf rule other leads =
+    (one two : RuleAutomata) × AreRuleAutomata rule one × AreRuleAutomata other two
+    × DecidesLeading one two leads
 
--- Each rule has a rank, and those to which it is known to lead have lower ranks.
-abbrev pub HasEnds : RewriteRules → Type 0
-HasEnds rules =
-    (rank : ℕ → ℕ) × ((index next : ℕ) → index < length rules → next < length rules
-    → (rank next < rank index) ⊎ LeadsIf rules index next false)
+-- `leads` has for each rule whether it is known to lead to each rule.
+abbrev pub AreLeads : RewriteRules → (leads : List (List Bool)) → Type 0
+AreLeads rules leads = AllZip (λ rule row. AllZip (LeadsIf rule) rules row) rules leads
 
--- Each of the rules at the indices leads to one of them.
+-- The indices are those of the rules that are known to lead on to themselves, in one step or more.
 abbrev pub AreEndless : RewriteRules → (rest : List ℕ) → Type 0
-AreEndless rules rest =
-    All (λ index. (next : ℕ) × Contains rest next × LeadsIf rules index next true) rest
+AreEndless rules rest = (leads : List (List Bool)) × AreLeads rules leads × AreLoops leads rest
 
--- The entries of a table are read as the rules, in order, which are not known to lead from one to
--- another without end.
+-- The number of the line of the rule at the index, if there is one.
+abbrev pub line_at : RewriteRules → (index : ℕ) → List ℕ
+line_at rules index =
+    cons_option (option_map (λ rule. rule.1.entry.number) (slice_get rules index)) []
+
+-- The numbers of the lines of the rules at the indices.
+abbrev pub lines_of : RewriteRules → (indices : List ℕ) → List ℕ
+lines_of rules indices = flat_map (line_at rules) indices
+
+-- The lines are those of the rules that are known to lead on to themselves.
+abbrev pub AreEndlessLines : RewriteRules → (lines : List ℕ) → Type 0
+AreEndlessLines rules lines =
+    (rest : List ℕ) × AreEndless rules rest × (lines ≡ lines_of rules rest)
+
+-- The entries of a table are read as the rules, in order, of which none is known to lead on to
+-- itself.
 abbrev pub AreRewriteRules : (ignores : Bool) → (base : Option (List ℕ)) → List EntryView
     → RewriteRules → Type 0
 AreRewriteRules ignores base entries rules =
-    AreRulesOf (IsRewriteRule ignores base) entries rules × HasEnds rules
-
--- ---- steps
-
--- `leads` has the indices of the rules whose first pattern is known to match texts that the pattern
--- with the automata `second` matches, too. `all` has the automata of each rule.
-abbrev pub AreLeads : (second : PatternAutomata) → (all : List RuleAutomata) → (leads : List ℕ)
-    → Type 0
-AreLeads second all leads =
-    (index : ℕ) (one : RuleAutomata) → slice_get all index ≡ Some one
-    → (Contains leads index × DecidesLeading second one.first true)
-    ⊎ ((¬ Contains leads index) × DecidesLeading second one.first false)
-
--- The indices with one more, if `led`.
-abbrev pub with_index : (led : Bool) → (index : ℕ) → (leads : List ℕ) → List ℕ
-with_index true index leads = leads ++ index ∷ []
-with_index false index leads = leads
-
--- The rule at the index leads to one of `rest`. `leads` has for each rule those to which it leads.
-abbrev pub LeadsAmong : (leads : List (List ℕ)) → (rest : List ℕ) → (index : ℕ) → Type 0
-LeadsAmong leads rest index =
-    (others : List ℕ) × (slice_get leads index ≡ Some others)
-    × ((next : ℕ) × Contains others next × Contains rest next)
-
--- The rule at the place in `rest` leads to none of `rest`.
-abbrev pub LeadsOutside : (leads : List (List ℕ)) → (rest : List ℕ) → (place : ℕ) → Type 0
-LeadsOutside leads rest place =
-    (index : ℕ) × (others : List ℕ) × (slice_get rest place ≡ Some index)
-    × (slice_get leads index ≡ Some others)
-    × ((next : ℕ) → Contains others next → ¬ Contains rest next)
-
--- Each rule has a rank, and leads only to rules of lower ranks. `leads` has for each rule those to
--- which it leads.
-abbrev pub AreRanked : (leads : List (List ℕ)) → Type 0
-AreRanked leads =
-    (rank : ℕ → ℕ) × ((index next : ℕ) (others : List ℕ) → slice_get leads index ≡ Some others
-    → Contains others next → next < length leads → rank next < rank index)
+    AreRulesOf (IsRewriteRule ignores base) entries rules × AreEndless rules []

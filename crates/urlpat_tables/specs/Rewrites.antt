@@ -1,8 +1,8 @@
 -- The output of `rewrite` for the lines of a reader. Arguments and texts are bytes. `input` is what
 -- the reader has left, and `old` and `new` are the output before and after, as far as they are
 -- known.
-use Rattle.serde_json.specs.Data.{Data, number, string, unsigned}
-use Rattle.std.specs.Prelude.{◌≡◌, ◌≢◌, ◌⊎◌, ◌++◌, ◌∷◌, ℕ, Bool, List, Option, Some, [], codes, false, option_copied, option_map, true}
+use Rattle.serde_json.specs.Data.{Data}
+use Rattle.std.specs.Prelude.{◌≡◌, ◌≢◌, ◌⊎◌, ◌++◌, ◌∷◌, ℕ, Bool, List, None, Option, Some, [], codes, false, option_copied, true}
 use Rattle.url.specs.Parts.{Parts, serialize}
 use Rattle.urlpat_tables.specs.FirstRules.{FiltersFields, IsAnswered, passed_verdict}
 use Rattle.urlpat_tables.specs.declared.first_rule.Unmatched.{Unmatched}
@@ -12,6 +12,7 @@ use Rattle.urlpat_matching.specs.Tables.{table_entries}
 use Rattle.urlpat_matching.specs.declared.answers.Verdict.{Verdict}
 use Rattle.urlpat_matching.specs.declared.answers.Verdict.TheVariants.{NoLink, Selected}
 use Rattle.urlpat_matching.specs.declared.command.{Flags.Flags, RewriteArguments.RewriteArguments}
+use Rattle.urlpat_tables.specs.LineJson.{line_tree, number_tree, text_tree}
 use Rattle.urlpat_tables.specs.RewriteRules.{AreRewriteRules, RewriteRules, groups_taken}
 use Rattle.urlpat_tables.specs.declared.rewrite_rules.RewriteRule.{RewriteRule}
 use Rattle.urlpattern.specs.LinkedUrls.{IsLink, RejectsLink}
@@ -41,50 +42,52 @@ HasNoNewUrl first rule result =
     (error : LinkError) × (error ≢ OutOfMemory)
     × RejectsLink pattern_result rule.to (groups_taken first (pattern_view rule.to) result) error
 
--- The JSON of a line that is rewritten: the status code of the rule if it has one, the number of
--- its line, and the URL.
-abbrev pub new_tree : RewriteRule → (url : Parts) → Data
-new_tree rule url =
-    object_of ((codes "code", option_map (λ code. number (unsigned code)) rule.code)
-    ∷ (codes "number", Some (number (unsigned rule.entry.number)))
-    ∷ (codes "url", Some (string (serialize url))) ∷ [])
+-- The JSON for a line: the line, and the status code, the number of the rule's line and the new
+-- URL, each null without one.
+abbrev pub new_tree : (line : List ℕ) → (code number : Option ℕ) → (url : Option (List ℕ)) → Data
+new_tree line code number url =
+    object_of ((codes "code", Some (number_tree code)) ∷ (codes "line", Some (line_tree line))
+    ∷ (codes "number", Some (number_tree number)) ∷ (codes "url", Some (text_tree url)) ∷ [])
 
 -- What is written for a line that is rewritten.
-abbrev pub new_text : (json : Bool) → RewriteRule → (url : Parts) → List ℕ
-new_text true rule url = json_line (new_tree rule url)
-new_text false rule url = serialize url ++ codes "\n"
+abbrev pub new_text : (json : Bool) → RewriteRule → (url : Parts) → (line : List ℕ) → List ℕ
+new_text true rule url line =
+    json_line (new_tree line rule.code (Some rule.entry.number) (Some (serialize url)))
+new_text false rule url line = serialize url ++ codes "\n"
 
--- What is written for a line that is not rewritten: the line as it came, or in JSON `null`.
+-- What is written for a line that is not rewritten: the line as it came, or its JSON.
 abbrev pub unchanged_text : (json : Bool) → (line : List ℕ) → List ℕ
-unchanged_text true line = codes "null\n"
+unchanged_text true line = json_line (new_tree line None None None)
 unchanged_text false line = line
 
 -- The verdict on a line whose rule has no link, for this reason, and what is written for it: the
--- line as it came, or `null` in JSON.
+-- line as it came, or its JSON.
 abbrev pub IsUnlinked : (json : Bool) → LinkError → (line : List ℕ) → Verdict
     → (written : List ℕ) → Type 0
 IsUnlinked json error line verdict written =
     (error ≢ OutOfMemory) × (verdict ≡ NoLink) × (written ≡ unchanged_text json line)
 
 -- The verdict on a line that a rule is the first to match, and what is written for it: the new URL,
--- or, if there is none, the line as it came, or `null` in JSON.
+-- or, if there is none, the line as it came; or JSON.
 abbrev pub Rewrites : (json : Bool) → (first : PatternView PatternRegexp) → RewriteRule
     → (ComponentName → ResultView) → (line : List ℕ) → Verdict → (written : List ℕ) → Type 0
 Rewrites json first rule result line verdict written =
     ((url : Parts) × IsNewUrl first rule result url × (verdict ≡ Selected)
-    × (written ≡ new_text json rule url))
+    × (written ≡ new_text json rule url line))
     ⊎ (HasNoNewUrl first rule result × (verdict ≡ NoLink) × (written ≡ unchanged_text json line))
 
--- A line that no rule matches, as far as it is seen: an empty line stands for one that is rejected.
-abbrev pub line_left : Unmatched → (line : List ℕ) → List ℕ
-line_left unmatched.Rejected line = codes "\n"
-line_left why line = line
+-- What is written for a line that no rule matches. A line that is rejected has an empty line, or
+-- `null` in JSON, in its place.
+abbrev pub left_text : (json : Bool) → Unmatched → (line : List ℕ) → List ℕ
+left_text true unmatched.Rejected line = codes "null\n"
+left_text false unmatched.Rejected line = codes "\n"
+left_text json why line = unchanged_text json line
 
 -- The verdict on a line that no rule matches, and what is written for it.
 abbrev pub LeavesUnchanged : (json : Bool) → Unmatched → (line : List ℕ) → Verdict
     → (written : List ℕ) → Type 0
 LeavesUnchanged json why line verdict written =
-    (verdict ≡ passed_verdict why) × (written ≡ unchanged_text json (line_left why line))
+    (verdict ≡ passed_verdict why) × (written ≡ left_text json why line)
 
 -- ---- the output
 

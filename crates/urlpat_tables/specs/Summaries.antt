@@ -1,9 +1,9 @@
--- How often each entry of a table is the first whose pattern matches. Arguments and texts are
--- bytes. `input` is what the reader has left, and `old` and `new` are the output before and after,
--- as far as they are known.
+-- How often each entry of a table is the first whose pattern matches, and how many lines none
+-- matches. Arguments and texts are bytes. `input` is what the reader has left, and `old` and `new`
+-- are the output before and after, as far as they are known.
 use Rattle.std.specs.Io.KnownBytes.{Appends}
 use Rattle.std.specs.List.{count_by, filter, flat_map, repeat, slice_index_or}
-use Rattle.std.specs.Prelude.{◌≡◌, ◌==◌, ◌≤◌, ◌<◌, ◌+◌, ◌/◌, ◌++◌, ◌∷◌, ℕ, Bool, IsPermutation, List, Option, Some, [], bytes_eq, codes, decimal, false, if◌then◌else◌, length, map, option_copied}
+use Rattle.std.specs.Prelude.{◌≡◌, ◌==◌, ◌≤◌, ◌<◌, ◌+◌, ◌/◌, ◌++◌, ◌∷◌, ℕ, Bool, IsPermutation, List, None, Option, Some, [], bytes_eq, codes, decimal, false, if◌then◌else◌, length, map, option_copied, option_map}
 use Rattle.urlpat_matching.specs.LineLabels.{name_label}
 use Rattle.urlpat_matching.specs.Tables.{EntryView, entry_view, table_entries}
 use Rattle.urlpat_matching.specs.declared.command.{Flags.Flags, LineArguments.LineArguments, RouteArguments.RouteArguments}
@@ -20,27 +20,53 @@ use Rattle.urlpat_tables.specs.declared.counting.Counted.{Counted}
 abbrev pub count_of : (line text : List ℕ) → ℕ
 count_of line text = count_by (bytes_eq line) (bare_lines text)
 
--- An entry, and how often it is counted: how many of the lines are its number.
-abbrev pub counted : (numbers : List ℕ) → EntryView → EntryView × ℕ
-counted numbers entry = (entry, count_of (decimal entry.number) numbers)
+-- What is counted: an entry, the lines that it is the first to match, or None, the lines that no
+-- pattern matches, also those that are no URL, lack their field or are rejected; and how many lines
+-- these are.
+abbrev pub Count : Type 0
+Count = Option EntryView × ℕ
 
--- The view of an entry that is counted.
-abbrev pub counted_view : Counted → EntryView × ℕ
-counted_view one = (entry_view one.entry, one.count)
+-- The number of an entry. `-` stands for the lines that no pattern matches.
+abbrev pub number_cell : Option EntryView → List ℕ
+number_cell None = codes "-"
+number_cell (Some entry) = decimal entry.number
 
--- No entry is counted more often than one before it.
-abbrev pub IsMostFirst : List (EntryView × ℕ) → Type 0
+-- The name of an entry, or else its pattern. `-` stands for the lines that no pattern matches.
+abbrev pub name_cell : Option EntryView → List ℕ
+name_cell None = codes "-"
+name_cell (Some entry) = label_of entry
+
+-- How many of the lines are the number of the entry, or `-`.
+abbrev pub counted : (numbers : List ℕ) → Option EntryView → Count
+counted numbers one = (one, count_of (number_cell one) numbers)
+
+-- The lines that no pattern matches, as they are counted, if there are some.
+abbrev pub unmatched_count : (numbers : List ℕ) → List Count
+unmatched_count numbers =
+    if count_of (number_cell None) numbers == 0 then [] else counted numbers None ∷ []
+
+-- How often each entry is counted, in order, and after them the lines that no pattern matches.
+abbrev pub counts_in : (numbers : List ℕ) → List EntryView → List Count
+counts_in numbers entries =
+    map (λ entry. counted numbers (Some entry)) entries ++ unmatched_count numbers
+
+-- The view of what is counted.
+abbrev pub counted_view : Counted → Count
+counted_view one = (option_map entry_view one.entry, one.count)
+
+-- Nothing is counted more often than what is before it.
+abbrev pub IsMostFirst : List Count → Type 0
 IsMostFirst all =
-    (i j : ℕ) (none : EntryView × ℕ) → i ≤ j → j < length all
+    (i j : ℕ) (none : Count) → i ≤ j → j < length all
     → (slice_index_or all j none).1 ≤ (slice_index_or all i none).1
 
--- Entries that are counted as often keep their order.
-abbrev pub KeepsTies : (old new : List (EntryView × ℕ)) → Type 0
+-- What is counted as often keeps its order.
+abbrev pub KeepsTies : (old new : List Count) → Type 0
 KeepsTies old new =
     (count : ℕ) → filter (λ one. one.1 == count) new ≡ filter (λ one. one.1 == count) old
 
--- The count of the first entry, which is counted most. 0 if there is none.
-abbrev pub first_count : List (EntryView × ℕ) → ℕ
+-- The count of the first, which is the most. 0 if there is none.
+abbrev pub first_count : List Count → ℕ
 first_count [] = 0
 first_count (one ∷ all) = one.1
 
@@ -49,25 +75,27 @@ abbrev pub bar : (most count : ℕ) → List ℕ
 bar most count =
     codes "\t" ++ repeat (count / (most / 40 + 1)) (codes "#")
 
--- The line of an entry that is counted, after a label: the count, the number, the name or else the
--- pattern, and a bar.
-abbrev pub count_line : (label : List ℕ) → (bars : Bool) → (most : ℕ) → EntryView × ℕ → List ℕ
+-- The line of what is counted, after a label: the count, the number, the name or else the pattern,
+-- and a bar.
+abbrev pub count_line : (label : List ℕ) → (bars : Bool) → (most : ℕ) → Count → List ℕ
 count_line label bars most one =
-    label ++ decimal one.1 ++ codes "\t" ++ decimal one.0.number ++ codes "\t"
-    ++ label_of one.0 ++ (if bars then bar most one.1 else []) ++ codes "\n"
+    label ++ decimal one.1 ++ codes "\t" ++ number_cell one.0 ++ codes "\t"
+    ++ name_cell one.0 ++ (if bars then bar most one.1 else []) ++ codes "\n"
 
--- The lines of entries that are counted.
-abbrev pub count_lines : (label : List ℕ) → (bars : Bool) → List (EntryView × ℕ) → List ℕ
+-- The lines of what is counted.
+abbrev pub count_lines : (label : List ℕ) → (bars : Bool) → List Count → List ℕ
 count_lines label bars all = flat_map (count_line label bars (first_count all)) all
 
--- The text has a line for each entry, after the label, those first that are counted most, and of
--- several that are counted as often the one whose line in the table is first. `numbers` has a line
--- for each line that was read: the number of the entry whose pattern is the first to match.
+-- The text has a line for each entry, after the label, and one for the lines that no pattern
+-- matches, if there are some: those first that are counted most, and of several that are counted as
+-- often the one whose line in the table is first, and last the lines that no pattern matches.
+-- `numbers` has a line for each line that was read: the number of the entry whose pattern is the
+-- first to match, or `-`.
 abbrev pub IsSummary : (label : List ℕ) → (bars : Bool) → (entries : List EntryView)
     → (numbers text : List ℕ) → Type 0
 IsSummary label bars entries numbers text =
-    (all : List (EntryView × ℕ)) × IsPermutation (map (counted numbers) entries) all
-    × IsMostFirst all × KeepsTies (map (counted numbers) entries) all
+    (all : List Count) × IsPermutation (counts_in numbers entries) all
+    × IsMostFirst all × KeepsTies (counts_in numbers entries) all
     × (text ≡ count_lines label bars all)
 
 -- The arguments without labels before the output for lines.

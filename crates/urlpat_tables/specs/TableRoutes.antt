@@ -1,11 +1,11 @@
 -- The first pattern of a table that matches the URL in each line, and the output for it. Arguments
 -- and texts are bytes. `input` is what the reader has left, and `old` and `new` are the output
 -- before and after, as far as they are known.
-use Rattle.std.specs.Prelude.{◌≡◌, ◌==◌, ℕ, Bool, false, List, [], ◌∷◌, ◌++◌, codes, decimal, if◌then◌else◌, length, map, None, Option, Some, option_copied}
-use Rattle.std.specs.List.{flat_map}
+use Rattle.std.specs.Prelude.{◌≡◌, ◌==◌, ℕ, Bool, false, not, List, [], ◌∷◌, ◌++◌, bytes_eq, codes, decimal, if◌then◌else◌, length, map, None, Option, Some, option_copied}
+use Rattle.std.specs.List.{filter}
 use Rattle.bstr.specs.Text.{lines_of, without_terminator}
-use Rattle.serde_json.specs.Data.{Data, number, string, unsigned}
-use Rattle.urlpat_matching.specs.GroupLines.{AreLines, all_named_results}
+use Rattle.serde_json.specs.Data.{Data, null}
+use Rattle.urlpat_matching.specs.GroupLines.{AreCells, named_results}
 use Rattle.urlpat_matching.specs.MatchJson.{IsMatchTree, json_line}
 use Rattle.urlpat_matching.specs.Tables.{EntryView, entry_view}
 use Rattle.urlpat_matching.specs.declared.answers.Verdict.{Verdict}
@@ -15,14 +15,17 @@ use Rattle.urlpat_matching.specs.declared.command.RouteShape.TheVariants as rout
 use Rattle.urlpat_matching.specs.declared.table.Entry.{Entry}
 use Rattle.urlpat_tables.specs.FirstRules.{FiltersFields, IsAnswered, Rules, passed_verdict}
 use Rattle.urlpat_tables.specs.Labels.{header_column, IsLabelled}
+use Rattle.urlpat_tables.specs.LineJson.{line_tree, number_tree, text_tree}
 use Rattle.urlpat_tables.specs.TableRules.{IsCompiledTo}
 use Rattle.urlpat_tables.specs.declared.first_rule.Unmatched.{Unmatched}
 use Rattle.urlpat_tables.specs.declared.first_rule.Unmatched.TheVariants.{Rejected}
 use Rattle.urlpat_tables.specs.declared.row.RowShape.{RowShape}
 use Rattle.urlpat_tables.specs.declared.row.RowShape.TheVariants as shapes
+use Rattle.urlpattern.specs.Patterns.{PatternView}
 use Rattle.urlpattern.specs.ResultViews.{ResultView}
 use Rattle.urlpattern.specs.UrlPattern.{UrlPattern}
 use Rattle.urlpattern_canonical.specs.BaseUrls.{base_view}
+use Rattle.urlpattern_components.specs.Eight.{components}
 use Rattle.urlpattern_components.specs.declared.eight.ComponentName.{ComponentName}
 use Rattle.urlpattern_engine.specs.declared.pattern_regexp.PatternRegexp.{PatternRegexp}
 use Rattle.urlpattern_inputs.specs.Trees.{object_of}
@@ -40,54 +43,70 @@ IsRoute ignores base entry pattern value =
 abbrev pub bare_lines : (text : List ℕ) → List (List ℕ)
 bare_lines text = map without_terminator (lines_of text)
 
--- A cell of a row: a tab and a text.
-abbrev pub cell_text : (line : List ℕ) → List ℕ
-cell_text line = codes "\t" ++ line
+-- Whether the pattern of a component is the wildcard `*` alone, which matches any text.
+abbrev pub is_wildcard : {E : Type 0} → PatternView E → ComponentName → Bool
+is_wildcard pattern name = bytes_eq (pattern name).pattern_string (codes "*")
 
--- The row of an entry, without a line end: its number, its name, and each line of a text, separated
--- by tabs.
-abbrev pub row_text : EntryView → (text : List ℕ) → List ℕ
-row_text entry text =
-    decimal entry.number ++ codes "\t" ++ entry.name ++ flat_map cell_text (bare_lines text)
+-- The components among `names` whose groups a row has: those of a pattern that are no wildcards.
+abbrev pub shown_among : {E : Type 0} → PatternView E → List ComponentName → List ComponentName
+shown_among pattern names = filter (λ name. not (is_wildcard pattern name)) names
 
--- `row` is the row of an entry as text, without a line end: its number, its name, and for each
--- group of the match the line that `match` prints.
-abbrev pub IsRouteRow : EntryView → (ComponentName → ResultView) → (row : List ℕ) → Type 0
-IsRouteRow entry result row =
-    (text : List ℕ) × AreLines (all_named_results result) text × (row ≡ row_text entry text)
+-- The components of a pattern whose groups a row has.
+abbrev pub shown_components : {E : Type 0} → PatternView E → List ComponentName
+shown_components pattern = shown_among pattern components
 
--- The JSON of a row: the number and the name of an entry, and `found`, the JSON of the match.
-abbrev pub route_tree : EntryView → (found : Data) → Data
-route_tree entry found =
-    object_of ((codes "number", Some (number (unsigned entry.number)))
-    ∷ (codes "name", Some (string entry.name)) ∷ (codes "match", Some found) ∷ [])
+-- `row` is the row of an entry as text, without a line end: its number and its name, and a cell for
+-- each group of these components of the match, separated by tabs.
+abbrev pub IsRouteRow : EntryView → List ComponentName → (ComponentName → ResultView)
+    → (row : List ℕ) → Type 0
+IsRouteRow entry names result row =
+    (cells : List ℕ) × AreCells (named_results result names) cells
+    × (row ≡ decimal entry.number ++ codes "\t" ++ entry.name ++ cells)
 
--- `row` is the row of an entry as a line of JSON.
-abbrev pub IsRouteJson : EntryView → (ComponentName → ResultView) → (row : List ℕ) → Type 0
-IsRouteJson entry result row =
-    (tree : Data) × IsMatchTree result tree × (row ≡ json_line (route_tree entry tree))
+-- The JSON for a line: the line, and the number and the name of the entry whose pattern matches it,
+-- null without one. `found` is the JSON of the match.
+abbrev pub route_tree : (line : List ℕ) → (number : Option ℕ) → (name : Option (List ℕ))
+    → (found : Data) → Data
+route_tree line number name found =
+    object_of ((codes "line", Some (line_tree line)) ∷ (codes "match", Some found)
+    ∷ (codes "name", Some (text_tree name)) ∷ (codes "number", Some (number_tree number)) ∷ [])
+
+-- The name of an entry, if it has one.
+abbrev pub name_of : EntryView → Option (List ℕ)
+name_of entry = if length entry.name == 0 then None else Some entry.name
+
+-- `written` is the JSON for a line that the pattern of an entry matches.
+abbrev pub IsRouteJson : EntryView → (ComponentName → ResultView) → (line written : List ℕ)
+    → Type 0
+IsRouteJson entry result line written =
+    (found : Data) × IsMatchTree result found
+    × (written ≡ json_line (route_tree line (Some entry.number) (name_of entry) found))
 
 -- The label of an entry: its name, or its pattern if it has no name.
 abbrev pub label_of : EntryView → List ℕ
 label_of entry = if length entry.name == 0 then entry.pattern else entry.name
 
 -- What is written for a line that the pattern of an entry matches with these results.
-abbrev pub IsRowShown : RowShape → EntryView → (ComponentName → ResultView)
-    → (line written : List ℕ) → Type 0
-IsRowShown shapes.Row entry result line written =
-    (row : List ℕ) × IsRouteRow entry result row × (written ≡ row ++ codes "\n")
-IsRowShown shapes.RowWithLine entry result line written =
-    (row : List ℕ) × IsRouteRow entry result row × (written ≡ row ++ codes "\t" ++ line)
-IsRowShown shapes.Json entry result line written = IsRouteJson entry result written
-IsRowShown (shapes.Label format) entry result line written =
+abbrev pub IsRowShown : RowShape → PatternView PatternRegexp → EntryView
+    → (ComponentName → ResultView) → (line written : List ℕ) → Type 0
+IsRowShown shapes.Row pattern entry result line written =
+    (row : List ℕ) × IsRouteRow entry (shown_components pattern) result row
+    × (written ≡ row ++ codes "\n")
+IsRowShown shapes.RowWithLine pattern entry result line written =
+    (row : List ℕ) × IsRouteRow entry (shown_components pattern) result row
+    × (written ≡ row ++ codes "\t" ++ line)
+IsRowShown shapes.Json pattern entry result line written = IsRouteJson entry result line written
+IsRowShown (shapes.Label format) pattern entry result line written =
     IsLabelled format (Some (label_of entry)) line written
-IsRowShown shapes.Number entry result line written =
+IsRowShown shapes.Number pattern entry result line written =
     written ≡ decimal entry.number ++ codes "\n"
 
 -- What is written for a line that no pattern matches, so that each line has its place in the
 -- output.
 abbrev pub LeavesText : RowShape → Unmatched → (line written : List ℕ) → Type 0
-LeavesText shapes.Json why line written = written ≡ codes "null\n"
+LeavesText shapes.Json Rejected line written = written ≡ codes "null\n"
+LeavesText shapes.Json why line written =
+    written ≡ json_line (route_tree line None None null)
 LeavesText (shapes.Label format) Rejected line written = written ≡ codes "\n"
 LeavesText (shapes.Label format) why line written = IsLabelled format None line written
 LeavesText shapes.RowWithLine Rejected line written = written ≡ codes "-\n"
@@ -103,10 +122,10 @@ HeadsRows shape header written = written ≡ []
 
 -- The verdict on a line that the pattern of an entry is the first to match, and what is written for
 -- it.
-abbrev pub ShowsRoute : RowShape → EntryView → (ComponentName → ResultView) → (line : List ℕ)
-    → Verdict → (written : List ℕ) → Type 0
-ShowsRoute shape entry result line verdict written =
-    (verdict ≡ Selected) × IsRowShown shape entry result line written
+abbrev pub ShowsRoute : RowShape → PatternView PatternRegexp → EntryView
+    → (ComponentName → ResultView) → (line : List ℕ) → Verdict → (written : List ℕ) → Type 0
+ShowsRoute shape pattern entry result line verdict written =
+    (verdict ≡ Selected) × IsRowShown shape pattern entry result line written
 
 -- The verdict on a line that no pattern matches, and what is written for it.
 abbrev pub LeavesRow : RowShape → Unmatched → (line : List ℕ) → Verdict → (written : List ℕ)
@@ -119,8 +138,8 @@ abbrev pub RoutesTo : RowShape → Rules Entry → LineArguments → (status : �
     → (input old new : Option (List ℕ)) → Type 0
 RoutesTo shape routes asked status input old new =
     FiltersFields (HeadsRows shape)
-    (IsAnswered (λ pattern entry. ShowsRoute shape (entry_view entry)) (LeavesRow shape) routes
-    (base_view (option_copied asked.base))) asked false status input old new
+    (IsAnswered (λ pattern entry. ShowsRoute shape pattern (entry_view entry)) (LeavesRow shape)
+    routes (base_view (option_copied asked.base))) asked false status input old new
 
 -- What is written for a line: JSON if that is asked for, else, of lines that have fields, the line
 -- with another field, else a row.

@@ -17,17 +17,19 @@ use Rattle.urlpattern_compare.specs.declared.reaching.Reach.{Reach}
 use Rattle.urlpattern_compare.specs.declared.reaching.Reach.TheVariants as reaches
 use Rattle.urlpattern_engine.specs.PatternRegexps.{pattern_engine}
 
--- Which patterns of the rules are ever the first match.
-pub record AreReached (rules : Rules Entry) (found : Reached) : Type 0 where
-  pub lines : found.lines.items ≡ map (λ entry. entry.number) (values_of rules)
-  pub reached : AreReachedBy pattern_engine USUAL_LIMITS (keys_of rules) found.reaches.items
+-- Which patterns of the rules are ever the first match. `number_of` is the number of the line of a
+-- rule, by its value.
+pub record AreReached {T : Type 0} (number_of : T → ℕ) (rules : Rules T) (found : Reached) : Type 0
+  where
+    pub lines : found.lines.items ≡ map number_of (values_of rules)
+    pub reached : AreReachedBy pattern_engine USUAL_LIMITS (keys_of rules) found.reaches.items
 
 -- Which patterns of the entries are ever the first match.
 abbrev pub IsReachOf : (ignores : Bool) → (base : Option (List ℕ)) → List EntryView → Reached
     → Type 0
 IsReachOf ignores base entries found =
     (rules : Rules Entry) × AreRulesOf (IsRoute ignores base) entries rules
-    × AreReached rules found
+    × AreReached (λ entry. entry.number) rules found
 
 -- Whether a pattern is never the first match.
 abbrev pub is_never : Reach → Bool

@@ -1,4 +1,4 @@
-//! The command `check`: finds what is wrong with tables of patterns.
+//! The command `check`: finds what is wrong with tables of patterns, or of rules of `rewrite`.
 
 ghost use Rattle.std.specs.Prelude.{◌≡◌, ◌≢◌, ◌⊎◌, ◌∷◌, ℕ, [], Bool, IfOk, IfSome, List, option_copied, string_bytes};
 ghost use Rattle.urlpat_matching.specs.Texts.{texts_view};
@@ -60,12 +60,13 @@ pub fn check<T: Tables, P: FindingsPrinter, Out: Write, Err: Write>(
 ) -> u8
     ensures status { (result ≡ DONE) ⊎ (result ≡ NO_MATCH) ⊎ (result ≡ FAILED) }
     ensures answers { result ≢ FAILED → Checks (T.Has tables.now)
-        (P.Prints printer.now flags.json) flags.ignore_case (option_copied asked.entry.base)
-        (texts_view asked.entry.files.now) result (Out.contents out.old) (Out.contents out.new) }
+        (P.Prints printer.now flags.json) asked.entry.kind flags.ignore_case
+        (option_copied asked.entry.base) (texts_view asked.entry.files.now) result
+        (Out.contents out.old) (Out.contents out.new) }
 {
     let mut seen = Some((false, false));
     for file in asked.files {
-        let more = check_file(alloc, tables, printer, *file, asked.base, flags, out, err);
+        let more = check_file(alloc, tables, printer, *file, asked, flags, out, err);
         seen = seen_both(seen, more);
     }
     match seen {
@@ -94,22 +95,22 @@ fn check_file<T: Tables, P: FindingsPrinter, Out: Write, Err: Write>(
     tables: &T,
     printer: &P,
     file: &str,
-    base: Option<&str>,
+    asked: CheckArguments<'_, '_>,
     flags: Flags,
     out: &mut Out,
     err: &mut Err,
 ) -> Option<(bool, bool)>
     ensures { IfSome result (λ it. AreChecked (T.Has tables.now) (P.Prints printer.now flags.json)
-        flags.ignore_case (option_copied base.entry) (file.now ∷ []) it.0 it.1
-        (Out.contents out.old) (Out.contents out.new)) }
+        asked.entry.kind flags.ignore_case (option_copied asked.entry.base) (file.now ∷ []) it.0
+        it.1 (Out.contents out.old) (Out.contents out.new)) }
 {
     let table = read_table(tables, file, err)?;
     let entries = entries_or_report(alloc, file, &table, err)?;
     let how = Compiling {
-        base,
+        base: asked.base,
         ignore_case: flags.ignore_case,
     };
-    let Ok(found) = findings_of(alloc, how, &entries) else {
+    let Ok(found) = findings_of(alloc, asked.kind, how, &entries) else {
         report_memory(err);
         return None;
     };

@@ -1,61 +1,70 @@
-//! Rules that lead from one to another without end.
+//! Rules that lead on to themselves.
 
-ghost use Rattle.std.specs.Prelude.{◌≡◌, ◌↔◌, ◌<◌, ℕ, All, Contains, IfNone, IfOk, IfSome, IsTrue, MatchBool, [], length, map};
-ghost use Rattle.urlpat_tables.specs.RewriteRules.{AreRanked, LeadsAmong, LeadsOutside};
+ghost use Rattle.urlpat_tables.specs.Loops.{AddsIf, AddsLed, IsSquare, AreLoops, LeadsOn, is_led};
+ghost use Rattle.std.specs.List.{slice_index_or};
+ghost use Rattle.std.specs.Prelude.{◌≡◌, ◌↔◌, ℕ, Contains, IfOk, IsTrue, OnOk, false, length, map};
 
 use std::alloc::{AllocError, Global};
 
-/// The rules that lead from one to another without end, by their indices: each leads to one of
-/// them. If there are none, each rule has a rank, and leads only to rules of lower ranks.
+/// The indices of the rules that lead on to themselves, in one step or more, in order.
 ///
-/// `leads` has for each rule the indices of those to which it leads.
-pub(crate) fn endless_among(alloc: Global, leads: &[Vec<usize>]) -> Result<Vec<usize>, AllocError>
-    ensures ranked { IfOk result (λ rest. rest.items ≡ []
-        → AreRanked (map (λ it. it.items) leads.now)) }
-    ensures endless { IfOk result (λ rest.
-        All (LeadsAmong (map (λ it. it.items) leads.now) rest.items) rest.items) }
+/// `leads` has for each rule whether it leads to each rule.
+pub(crate) fn endless_among(alloc: Global, leads: &[Vec<bool>]) -> Result<Vec<usize>, AllocError>
+    requires { IsSquare (map (λ row. row.items) leads.now) }
+    ensures { IfOk result (λ rest.
+        AreLoops (map (λ row. row.items) leads.now) rest.items) }
 {
-    let mut rest = indices(alloc, leads.len())?;
-    for round in 0..leads.len() {
-        match ended_in(leads, &rest) {
-            Some(place) => {
-                rest.remove(place);
-            }
-            None => return Ok(rest),
-        }
+    let mut rest = Vec::new(alloc);
+    for index in 0..leads.len() {
+        let found = led_from(alloc, leads, index)?;
+        push_if(has(&found, index), index, &mut rest)?;
     }
     Ok(rest)
 }
 
-/// The place in `rest` of the first rule that leads to none of `rest`. `None`: each leads to one.
-fn ended_in(leads: &[Vec<usize>], rest: &[usize]) -> Option<usize>
-    requires { All (λ rule. rule < length leads.now) rest.now }
-    ensures ended { IfSome result (λ place.
-        LeadsOutside (map (λ it. it.items) leads.now) rest.now place) }
-    ensures none { IfNone result
-        (All (LeadsAmong (map (λ it. it.items) leads.now) rest.now) rest.now) }
+/// The indices of the rules to which the one at `from` leads on, in one step or more.
+fn led_from(alloc: Global, leads: &[Vec<bool>], from: usize) -> Result<Vec<usize>, AllocError>
+    requires { IsSquare (map (λ row. row.items) leads.now) }
+    ensures { IfOk result (λ found. (last : ℕ)
+        → Contains found.items last ↔ LeadsOn (map (λ row. row.items) leads.now) from last) }
 {
-    for place in 0..rest.len() {
-        let index = rest[place];
-        if !leads_among(&leads[index], rest) {
-            return Some(place);
+    let mut found = Vec::new(alloc);
+    push_led(leads, from, &mut found)?;
+    for place in 0..leads.len() {
+        let len = found.len();
+        if place >= len {
+            return Ok(found);
         }
+        let next = found[place];
+        push_led(leads, next, &mut found)?;
     }
-    None
+    Ok(found)
 }
 
-/// Whether one of the rules to which a rule leads is one of `rest`.
-fn leads_among(others: &[usize], rest: &[usize]) -> bool
-    ensures { MatchBool result
-        ((next : ℕ) × Contains others.now next × Contains rest.now next)
-        ((next : ℕ) → Contains others.now next → ¬ Contains rest.now next) }
+/// Appends the indices of the rules to which the one at an index leads, each unless the list has
+/// it.
+fn push_led(leads: &[Vec<bool>], index: usize, found: &mut Vec<usize>) -> Result<(), AllocError>
+    ensures { OnOk result (AddsLed (map (λ row. row.items) leads.now) index (length leads.now)
+        found.old.items found.new.items) }
 {
-    for next in others {
-        if has(rest, *next) {
-            return true;
-        }
+    for next in 0..leads.len() {
+        push_if(is_led(leads, index, next), next, found)?;
     }
-    false
+    Ok(())
+}
+
+/// Appends a number, if `led`, unless the list has it.
+fn push_if(led: bool, number: usize, numbers: &mut Vec<usize>) -> Result<(), AllocError>
+    ensures { OnOk result (AddsIf led number numbers.old.items numbers.new.items) }
+{
+    if !led {
+        return Ok(());
+    }
+    if has(numbers, number) {
+        return Ok(());
+    }
+    numbers.push(number)?;
+    Ok(())
 }
 
 /// Whether a list has a number.
@@ -65,15 +74,22 @@ fn has(numbers: &[usize], number: usize) -> bool
     numbers.contains(&number)
 }
 
-/// The numbers below `count`.
-fn indices(alloc: Global, count: usize) -> Result<Vec<usize>, AllocError>
-    ensures length { IfOk result (λ all. length all.items ≡ count) }
-    ensures all { IfOk result (λ all. (index : ℕ) → index < count → Contains all.items index) }
-    ensures within { IfOk result (λ all. All (λ index. index < count) all.items) }
+/// Whether the rule at an index leads to the one at `next`.
+fn is_led(leads: &[Vec<bool>], index: usize, next: usize) -> bool
+    ensures { result ≡ is_led (map (λ row. row.items) leads.now) index next }
 {
-    let mut all = Vec::with_capacity(alloc, count)?;
-    for index in 0..count {
-        all.push(index)?;
+    match leads.get(index) {
+        Some(row) => is_set(row, next),
+        None => false,
     }
-    Ok(all)
+}
+
+/// The element at an index. `false` if the index is out of range.
+fn is_set(row: &[bool], index: usize) -> bool
+    ensures { result ≡ slice_index_or row.now index false }
+{
+    match row.get(index) {
+        Some(led) => *led,
+        None => false,
+    }
 }

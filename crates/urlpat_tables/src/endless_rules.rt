@@ -1,8 +1,8 @@
-//! Whether the rules of a table lead from one to another without end.
+//! The rules of a table that lead on to themselves.
 
 ghost use Rattle.std.specs.List.{AllZip};
-ghost use Rattle.std.specs.Prelude.{◌≡◌, [], All, IfOk, OnOk};
-ghost use Rattle.urlpat_tables.specs.RewriteRules.{AreAutomataOf, AreEndless, AreLeads, AreRuleAutomata, DecidesLeading, HasEnds, with_index};
+ghost use Rattle.std.specs.Prelude.{◌≡◌, All, IfOk};
+ghost use Rattle.urlpat_tables.specs.RewriteRules.{AreAutomataOf, AreEndless, AreRuleAutomata, DecidesLeading, redirects};
 ghost use Rattle.urlpattern_compare.specs.CommonTexts.{AreAutomata};
 
 use crate::endless::endless_among;
@@ -12,29 +12,30 @@ use urlpattern::UrlPattern;
 use urlpattern::regexp::PatternRegexp;
 use urlpattern::rules::{Common, PatternAutomata, USUAL_LIMITS, find_common};
 
-/// The automata of the patterns of a rule.
+/// The automata of the patterns of a rule, and whether it leads to others.
 #[derive(Drop)]
 pub(crate) struct RuleAutomata {
     /// The automata of the first pattern.
     pub first: PatternAutomata,
     /// The automata of the second pattern.
     pub second: PatternAutomata,
+    /// Whether the rule is a redirect, by its status code.
+    pub redirects: bool,
 }
 
-/// The indices of rules that lead from one to another without end: each is known to lead to one of
-/// them. A rule leads to another if its second pattern and the other's first are known to match a
+/// The indices of the rules that are known to lead on to themselves, in one step or more, in order.
+/// A rule leads to another if it redirects, and its second pattern and the other's first match a
 /// text in common.
 pub(crate) fn endless_rules(
     alloc: Global,
     rules: &RewriteRules<'_>,
 ) -> Result<Vec<usize>, AllocError>
-    ensures ends { IfOk result (λ rest. rest.items ≡ [] → HasEnds rules.now) }
-    ensures endless { IfOk result (λ rest. AreEndless rules.now rest.items) }
+    ensures { IfOk result (λ rest. AreEndless rules.now rest.items) }
 {
     let automata = automata_of_each(alloc, rules)?;
     let mut leads = Vec::with_capacity(alloc, automata.len())?;
     for one in &automata {
-        leads.push(leads_of(alloc, &one.second, &automata)?)?;
+        leads.push(leads_of(alloc, one, &automata)?)?;
     }
     endless_among(alloc, &leads)
 }
@@ -51,9 +52,21 @@ fn automata_of_each(
         all.push(RuleAutomata {
             first: automata_of(alloc, first)?,
             second: automata_of(alloc, &rule.to)?,
+            redirects: redirects(rule.code),
         })?;
     }
     Ok(all)
+}
+
+/// Whether a rule with this status code sends a client on to another URL. A rule without a code
+/// does.
+fn redirects(code: Option<u16>) -> bool
+    ensures { result ≡ redirects code }
+{
+    match code {
+        Some(code) => code / 100 == 3,
+        None => true,
+    }
 }
 
 /// The automata of a pattern that was compiled.
@@ -69,49 +82,33 @@ fn automata_of(
     }
 }
 
-/// The indices of the rules whose first pattern is known to match texts that the pattern with the
-/// automata `second` matches, too.
+/// Whether a rule is known to lead to each rule.
 fn leads_of(
     alloc: Global,
-    second: &PatternAutomata,
+    one: &RuleAutomata,
     all: &[RuleAutomata],
-) -> Result<Vec<usize>, AllocError>
-    requires second { AreAutomata second.now }
-    requires all { All (λ one. AreAutomata one.first) all.now }
-    ensures { IfOk result (λ leads. AreLeads second.now all.now leads.items) }
+) -> Result<Vec<bool>, AllocError>
+    requires second { AreAutomata one.now.second }
+    requires all { All (λ other. AreAutomata other.first) all.now }
+    ensures { IfOk result (λ leads. AllZip (DecidesLeading one.now) all.now leads.items) }
 {
-    let mut leads = Vec::new(alloc);
-    for index in 0..all.len() {
-        let led = leads_to(alloc, second, &all[index].first)?;
-        push_if(led, index, &mut leads)?;
+    let mut leads = Vec::with_capacity(alloc, all.len())?;
+    for other in all {
+        leads.push(leads_to(alloc, one, other)?)?;
     }
     Ok(leads)
 }
 
-/// Appends an index, if `led`.
-fn push_if(led: bool, index: usize, leads: &mut Vec<usize>) -> Result<(), AllocError>
-    ensures { OnOk result (leads.new.items ≡ with_index led index leads.old.items) }
+/// Whether a rule is known to lead to another.
+fn leads_to(alloc: Global, one: &RuleAutomata, other: &RuleAutomata) -> Result<bool, AllocError>
+    requires second { AreAutomata one.now.second }
+    requires first { AreAutomata other.now.first }
+    ensures { IfOk result (DecidesLeading one.now other.now) }
 {
-    if led {
-        leads.push(index)?;
-    }
-    Ok(())
-}
-
-/// Whether two patterns are known to match a text in common.
-fn leads_to(
-    alloc: Global,
-    second: &PatternAutomata,
-    first: &PatternAutomata,
-) -> Result<bool, AllocError>
-    requires second { AreAutomata second.now }
-    requires first { AreAutomata first.now }
-    ensures { IfOk result (DecidesLeading second.now first.now) }
-{
-    match find_common(alloc, &[second, first], &[], USUAL_LIMITS)? {
+    match find_common(alloc, &[&one.second, &other.first], &[], USUAL_LIMITS)? {
         Common::Texts(texts) => {
             drop(texts);
-            Ok(true)
+            Ok(one.redirects)
         }
         Common::Nothing | Common::Unknown(_) => Ok(false),
     }

@@ -2,14 +2,16 @@
 
 ghost use Rattle.std.specs.Io.KnownBytes.{Appends};
 ghost use Rattle.std.specs.Prelude.{◌≡◌, [], IfErr, IfOk, IfSome, IsTrue, OnOk, map};
+ghost use Rattle.std.specs.List.{AllZip, Contains};
+ghost use Rattle.urlpat_matching.specs.Groups.{LacksGroup};
 ghost use Rattle.urlpat_matching.specs.Tables.{entries_view};
 ghost use Rattle.urlpat_matching.specs.Texts.{texts_view};
-ghost use Rattle.urlpat_tables.specs.FilterLines.{AddsFiles, AddsPattern, AddsTexts, AreGiven, IsMissingGroup, IsShapeOf, missing_group_line};
+ghost use Rattle.urlpat_tables.specs.FilterLines.{AddsFiles, AddsPattern, AddsTexts, AreGiven, IsGroupOf, IsMissingGroup, IsShapeOf, missing_group_line};
 ghost use Rattle.urlpattern.specs.Patterns.{pattern_view};
 
 use crate::fault_printing::report_memory;
 use crate::table_rules::entries_or_report;
-use std::alloc::Global;
+use std::alloc::{AllocError, Global};
 use std::io;
 use std::io::Write;
 use urlpat_commands::{Tables, read_table};
@@ -18,12 +20,12 @@ use urlpat_matching::{
     own_group,
 };
 use urlpattern::regexp::PatternRegexp;
-use urlpattern::{UrlPattern, UrlPatternMap};
+use urlpattern::{ComponentName, UrlPattern, UrlPatternMap};
 
 /// The patterns of `filter`, each with what is printed of a line that it matches.
 pub(crate) type FilterPatterns<'w> = UrlPatternMap<Shape<'w>, PatternRegexp>;
 
-/// The patterns that are asked for. `None`: one is rejected or lacks the group that is asked for, a
+/// The patterns that are asked for. `None`: one is rejected or lacks a group that is asked for, a
 /// file cannot be read, or memory ran out, which is reported.
 pub(crate) fn filter_patterns<'w, T: Tables, Err: Write>(
     alloc: Global,
@@ -71,7 +73,7 @@ fn add_given<'w, T: Tables, Err: Write>(
 }
 
 /// Appends a pattern, which the line of a table may have. Returns whether it is accepted and has
-/// the group that is asked for; otherwise that is reported.
+/// the groups that are asked for; otherwise that is reported.
 fn add_pattern<'w, Err: Write>(
     alloc: Global,
     line: Option<(&str, u64)>,
@@ -88,10 +90,14 @@ fn add_pattern<'w, Err: Write>(
     let Some(pattern) = compiled_or_report(alloc, line, given, base, ignore_case, err) else {
         return false;
     };
-    let shape = match shape_of(&pattern, asked.shape) {
-        Ok(shape) => shape,
-        Err(word) => {
+    let shape = match shape_of(alloc, &pattern, asked.shape) {
+        Ok(Ok(shape)) => shape,
+        Ok(Err(word)) => {
             let _ = report_missing_group(word, err);
+            return false;
+        }
+        Err(_) => {
+            report_memory(err);
             return false;
         }
     };
@@ -188,22 +194,47 @@ fn report_missing_group<Err: Write>(word: &str, err: &mut Err) -> io::Result<()>
     )
 }
 
-/// What is printed of a line that the pattern matches. The error is the word that names no group of
-/// the pattern.
+/// What is printed of a line that the pattern matches. The error inside is a word that names no
+/// group of the pattern.
 fn shape_of<'q>(
+    alloc: Global,
     pattern: &UrlPattern<PatternRegexp>,
-    asked: AskedShape<'q>,
-) -> Result<Shape<'q>, &'q str>
-    ensures there { IfOk result (IsShapeOf (pattern_view pattern.now) asked.entry) }
-    ensures missing { IfErr result (IsMissingGroup (pattern_view pattern.now) asked.entry) }
+    asked: AskedShape<'_, 'q>,
+) -> Result<Result<Shape<'q>, &'q str>, AllocError>
+    ensures there { IfOk result (λ it. IfOk it
+        (IsShapeOf (pattern_view pattern.now) asked.entry)) }
+    ensures missing { IfOk result (λ it. IfErr it
+        (IsMissingGroup (pattern_view pattern.now) asked.entry)) }
 {
     match asked {
-        AskedShape::Line => Ok(Shape::Line),
-        AskedShape::Count => Ok(Shape::Count),
-        AskedShape::Group(word) => match own_group(pattern, word) {
-            Some((component, name)) => Ok(Shape::Group(component, name)),
-            None => Err(word),
+        AskedShape::Line => Ok(Ok(Shape::Line)),
+        AskedShape::Count => Ok(Ok(Shape::Count)),
+        AskedShape::Groups(words) => match groups_of(alloc, pattern, words) {
+            Ok(Ok(groups)) => Ok(Ok(Shape::Groups(groups))),
+            Ok(Err(word)) => Ok(Err(word)),
+            Err(error) => Err(error),
         },
-        AskedShape::Json => Ok(Shape::Json),
+        AskedShape::Json => Ok(Ok(Shape::Json)),
     }
+}
+
+/// The groups of the pattern that words name, in order. The error inside is a word that names none.
+fn groups_of<'q>(
+    alloc: Global,
+    pattern: &UrlPattern<PatternRegexp>,
+    words: &[&'q str],
+) -> Result<Result<Vec<(ComponentName, &'q str)>, &'q str>, AllocError>
+    ensures there { IfOk result (λ it. IfOk it (λ groups.
+        AllZip (IsGroupOf (pattern_view pattern.now)) words.now groups.items)) }
+    ensures missing { IfOk result (λ it. IfErr it (λ word.
+        Contains words.now word × LacksGroup (pattern_view pattern.now) word.now)) }
+{
+    let mut groups = Vec::new(alloc);
+    for word in words {
+        match own_group(pattern, *word) {
+            Some(group) => groups.push(group)?,
+            None => return Ok(Err(*word)),
+        }
+    }
+    Ok(Ok(groups))
 }

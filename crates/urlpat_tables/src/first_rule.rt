@@ -25,6 +25,8 @@ use urlpattern_canonical::BaseUrl;
 pub enum Unmatched {
     /// The line is too long or not UTF-8.
     Rejected,
+    /// The line lacks the field that has the URL, or the field is no text.
+    NoField,
     /// The line is not a URL.
     NoUrl,
     /// No pattern matches the URL.
@@ -38,6 +40,7 @@ impl Unmatched {
     {
         match self {
             Unmatched::Rejected => Verdict::Rejected,
+            Unmatched::NoField => Verdict::NoField,
             Unmatched::NoUrl => Verdict::NoUrl,
             Unmatched::NoMatch => Verdict::Passed,
         }
@@ -133,7 +136,7 @@ impl<T, A: Reply<T>> Rule for FirstRule<'_, T, A> {
             }
             None => self
                 .reply
-                .leave(self.alloc, Unmatched::NoUrl, line, written),
+                .leave(self.alloc, Unmatched::NoField, line, written),
         }
     }
 }

@@ -1,12 +1,14 @@
 //! Lines with the name of a route as another field.
 
-ghost use Rattle.urlpat_tables.specs.Labels.{IsLabelled, IsMemberLabelled, cell, column, comma, doubled, header_column, is_bare, is_quoted, label_tree, labelled_object, line_end};
-ghost use Rattle.serde_json.specs.View.{members_view, view};
+ghost use Rattle.urlpat_tables.specs.Labels.{IsLabelled, IsMemberLabelled, cell, column, comma, doubled, header_column, is_bare, is_quoted, labelled_object, line_end};
+ghost use Rattle.urlpat_tables.specs.LineJson.{text_tree};
+ghost use Rattle.serde_json.specs.View.{members_view};
 ghost use Rattle.serde_json.specs.Written.{compact_text};
 ghost use Rattle.std.specs.Prelude.{◌≡◌, ◌++◌, IfOk, OnOk, option_copied, string_bytes};
 ghost use Rattle.urlpat_matching.specs.Filters.{AppendsPiece};
 
 use crate::fields::json_of;
+use crate::line_json::text_value;
 use crate::placing::delimiter_of;
 use serde_json::{Map, Value};
 use std::alloc::{AllocError, Global};
@@ -185,17 +187,7 @@ fn push_comma(is_bare: bool, written: &mut Vec<u8>) -> Result<(), AllocError>
 /// The text of the label in JSON, `null` without one.
 fn label_text(alloc: Global, label: Option<&str>) -> Result<String, AllocError>
     ensures { IfOk result (λ text.
-        string_bytes text ≡ compact_text (label_tree (option_copied label.entry))) }
+        string_bytes text ≡ compact_text (text_tree (option_copied label.entry))) }
 {
-    label_value(alloc, label)?.to_string(alloc)
-}
-
-/// The label as JSON, `null` without one.
-fn label_value(alloc: Global, label: Option<&str>) -> Result<Value, AllocError>
-    ensures { IfOk result (λ value. view value ≡ label_tree (option_copied label.entry)) }
-{
-    match label {
-        Some(label) => Value::try_from_str(alloc, label),
-        None => Ok(Value::Null),
-    }
+    text_value(alloc, label)?.to_string(alloc)
 }

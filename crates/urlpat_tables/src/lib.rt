@@ -20,6 +20,7 @@ mod findings;
 mod findings_printing;
 mod first_rule;
 mod labels;
+mod line_json;
 mod needed_groups;
 mod placing;
 mod rewrite_rules;

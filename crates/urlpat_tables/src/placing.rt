@@ -144,7 +144,7 @@ fn named_place<'w, Err: Write>(
     let Some(index) = position_of(&row, name) else {
         let _ = writeln!(
             err,
-            "urlpat: no field has the name `{name}` in the first line"
+            "urlpat: no field has the name `{name}` in the first line (see --format)"
         );
         return None;
     };

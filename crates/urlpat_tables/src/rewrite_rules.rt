@@ -1,8 +1,8 @@
 //! Reads the rules of a table of `rewrite`: two patterns a line, and a status code.
 
-ghost use Rattle.std.specs.Prelude.{◌≡◌, IfErr, IfOk, IfSome, option_copied};
+ghost use Rattle.std.specs.Prelude.{◌≡◌, ◌++◌, IfErr, IfOk, IfSome, OnOk, option_copied};
 ghost use Rattle.urlpat_matching.specs.Tables.{entries_view, entry_view};
-ghost use Rattle.urlpat_tables.specs.RewriteRules.{AreRewriteRules, IsRewriteFault, IsRewriteRule, IsSecond, IsSecondFault, code_in};
+ghost use Rattle.urlpat_tables.specs.RewriteRules.{AreEndlessLines, AreRewriteRules, IsRewriteFault, IsRewriteRule, IsSecond, IsSecondFault, code_in, line_at, lines_of};
 ghost use Rattle.urlpattern_policy_text.specs.Statements.{column_of};
 
 use crate::endless_rules::endless_rules;
@@ -42,6 +42,8 @@ impl<'t> EntryReader<'t, RewriteRule<'t>> for RewriteReader<'_> {
 
     ghost Faults = { λ reader. IsRewriteFault reader.0.ignore_case (option_copied reader.0.base) };
 
+    ghost number_in = { λ reader rule. rule.entry.number };
+
     fn read_entry(
         &self,
         alloc: Global,
@@ -62,6 +64,10 @@ impl<'t> EntryReader<'t, RewriteRule<'t>> for RewriteReader<'_> {
                 Err(error)
             }
         }
+    }
+
+    fn number_of(&self, rule: &RewriteRule<'t>) -> u64 {
+        rule.entry.number
     }
 }
 
@@ -132,7 +138,7 @@ fn code_in(text: &str) -> Option<Option<u16>>
     }
 }
 
-/// The rules of a table. `None`: lines are at fault, rules lead from one to another without end, or
+/// The rules of a table. `None`: lines are at fault, rules are known to lead on to themselves, or
 /// memory ran out, which is reported.
 pub(crate) fn rewrite_rules<'t, Err: Write>(
     alloc: Global,
@@ -145,56 +151,61 @@ pub(crate) fn rewrite_rules<'t, Err: Write>(
         (entries_view entries.now)) }
 {
     let rules = rules_or_report(alloc, &RewriteReader(how), file, entries, err)?;
-    let Ok(rest) = endless_rules(alloc, &rules) else {
+    let Ok(lines) = endless_lines(alloc, &rules) else {
         report_memory(err);
         return None;
     };
-    if rest.is_empty() {
-        drop(rest);
+    if lines.is_empty() {
+        drop(lines);
         return Some(rules);
     }
-    report_endless(alloc, file, &rules, &rest, err);
-    drop(rest);
     drop(rules);
+    report_faults(alloc, file, &[endless_fault(lines)], err);
     None
 }
 
-/// Reports that rules lead from one to another without end, those at the indices `rest`.
-fn report_endless<Err: Write>(
-    alloc: Global,
-    file: &str,
-    rules: &RewriteRules<'_>,
-    rest: &[usize],
-    err: &mut Err,
-) {
-    match lines_of(alloc, rules, rest) {
-        Ok(lines) => {
-            let line = match lines.first() {
-                Some(first) => *first,
-                None => 0,
-            };
-            let fault = [TableFault {
-                line,
-                column: 1,
-                reason: FaultReason::Endless(lines),
-            }];
-            report_faults(alloc, file, &fault, err);
-        }
-        Err(_) => report_memory(err),
-    }
+/// The numbers of the lines of the rules that are known to lead on to themselves.
+pub(crate) fn endless_lines(alloc: Global, rules: &RewriteRules<'_>) -> Result<Vec<u64>, AllocError>
+    ensures { IfOk result (λ lines. AreEndlessLines rules.now lines.items) }
+{
+    let rest = endless_rules(alloc, rules)?;
+    lines_of(alloc, rules, &rest)
 }
 
-/// The numbers of the lines of rules.
+/// The numbers of the lines of the rules at these indices.
 fn lines_of(
     alloc: Global,
     rules: &RewriteRules<'_>,
     indices: &[usize],
-) -> Result<Vec<u64>, AllocError> {
+) -> Result<Vec<u64>, AllocError>
+    ensures { IfOk result (λ lines. lines.items ≡ lines_of rules.now indices.now) }
+{
     let mut lines = Vec::new(alloc);
     for index in indices {
-        if let Some((_, rule)) = rules.get(*index) {
-            lines.push(rule.entry.number)?;
-        }
+        push_line(rules, *index, &mut lines)?;
     }
     Ok(lines)
+}
+
+/// Appends the number of the line of the rule at an index, if there is one.
+fn push_line(rules: &RewriteRules<'_>, index: usize, lines: &mut Vec<u64>) -> Result<(), AllocError>
+    ensures { OnOk result
+        (lines.new.items ≡ lines.old.items ++ line_at rules.now index) }
+{
+    match rules.get(index) {
+        Some((_, rule)) => {
+            lines.push(rule.entry.number)?;
+            Ok(())
+        }
+        None => Ok(()),
+    }
+}
+
+/// The fault that the rules in these lines are known to lead on to themselves, in the first one.
+pub(crate) fn endless_fault(lines: Vec<u64>) -> TableFault {
+    TableFault {
+        line: lines.first().copied().unwrap_or(0),
+        column: 1,
+        reason: FaultReason::Endless(lines),
+    }
 }

@@ -1,23 +1,23 @@
 //! The command `rewrite`: writes the URL in each line by the second pattern of the first rule that
 //! matches it.
 
-ghost use Rattle.serde_json.specs.Data.{number, unsigned};
 ghost use Rattle.serde_json.specs.View.{view};
-ghost use Rattle.std.specs.Prelude.{◌≡◌, ◌≢◌, ◌⊎◌, ◌++◌, [], IfOk, OnOk, codes, map, option_map};
+ghost use Rattle.std.specs.Prelude.{◌≡◌, ◌≢◌, ◌⊎◌, ◌++◌, [], IfOk, OnOk, map, option_copied};
 ghost use Rattle.std.specs.List.{flat_map};
 ghost use Rattle.std.specs.Str.{chars};
 ghost use Rattle.urlpat_matching.specs.Filters.{AppendsPiece};
+ghost use Rattle.urlpat_matching.specs.MatchJson.{json_line};
 ghost use Rattle.urlpat_tables.specs.RewriteRules.{given_taken, groups_taken, text_taken};
-ghost use Rattle.urlpat_tables.specs.Rewrites.{IsUnlinked, LeavesUnchanged, Rewrites, RewritesLines, line_left, new_text, new_tree, unchanged_text};
+ghost use Rattle.urlpat_tables.specs.Rewrites.{IsUnlinked, LeavesUnchanged, Rewrites, RewritesLines, left_text, new_text, new_tree, unchanged_text};
 ghost use Rattle.urlpattern.specs.BorrowedMatches.{pattern_captures_view};
 ghost use Rattle.urlpattern.specs.Patterns.{pattern_view};
 ghost use Rattle.urlpattern.specs.WriteSettings.{given_groups};
-ghost use Rattle.urlpattern_inputs.specs.Trees.{Gain};
 ghost use Rattle.urlpattern_syntax.specs.Text.{option_text, text_of};
 
 use crate::answering::answer_by;
 use crate::entry_reading::Compiling;
 use crate::first_rule::{Reply, Unmatched};
+use crate::line_json::{line_value, number_value, push_tree, text_value};
 use crate::needed_groups::source_of;
 use crate::rewrite_rules::{RewriteRule, rewrite_rules};
 use crate::table_rules::entries_or_report;
@@ -26,10 +26,9 @@ use std::alloc::{AllocError, Global};
 use std::io::{BufRead, Write};
 use url::Url;
 use urlpat_commands::{Tables, read_table};
-use urlpat_matching::{DONE, FAILED, Flags, NO_MATCH, RewriteArguments, Verdict, json_line};
+use urlpat_matching::{DONE, FAILED, Flags, NO_MATCH, RewriteArguments, Verdict};
 use urlpattern::regexp::PatternRegexp;
 use urlpattern::{ComponentName, GivenGroup, NoLink, UrlPattern, UrlPatternCaptures};
-use urlpattern_inputs::json_writing::put_text;
 
 /// What `rewrite` writes for a line, as JSON or not: the URL by the rule that matches it, or the
 /// line as it came.
@@ -89,18 +88,18 @@ impl Reply<RewriteRule<'_>> for NewUrls {
         let groups = taken_groups(alloc, from, &rule.to, found)?;
         match rule.to.link(alloc, &groups) {
             Ok(url) => {
-                let pushed = push_url(alloc, self.json, rule, &url, written);
+                let pushed = push_url(alloc, self.json, rule, &url, line, written);
                 drop(url);
                 pushed?;
                 Ok(Verdict::Selected)
             }
-            Err(error) => push_unlinked(self.json, error, line, written),
+            Err(error) => push_unlinked(alloc, self.json, error, line, written),
         }
     }
 
     fn leave(
         &self,
-        _alloc: Global,
+        alloc: Global,
         why: Unmatched,
         line: &[u8],
         written: &mut Vec<u8>,
@@ -109,7 +108,7 @@ impl Reply<RewriteRule<'_>> for NewUrls {
             (LeavesUnchanged self.now.json why line.now verdict) written.old.items
             written.new.items) }
     {
-        push_unchanged(self.json, line_left(why, line), written)?;
+        push_left(alloc, self.json, why, line, written)?;
         Ok(why.passed())
     }
 
@@ -121,14 +120,22 @@ impl Reply<RewriteRule<'_>> for NewUrls {
     }
 }
 
-/// A line that no rule matches, as far as it is seen. An empty line stands for one that is
-/// rejected.
-fn line_left(why: Unmatched, line: &[u8]) -> &[u8]
-    ensures { result.now ≡ line_left why line.now }
+/// Appends what is written for a line that no rule matches. A line that is rejected has an empty
+/// line, or `null` in JSON, in its place.
+fn push_left(
+    alloc: Global,
+    json: bool,
+    why: Unmatched,
+    line: &[u8],
+    written: &mut Vec<u8>,
+) -> Result<(), AllocError>
+    ensures { OnOk result
+        (written.new.items ≡ written.old.items ++ left_text json why line.now) }
 {
-    match why {
-        Unmatched::Rejected => b"\n",
-        Unmatched::NoUrl | Unmatched::NoMatch => line,
+    match (json, why) {
+        (true, Unmatched::Rejected) => written.extend_from_slice(b"null\n"),
+        (false, Unmatched::Rejected) => written.extend_from_slice(b"\n"),
+        _ => push_unchanged(alloc, json, line, written),
     }
 }
 
@@ -208,9 +215,10 @@ fn text_taken<'g>(
     }
 }
 
-/// Returns the verdict on a line whose rule has no link, and appends the line as it came, or what
-/// stands for it in JSON.
+/// Returns the verdict on a line whose rule has no link, and appends the line as it came, or its
+/// JSON.
 fn push_unlinked(
+    alloc: Global,
     json: bool,
     error: NoLink,
     line: &[u8],
@@ -223,72 +231,98 @@ fn push_unlinked(
         NoLink::OutOfMemory => Err(AllocError),
         _ => {
             drop(error);
-            push_unchanged(json, line, written)?;
+            push_unchanged(alloc, json, line, written)?;
             Ok(Verdict::NoLink)
         }
     }
 }
 
-/// Appends the URL that a rule writes: a line, or JSON.
+/// Appends what a rule writes for a line: the new URL, or JSON.
 fn push_url(
     alloc: Global,
     json: bool,
     rule: &RewriteRule<'_>,
     url: &Url,
+    line: &[u8],
     written: &mut Vec<u8>,
 ) -> Result<(), AllocError>
     ensures { OnOk result
-        (written.new.items ≡ written.old.items ++ new_text json rule.now url.now) }
+        (written.new.items ≡ written.old.items ++ new_text json rule.now url.now line.now) }
 {
     if json {
-        let tree = new_tree(alloc, rule, url)?;
-        let line = json_line(alloc, &tree)?;
-        return written.extend_from_slice(line.as_bytes());
+        let number = Some(rule.entry.number);
+        return push_json(
+            alloc,
+            line,
+            code_of(rule),
+            number,
+            Some(url.as_str()),
+            written,
+        );
     }
     written.extend_from_slice(url.as_str().as_bytes())?;
     written.push(b'\n')?;
     Ok(())
 }
 
-/// The JSON of a line that is rewritten: the number of the rule's line, its status code if it has
-/// one, and the URL.
-fn new_tree(alloc: Global, rule: &RewriteRule<'_>, url: &Url) -> Result<Value, AllocError>
-    ensures { IfOk result (λ tree. view tree ≡ new_tree rule.now url.now) }
+/// The status code of a rule.
+fn code_of(rule: &RewriteRule<'_>) -> Option<u64>
+    ensures { result ≡ rule.now.code }
 {
-    let mut members = Map::new(alloc);
-    put_code(&mut members, alloc, rule.code)?;
-    put(
-        &mut members,
-        alloc,
-        "number",
-        Value::from(rule.entry.number),
-    )?;
-    put_text(&mut members, alloc, "url", url.as_str())?;
-    Ok(Value::Object(members))
-}
-
-/// Puts a status code into the members of an object, if there is one.
-fn put_code(
-    members: &mut Map<String, Value>,
-    alloc: Global,
-    code: Option<u16>,
-) -> Result<(), AllocError>
-    ensures { OnOk result (Gain members.old.entries members.new.entries (codes "code")
-        (option_map (λ code. number (unsigned code)) code)) }
-{
-    match code {
-        Some(code) => put(members, alloc, "code", Value::from(code)),
-        None => Ok(()),
+    match rule.code {
+        Some(code) => Some(u64::from(code)),
+        None => None,
     }
 }
 
-/// Appends a line as it came, or what stands for it in JSON.
-fn push_unchanged(json: bool, line: &[u8], written: &mut Vec<u8>) -> Result<(), AllocError>
+/// Appends the JSON for a line.
+fn push_json(
+    alloc: Global,
+    line: &[u8],
+    code: Option<u64>,
+    number: Option<u64>,
+    url: Option<&str>,
+    written: &mut Vec<u8>,
+) -> Result<(), AllocError>
+    ensures { OnOk result (written.new.items ≡ written.old.items
+        ++ json_line (new_tree line.now code number (option_copied url.entry))) }
+{
+    let tree = new_tree(alloc, line, code, number, url)?;
+    push_tree(alloc, &tree, written)
+}
+
+/// The JSON for a line: the line, and the status code, the number of the rule's line and the new
+/// URL, each `null` without one.
+fn new_tree(
+    alloc: Global,
+    line: &[u8],
+    code: Option<u64>,
+    number: Option<u64>,
+    url: Option<&str>,
+) -> Result<Value, AllocError>
+    ensures { IfOk result (λ tree. view tree
+        ≡ new_tree line.now code number (option_copied url.entry)) }
+{
+    let mut members = Map::new(alloc);
+    put(&mut members, alloc, "code", number_value(code))?;
+    put(&mut members, alloc, "line", line_value(alloc, line)?)?;
+    put(&mut members, alloc, "number", number_value(number))?;
+    put(&mut members, alloc, "url", text_value(alloc, url)?)?;
+    Ok(Value::Object(members))
+}
+
+/// Appends a line as it came, or its JSON.
+fn push_unchanged(
+    alloc: Global,
+    json: bool,
+    line: &[u8],
+    written: &mut Vec<u8>,
+) -> Result<(), AllocError>
     ensures { OnOk result
         (written.new.items ≡ written.old.items ++ unchanged_text json line.now) }
 {
     if json {
-        written.extend_from_slice(b"null\n")
+        push_json(alloc, line, None, None, None, written)
     } else {
         written.extend_from_slice(line)
     }

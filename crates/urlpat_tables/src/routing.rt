@@ -30,6 +30,8 @@ impl<'t> EntryReader<'t, Entry<'t>> for RouteReader<'_> {
     ghost Faults = { λ reader entry. IsRejectedCell reader.0.ignore_case
         (option_copied reader.0.base) entry (trim entry.line) entry.pattern };
 
+    ghost number_in = { λ reader entry. entry.number };
+
     fn read_entry(
         &self,
         alloc: Global,
@@ -39,6 +41,10 @@ impl<'t> EntryReader<'t, Entry<'t>> for RouteReader<'_> {
             Ok(pattern) => Ok(Ok((pattern, entry))),
             Err(fault) => Ok(Err(fault)),
         }
+    }
+
+    fn number_of(&self, entry: &Entry<'t>) -> u64 {
+        entry.number
     }
 }
 

@@ -1,12 +1,13 @@
-//! How often each entry of a table is the first whose pattern matches.
+//! How often each entry of a table is the first whose pattern matches, and how many lines no
+//! pattern matches.
 
-ghost use Rattle.std.specs.Prelude.{◌≡◌, ◌≢◌, ◌⊎◌, ◌++◌, [], IfOk, OnOk, if◌then◌else◌, map, string_bytes};
+ghost use Rattle.std.specs.Prelude.{◌≡◌, ◌≢◌, ◌⊎◌, ◌++◌, [], IfOk, OnOk, if◌then◌else◌, map, option_map, string_bytes};
 ghost use Rattle.urlpat_matching.specs.LineLabels.{name_label};
-ghost use Rattle.urlpat_matching.specs.Tables.{entries_view};
-ghost use Rattle.urlpat_tables.specs.Summaries.{IsSummary, Summarizes, bar, count_line, count_lines, counted_view, first_count};
+ghost use Rattle.urlpat_matching.specs.Tables.{entries_view, entry_view};
+ghost use Rattle.urlpat_tables.specs.Summaries.{IsSummary, Summarizes, bar, count_line, count_lines, counted_view, first_count, name_cell};
 
 use crate::answering::answer_by;
-use crate::counting::{Counted, sorted_counts};
+use crate::counting::{Counted, number_cell, sorted_counts};
 use crate::fault_printing::report_memory;
 use crate::row::{RowShape, Rows, label_of};
 use std::alloc::{AllocError, Global};
@@ -18,9 +19,10 @@ use urlpattern::regexp::PatternRegexp;
 /// The most characters of a bar.
 const WIDTH: u64 = 40;
 
-/// Writes how often each entry is the first whose pattern matches, most first, with bars or
-/// without, and with the name of the file before each line if it is asked for. Returns the exit
-/// status: `NO_MATCH` if no pattern matches any line.
+/// Writes how often each entry is the first whose pattern matches, and how many lines no pattern
+/// matches, if there are some, most first, with bars or without, and with the name of the file
+/// before each line if it is asked for. Returns the exit status: `NO_MATCH` if no pattern matches
+/// any line.
 pub(crate) fn summarize<In: BufRead, Out: Write, Err: Write>(
     alloc: Global,
     routes: &UrlPatternMap<Entry<'_>, PatternRegexp>,
@@ -68,8 +70,9 @@ pub(crate) fn summarize<In: BufRead, Out: Write, Err: Write>(
     }
 }
 
-/// The lines of a summary: how often each entry matches, its number and its name. `numbers` has a
-/// line for each line that was read: the number of the entry, or `-`.
+/// The lines of a summary: how often each entry matches, its number and its name, and how many
+/// lines no pattern matches. `numbers` has a line for each line that was read: the number of the
+/// entry, or `-`.
 fn summary_text(
     alloc: Global,
     style: LineStyle<'_>,
@@ -86,7 +89,7 @@ fn summary_text(
     count_lines(alloc, &label, bars, &all)
 }
 
-/// The lines of entries that are counted, of which the first is counted most.
+/// The lines of what is counted, most first.
 fn count_lines(
     alloc: Global,
     label: &str,
@@ -104,7 +107,7 @@ fn count_lines(
     Ok(text)
 }
 
-/// The count of the first entry. 0 if there is none.
+/// The count of the first. 0 if there is none.
 fn first_count(all: &[Counted<'_>]) -> u64
     ensures { result ≡ first_count (map counted_view all.now) }
 {
@@ -115,7 +118,7 @@ fn first_count(all: &[Counted<'_>]) -> u64
 }
 
 /// Appends how often an entry matches, with its number and its name, or else its pattern, after a
-/// label. `most` is the greatest count.
+/// label; or how many lines no pattern matches. `most` is the greatest count.
 fn push_count(
     alloc: Global,
     label: &str,
@@ -128,10 +131,21 @@ fn push_count(
         ++ count_line label.now bars most (counted_view one.entry)) }
 {
     let Counted { entry, count } = one;
-    let (number, name) = (entry.number, label_of(&entry));
+    let number = number_cell(alloc, entry)?;
+    let name = name_cell(entry);
     let bar = bar_of(alloc, bars, most, count)?;
     let line = format!(in alloc; "{label}{count}\t{number}\t{name}{bar}\n")?;
     text.push_str(&line)
+}
+
+/// The name of an entry, or else its pattern. `-` without an entry.
+fn name_cell<'t>(entry: Option<Entry<'t>>) -> &'t str
+    ensures { result.now ≡ name_cell (option_map entry_view entry.entry) }
+{
+    match entry {
+        Some(entry) => label_of(&entry),
+        None => "-",
+    }
 }
 
 /// A bar for a count, if `bars`. Otherwise empty.

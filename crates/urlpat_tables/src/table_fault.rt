@@ -28,8 +28,9 @@ pub enum FaultReason {
     /// The second pattern needs a text for this group, and the first has no group of this name in
     /// the same component, nor in a single other one.
     Needs(ComponentName, String),
-    /// The rules in these lines, among them this one, may lead from one to another without end: the
-    /// second pattern of each and the first of one of them are known to match a text in common.
+    /// The rules in these lines, among them this one, are known to lead on to themselves, in one
+    /// step or more. A rule leads to another if it is a redirect, and its second pattern and the
+    /// other's first match a text in common.
     Endless(Vec<u64>),
     /// The pattern is never the first match: the patterns in these lines cover it together.
     Unreached(Vec<u64>),

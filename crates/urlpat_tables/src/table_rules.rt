@@ -1,6 +1,6 @@
 //! Reads the rules of a table, one from each of its entries.
 
-ghost use Rattle.std.specs.Prelude.{◌≡◌, [], IfErr, IfOk, IfSome, OnOk};
+ghost use Rattle.std.specs.Prelude.{◌≡◌, ℕ, [], IfErr, IfOk, IfSome, OnOk};
 ghost use Rattle.urlpat_matching.specs.Tables.{EntryView, entries_view, entry_view, table_entries};
 ghost use Rattle.urlpat_tables.specs.TableRules.{AddsReading, AreRead, AreRulesOf};
 ghost use Rattle.urlpat_tables.specs.declared.table_fault.TableFault.{TableFault};
@@ -27,11 +27,18 @@ pub(crate) trait EntryReader<'t, T> {
     // The line of the entry is at fault.
     ghost Faults: { Self → EntryView → TableFault → Type 0 };
 
+    // The number of the line of a rule, by its value.
+    ghost number_in: { Self → T → ℕ };
+
     /// Reads an entry, or returns the fault of its line.
     fn read_entry(&self, alloc: Global, entry: Entry<'t>) -> Result<Reading<T>, OutOfMemory>
         ensures read { IfOk result (λ it. IfOk it (λ rule.
             Reads self.now (entry_view entry.entry) rule.0 rule.1)) }
         ensures fault { IfOk result (λ it. IfErr it (Faults self.now (entry_view entry.entry))) };
+
+    /// Returns the number of the line of a rule, by its value.
+    fn number_of(&self, value: &T) -> u64
+        ensures { result ≡ number_in self.now value.now };
 }
 
 /// Reads each entry, and appends the rules to none, in order. Returns the faults of the other

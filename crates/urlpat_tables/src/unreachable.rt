@@ -66,7 +66,7 @@ fn reached<Err: Write>(
         ignore_case,
     });
     let rules = rules_or_report(alloc, &reader, asked.file, entries, err)?;
-    let found = reached_of(alloc, &rules);
+    let found = reached_of(alloc, &reader, &rules);
     drop(rules);
     match found {
         Ok(found) => Some(found),

@@ -41,8 +41,18 @@ pub enum FaultReason {
 /// Prints the fault in a line: its place, and what is wrong.
 impl fmt::Display for PolicyFault {
     fn fmt<W: fmt::Write>(&self, f: &mut fmt::Formatter<W>) -> fmt::Result {
-        write!(f, "line {}, column {}: ", self.line, self.column)?;
-        match &self.reason {
+        write!(
+            f,
+            "line {}, column {}: {}",
+            self.line, self.column, self.reason
+        )
+    }
+}
+
+/// Prints what is wrong, in one line.
+impl fmt::Display for FaultReason {
+    fn fmt<W: fmt::Write>(&self, f: &mut fmt::Formatter<W>) -> fmt::Result {
+        match self {
             FaultReason::Word(fault) => f.write_str(words_of(*fault)),
             FaultReason::Repeated => f.write_str("an earlier line has this setting"),
             FaultReason::Rejected(diagnosis) => f.write_str(&diagnosis.reason),

@@ -20,6 +20,7 @@ use Rattle.urlpattern_route_rules.specs.Patterns.{CompilesPattern}
 use Rattle.urlpattern_route_rules.specs.declared.fault.PatternFault.{PatternFault}
 use Rattle.urlpattern_route_rules.specs.declared.fault.RouteFault.{RouteFault}
 use Rattle.urlpattern_routes.proofs.WritingLemmas.{map-twice}
+use Rattle.urlpattern_routes.specs.Faults.{FaultView, fault_view}
 use Rattle.urlpattern_routes.specs.Rules.{reading_of, readings_of, rules_in}
 use Rattle.urlpattern_routes.specs.Views.{ConditionView as Given, RequestView, RuleView, condition_view as given_view, listed as given_listed, of_request, rule_view}
 use Rattle.urlpattern_routes.specs.declared.condition.RouterCondition.{RouterCondition}
@@ -55,8 +56,8 @@ each-step {E} engine script (g ∷ gs) (m ∷ ms) found one last own done step =
     )
 
 -- Rules are compiled, and then another one.
-pub rules-step : {E : Type 0} (engine : Engine E) (script : List ℕ) (index : ℕ) (readings : List (RuleView × List RouterFault)) (made : List (Rule RouterRule E)) (found : List RouteFault)
-    (reading : RuleView × List RouterFault) (last : Rule RouterRule E) (own : List RouteFault)
+pub rules-step : {E : Type 0} (engine : Engine E) (script : List ℕ) (index : ℕ) (readings : List (RuleView × List FaultView)) (made : List (Rule RouterRule E)) (found : List RouteFault)
+    (reading : RuleView × List FaultView) (last : Rule RouterRule E) (own : List RouteFault)
     → CompilesFrom engine script index readings made found → CompilesRule engine script (index + length readings) reading last own
     → CompilesFrom engine script index (readings ++ reading ∷ []) (made ++ last ∷ []) (found ++ own)
 rules-step {E} engine script index [] [] found reading last own done step = (
@@ -150,19 +151,19 @@ pub rules-more : {E : Type 0} (engine : Engine E) (script : List ℕ) (limits : 
     → CompilesFrom engine script 0 (map (λ value. reading_of limits (view value)) (take i items)) made found → CompilesRule engine script i (reading_of limits (view item)) last own
     → CompilesFrom engine script 0 (map (λ value. reading_of limits (view value)) (take (i + 1) items)) now all
 rules-more {E} engine script limits items i item made now found all last own lt is now_is all_is done step =
-    let read : Value → RuleView × List RouterFault = λ value. reading_of limits (view value) in
+    let read : Value → RuleView × List FaultView = λ value. reading_of limits (view value) in
     let at : i ≡ 0 + length (map read (take i items)) = sym (length-map (take i items) read ∙ length-take-le i items (omega (arith, lt))) ∙ sym (zero-add (length (map read (take i items)))) in
     let here = subst (λ (index : ℕ). CompilesRule engine script index (reading_of limits (view item)) last own) at step in
-    let of_read = subst (λ (readings : List (RuleView × List RouterFault)). CompilesFrom engine script 0 readings (made ++ last ∷ []) (found ++ own)) (sym (map-step read items i item lt is))
+    let of_read = subst (λ (readings : List (RuleView × List FaultView)). CompilesFrom engine script 0 readings (made ++ last ∷ []) (found ++ own)) (sym (map-step read items i item lt is))
     (rules-step engine script 0 (map read (take i items)) made found (read item) last own done here) in
     rw (now_is, all_is) of_read
 
 -- A rule that is read and compiled.
-pub rule-compiled : {E : Type 0} (engine : Engine E) (script : List ℕ) (index : ℕ) (reading : RuleView × List RouterFault) (made : Rule RouterRule E) (slice own : List RouterFault) (inner : List PatternFault) (found : List RouteFault)
-    → (rule_view made.value, own) ≡ reading → slice ≡ own → found ≡ all_faults index slice inner → Compiles engine script (given_view made.value.condition) (condition_view made.condition) inner
+pub rule-compiled : {E : Type 0} (engine : Engine E) (script : List ℕ) (index : ℕ) (reading : RuleView × List FaultView) (made : Rule RouterRule E) (own : List RouterFault) (inner : List PatternFault) (found : List RouteFault)
+    → (rule_view made.value, map fault_view own) ≡ reading → found ≡ all_faults index own inner → Compiles engine script (given_view made.value.condition) (condition_view made.condition) inner
     → CompilesRule engine script index reading made found
-rule-compiled {E} engine script index reading made slice own inner found same slice_is found_is compiled =
-    subst (λ (r : RuleView × List RouterFault). CompilesRule engine script index r made found) same (inner, found_is ∙ ap (λ (faults : List RouterFault). all_faults index faults inner) slice_is, refl, compiled)
+rule-compiled engine script index reading made own inner found same found_is compiled =
+    subst (λ (r : RuleView × List FaultView). CompilesRule engine script index r made found) same (own, inner, refl, found_is, refl, compiled)
 
 -- The rules of a call are compiled.
 pub call-compiled : {E : Type 0} (engine : Engine E) (script : List ℕ) (limits : RouterLimits) (items : List Value) (tree : Data) (made : List (Rule RouterRule E)) (own inner found : List RouteFault)
@@ -173,7 +174,7 @@ call-compiled {E} engine script limits items tree made own inner found are own_i
     let count : length items ≡ length (readings_of limits tree) = sym (length-map items (λ value. reading_of limits (view value))) ∙ ap length same in (
       inner,
       found_is ∙ ap (λ (faults : List RouteFault). faults ++ inner) (own_is ∙ ap (number_faults limits.rules) count),
-      subst (λ (readings : List (RuleView × List RouterFault)). CompilesFrom engine script 0 readings made inner) same compiled,
+      subst (λ (readings : List (RuleView × List FaultView)). CompilesFrom engine script 0 readings made inner) same compiled,
     )
 
 -- ---- lists

@@ -10,6 +10,7 @@ use Rattle.urlpattern_route_rules.specs.declared.fault.RouteFault.{RouteFault}
 use Rattle.urlpattern_route_rules.specs.declared.fault.RouteFault.TheVariants as faults
 use Rattle.urlpattern_route_rules.specs.declared.fault.RoutesError.{RoutesError}
 use Rattle.urlpattern_route_rules.specs.declared.fault.RoutesError.TheVariants as errors
+use Rattle.urlpattern_routes.specs.Faults.{FaultView, fault_view}
 use Rattle.urlpattern_routes.specs.Rules.{readings_of}
 use Rattle.urlpattern_routes.specs.Views.{RuleView, rule_view}
 use Rattle.urlpattern_routes.specs.declared.fault.RouterFault.{RouterFault}
@@ -24,16 +25,16 @@ all_faults index own inner =
 -- A rule as it is read, which is at this index, is compiled to `made`, whose value is the rule, and
 -- these are all of its faults.
 abbrev pub CompilesRule : {E : Type 0} → Engine E → (script : List ℕ) → (index : ℕ)
-    → RuleView × List RouterFault → Rule RouterRule E → (found : List RouteFault) → Type 0
-CompilesRule engine script index (rule, own) made found =
-    (inner : List PatternFault) × (found ≡ all_faults index own inner)
-    × (rule_view made.value ≡ rule)
+    → RuleView × List FaultView → Rule RouterRule E → (found : List RouteFault) → Type 0
+CompilesRule engine script index (rule, views) made found =
+    (own : List RouterFault) × (inner : List PatternFault) × (map fault_view own ≡ views)
+    × (found ≡ all_faults index own inner) × (rule_view made.value ≡ rule)
     × Compiles engine script rule.condition (condition_view made.condition) inner
 
 -- Rules as they are read, of which the first is at this index, are compiled to `made`, and these
 -- are all of their faults.
 abbrev pub CompilesFrom : {E : Type 0} → Engine E → (script : List ℕ) → (index : ℕ)
-    → List (RuleView × List RouterFault) → List (Rule RouterRule E) → List RouteFault → Type 0
+    → List (RuleView × List FaultView) → List (Rule RouterRule E) → List RouteFault → Type 0
 CompilesFrom engine script index [] made found = (made ≡ []) × (found ≡ [])
 CompilesFrom {E} engine script index (reading ∷ rest) made found =
     (first : Rule RouterRule E) × (others : List (Rule RouterRule E))

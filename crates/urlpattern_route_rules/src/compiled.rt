@@ -38,7 +38,7 @@ pub(crate) fn compiled_rule<R: RegExp>(
 {
     let RuleReading { rule, faults: own } = rule_reading(alloc, tree, limits)?;
     let (condition, inner) = compiled_condition(alloc, &rule.condition, script)?;
-    let faults = all_faults(alloc, index, &own, inner)?;
+    let faults = all_faults(alloc, index, own, inner)?;
     let made = Rule {
         condition,
         value: rule,
@@ -50,14 +50,14 @@ pub(crate) fn compiled_rule<R: RegExp>(
 fn all_faults(
     alloc: Global,
     index: usize,
-    own: &[RouterFault],
+    own: Vec<RouterFault>,
     inner: Vec<PatternFault>,
 ) -> Result<Vec<RouteFault>, AllocError>
-    ensures { IfOk result (λ faults. faults.items ≡ all_faults index own.now inner.items) }
+    ensures { IfOk result (λ faults. faults.items ≡ all_faults index own.items inner.items) }
 {
     let mut faults = Vec::new(alloc);
     for fault in own {
-        faults.push(RouteFault::Member(index, *fault))?;
+        faults.push(RouteFault::Member(index, fault))?;
     }
     for rejected in inner {
         faults.push(RouteFault::Pattern(index, rejected))?;

@@ -38,7 +38,7 @@ impl RouteFault {
     {
         match self {
             Self::TooManyRules => "there are too many rules",
-            Self::Member(_, fault) => fault.reason.as_str(),
+            Self::Member(_, fault) => &fault.words,
             Self::Pattern(_, PatternFault::Rejected(diagnosis)) => &diagnosis.reason,
             Self::Pattern(_, PatternFault::CustomExpression(_)) => {
                 "a condition may have no custom expression"

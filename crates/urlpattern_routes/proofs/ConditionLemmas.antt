@@ -9,11 +9,10 @@ use Rattle.serde_json.specs.Find.{as_array, get}
 use Rattle.serde_json.specs.View.{items_view, view}
 use Rattle.serde_json.specs.declared.value.Value.{Value}
 use Rattle.urlpattern_routes.specs.Conditions.{all_items, condition_faults, condition_of, has_own_member, is_or_alone, items_of, list_faults}
-use Rattle.urlpattern_routes.specs.Faults.{fault_unless}
+use Rattle.urlpattern_routes.specs.Faults.{FaultView, fault_unless}
 use Rattle.urlpattern_routes.specs.Members.{request_faults, request_in}
 use Rattle.urlpattern_routes.specs.Rules.{rules_in}
 use Rattle.urlpattern_routes.specs.Views.{listed, of_not, of_or, of_request}
-use Rattle.urlpattern_routes.specs.declared.fault.RouterFault.{RouterFault}
 use Rattle.urlpattern_routes.specs.declared.fault.RouterMember.{RouterMember}
 use Rattle.urlpattern_routes.specs.declared.fault.RouterMember.TheVariants as members
 use Rattle.urlpattern_routes.specs.declared.fault.RouterReason.TheVariants as reasons
@@ -76,12 +75,12 @@ rules-of-array (object m) items is = absurd cc
 pub array-values : (tree : Data) (values : List Value) → as_array tree ≡ Some (items_view values) → items_of tree ≡ map view values
 array-values tree values is = items-of-array tree (items_view values) is ∙ items-viewed values
 
-flat_map-viewed : (f : Data → List RouterFault) (values : List Value) → flat_map f (map view values) ≡ flat_map (λ one. f (view one)) values
+flat_map-viewed : (f : Data → List FaultView) (values : List Value) → flat_map f (map view values) ≡ flat_map (λ one. f (view one)) values
 flat_map-viewed f [] = refl
 flat_map-viewed f (value ∷ rest) = ap (λ more. f (view value) ++ more) (flat_map-viewed f rest)
 
 -- The faults of each item of an array.
-pub found-all : (depth : ℕ) (tree : Data) (values : List Value) (start end : List RouterFault) → as_array tree ≡ Some (items_view values) → end ≡ start ++ flat_map (λ one. condition_faults depth members.Or (view one)) values
+pub found-all : (depth : ℕ) (tree : Data) (values : List Value) (start end : List FaultView) → as_array tree ≡ Some (items_view values) → end ≡ start ++ flat_map (λ one. condition_faults depth members.Or (view one)) values
     → end ≡ start ++ (list_faults tree ++ flat_map (condition_faults depth members.Or) (items_of tree))
 found-all depth tree values start end is found =
     let no_fault : list_faults tree ≡ [] = rw is refl in

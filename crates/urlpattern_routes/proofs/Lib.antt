@@ -1,4 +1,6 @@
 pub mod ConditionLemmas
+pub mod IgnoredExamples
+pub mod IgnoredLemmas
 pub mod ReadingExamples
 pub mod RoundTrip
 pub mod WritingLemmas

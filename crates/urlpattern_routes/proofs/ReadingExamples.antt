@@ -2,11 +2,11 @@
 use Rattle.std.proofs.Common.{◌≡◌, ℕ, List, [], ◌∷◌, None, Some, codes, refl}
 use Rattle.serde_json.specs.Data.{Data, array, item, member, no_items, no_members, null, object, string}
 use Rattle.urlpattern_routes.specs.Conditions.{condition_faults}
-use Rattle.urlpattern_routes.specs.Faults.{fault}
+use Rattle.urlpattern_routes.specs.Faults.{fault, fault_at}
 use Rattle.urlpattern_routes.specs.Methods.{normalized}
 use Rattle.urlpattern_routes.specs.Rules.{browser_limits, reading_of, readings_of}
 use Rattle.urlpattern_routes.specs.Views.{ConditionView, network, no_conditions, of_or, of_request}
-use Rattle.urlpattern_routes.specs.declared.attribute.RouterAttribute.TheVariants.{Method}
+use Rattle.urlpattern_routes.specs.declared.attribute.RouterAttribute.TheVariants.{Method, Mode}
 use Rattle.urlpattern_routes.specs.declared.fault.RouterMember.TheVariants as members
 use Rattle.urlpattern_routes.specs.declared.fault.RouterReason.TheVariants as reasons
 
@@ -39,8 +39,12 @@ or_beside_not = refl
 
 -- All faults are found at once.
 two_faults : condition_faults 9 members.Condition (one_member (codes "or") (array (item (method (codes "TRACE")) (item (method (codes "a/b")) no_items))))
-    ≡ fault (members.Attribute Method) reasons.ForbiddenMethod ∷ fault (members.Attribute Method) reasons.NotAMethod ∷ []
+    ≡ fault (members.Attribute Method) reasons.ForbiddenMethod ∷ fault_at (members.Attribute Method) reasons.NotAMethod (Some (codes "a/b")) ∷ []
 two_faults = refl
+
+-- A name that is none of those that the member may be is shown, and so are these.
+unknown_mode : (fault_at (members.Attribute Mode) reasons.UnknownName (Some (codes "navigat"))).words ≡ codes "is `navigat`, none of cors, navigate, no-cors, same-origin"
+unknown_mode = refl
 
 -- A condition within as many others as the limit.
 within_one : condition_faults 2 members.Condition (one_member (codes "not") (method (codes "GET"))) ≡ []

@@ -2,10 +2,9 @@
 use Rattle.std.specs.Prelude.{ℕ, zero, suc, Bool, false, not, ◌&&◌, ◌||◌, List, [], ◌∷◌, ◌++◌, None, Option, Some, codes, flat_map, is_none, is_some, map}
 use Rattle.serde_json.specs.Data.{Data, Items, array, item, no_items}
 use Rattle.serde_json.specs.Find.{as_array, get}
-use Rattle.urlpattern_routes.specs.Faults.{fault_unless}
+use Rattle.urlpattern_routes.specs.Faults.{FaultView, fault_unless}
 use Rattle.urlpattern_routes.specs.Members.{request_faults, request_in}
 use Rattle.urlpattern_routes.specs.Views.{ConditionView, listed, no_conditions, of_not, of_or, of_request}
-use Rattle.urlpattern_routes.specs.declared.fault.RouterFault.{RouterFault}
 use Rattle.urlpattern_routes.specs.declared.fault.RouterMember.{RouterMember}
 use Rattle.urlpattern_routes.specs.declared.fault.RouterMember.TheVariants as members
 use Rattle.urlpattern_routes.specs.declared.fault.RouterReason.TheVariants as reasons
@@ -50,13 +49,13 @@ condition_of (suc depth) tree =
 -- ---- faults
 
 -- The fault of an `or` that is no array.
-abbrev pub list_faults : Data → List RouterFault
+abbrev pub list_faults : Data → List FaultView
 list_faults list = fault_unless (is_some (as_array list)) members.Or reasons.NotAnArray
 
 -- The faults of a condition with these members `or` and `not`. `inner` returns those of a condition
 -- within it.
-abbrev pub faults_with : (inner : RouterMember → Data → List RouterFault) → RouterMember
-    → (or_member not_member : Option Data) → Data → List RouterFault
+abbrev pub faults_with : (inner : RouterMember → Data → List FaultView) → RouterMember
+    → (or_member not_member : Option Data) → Data → List FaultView
 faults_with inner member (Some list) not_member tree =
     fault_unless (is_or_alone tree) members.Or reasons.NotAlone
     ++ (list_faults list ++ flat_map (inner members.Or) (items_of list))
@@ -66,7 +65,7 @@ faults_with inner member None None tree =
     fault_unless (has_own_member tree) member reasons.Empty ++ request_faults tree
 
 -- The faults of a condition, which is the member `member` of a rule or of a condition.
-abbrev pub condition_faults : (depth : ℕ) → RouterMember → Data → List RouterFault
+abbrev pub condition_faults : (depth : ℕ) → RouterMember → Data → List FaultView
 condition_faults zero member tree = fault_unless false member reasons.TooDeep
 condition_faults (suc depth) member tree =
     faults_with (λ within one. condition_faults depth within one) member (get (codes "or") tree)

@@ -1,13 +1,14 @@
-pub mod Faults
 pub mod Methods
 pub mod Texts
 pub mod Names
 pub mod FaultWords
+pub mod Faults
 pub mod Views
 pub mod Members
 pub mod Sources
 pub mod Conditions
 pub mod Rules
+pub mod Ignored
 pub mod Trees
 pub mod ReadBack
 pub mod Readers

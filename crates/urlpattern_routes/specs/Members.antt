@@ -2,23 +2,24 @@
 use Rattle.std.specs.Prelude.{ℕ, List, [], ◌∷◌, ◌++◌, Err, None, Ok, Option, Some, codes, is_some, option_and_then, if◌then◌else◌}
 use Rattle.std.specs.Result.{result_ok}
 use Rattle.serde_json.specs.Data.{Data, no_members, object}
-use Rattle.serde_json.specs.Find.{as_null, get}
+use Rattle.serde_json.specs.Find.{as_null, as_str, get}
 use Rattle.urlpattern_inputs.specs.InputJson.{input_read}
 use Rattle.urlpattern_inputs.specs.InputValues.{InputView}
-use Rattle.urlpattern_routes.specs.Faults.{fault, fault_unless}
+use Rattle.urlpattern_routes.specs.Faults.{FaultView, fault_at, fault_unless}
 use Rattle.urlpattern_routes.specs.Names.{Read, member_name, name_read}
 use Rattle.urlpattern_routes.specs.Views.{RequestView}
 use Rattle.urlpattern_routes.specs.declared.attribute.RouterAttribute.{RouterAttribute}
 use Rattle.urlpattern_routes.specs.declared.attribute.RouterAttribute.TheVariants.{Destination, Method, Mode, RunningStatus}
-use Rattle.urlpattern_routes.specs.declared.fault.RouterFault.{RouterFault}
 use Rattle.urlpattern_routes.specs.declared.fault.RouterMember.{RouterMember}
 use Rattle.urlpattern_routes.specs.declared.fault.RouterMember.TheVariants as members
 use Rattle.urlpattern_routes.specs.declared.fault.RouterReason.TheVariants as reasons
 
--- The fault of a member, if there is a reason to reject what is read.
-abbrev pub fault_of : {A : Type 0} → RouterMember → Read A → List RouterFault
-fault_of member (Ok value) = []
-fault_of member (Err reason) = fault member reason ∷ []
+-- The fault of a member, if there is a reason to reject what is read. The member is `given` if it
+-- is a text.
+abbrev pub fault_of : {A : Type 0} → RouterMember → (given : Option (List ℕ)) → Read A
+    → List FaultView
+fault_of member given (Ok value) = []
+fault_of member given (Err reason) = fault_at member reason given ∷ []
 
 -- The name that a condition gives for an attribute, and its fault.
 abbrev pub name_in : RouterAttribute → Data → Option (List ℕ)
@@ -26,12 +27,12 @@ name_in attribute tree =
     option_and_then (λ member. result_ok (name_read attribute member))
     (get (member_name attribute) tree)
 
-abbrev pub name_faults : RouterAttribute → Data → List RouterFault
+abbrev pub name_faults : RouterAttribute → Data → List FaultView
 name_faults attribute tree = faults_there attribute (get (member_name attribute) tree) where
-  faults_there : RouterAttribute → Option Data → List RouterFault
+  faults_there : RouterAttribute → Option Data → List FaultView
   faults_there attribute None = []
   faults_there attribute (Some member) =
-      fault_of (members.Attribute attribute) (name_read attribute member)
+      fault_of (members.Attribute attribute) (as_str member) (name_read attribute member)
 
 -- The pattern that a value is: a text, or an init. Null is read as the empty init. None: the value
 -- is none of these.
@@ -42,9 +43,9 @@ pattern_read tree = input_read (if is_some (as_null tree) then object no_members
 abbrev pub pattern_in : Data → Option InputView
 pattern_in tree = option_and_then pattern_read (get (codes "urlPattern") tree)
 
-abbrev pub pattern_faults : Data → List RouterFault
+abbrev pub pattern_faults : Data → List FaultView
 pattern_faults tree = faults_there (get (codes "urlPattern") tree) where
-  faults_there : Option Data → List RouterFault
+  faults_there : Option Data → List FaultView
   faults_there None = []
   faults_there (Some member) =
       fault_unless (is_some (pattern_read member)) members.UrlPattern reasons.NotAPattern
@@ -59,7 +60,7 @@ request_in tree = record {
   running_status = name_in RunningStatus tree;
 }
 
-abbrev pub request_faults : Data → List RouterFault
+abbrev pub request_faults : Data → List FaultView
 request_faults tree =
     pattern_faults tree ++ name_faults Method tree ++ name_faults Mode tree
     ++ name_faults Destination tree ++ name_faults RunningStatus tree

@@ -4,7 +4,7 @@ use Rattle.std.specs.declared.alloc.Global.{Global}
 use Rattle.serde_json.specs.Data.{Data, array}
 use Rattle.serde_json.specs.Find.{get}
 use Rattle.urlpattern_routes.specs.Conditions.{all_items, condition_faults, condition_of}
-use Rattle.urlpattern_routes.specs.Faults.{fault_unless}
+use Rattle.urlpattern_routes.specs.Faults.{FaultView, fault_unless, fault_view}
 use Rattle.urlpattern_routes.specs.Sources.{source_faults, source_in}
 use Rattle.urlpattern_routes.specs.Views.{ConditionView, RuleView, no_conditions, of_or, rule_view}
 use Rattle.urlpattern_routes.specs.declared.fault.RouterFault.{RouterFault}
@@ -24,9 +24,9 @@ condition_of_rule depth tree = condition_there depth (get (codes "condition") tr
   condition_there depth None = of_or no_conditions
   condition_there depth (Some tree) = condition_of depth tree
 
-abbrev pub condition_of_rule_faults : (depth : ℕ) → Data → List RouterFault
+abbrev pub condition_of_rule_faults : (depth : ℕ) → Data → List FaultView
 condition_of_rule_faults depth tree = faults_there depth (get (codes "condition") tree) where
-  faults_there : ℕ → Option Data → List RouterFault
+  faults_there : ℕ → Option Data → List FaultView
   faults_there depth None = fault_unless false members.Condition reasons.Missing
   faults_there depth (Some tree) = condition_faults depth members.Condition tree
 
@@ -37,19 +37,19 @@ rule_of limits tree = record {
   source = source_in limits.has_handler tree;
 }
 
-abbrev pub rule_faults : RouterLimits → Data → List RouterFault
+abbrev pub rule_faults : RouterLimits → Data → List FaultView
 rule_faults limits tree =
     condition_of_rule_faults limits.depth tree ++ source_faults limits.has_handler tree
 
 -- A rule with its faults.
-abbrev pub reading_of : RouterLimits → Data → RuleView × List RouterFault
+abbrev pub reading_of : RouterLimits → Data → RuleView × List FaultView
 reading_of limits tree = (rule_of limits tree, rule_faults limits tree)
 
 -- What is read is the rule, if it has no fault, or else its faults.
-abbrev pub IsRuleRead : RuleView × List RouterFault → Result RouterRule (Vec RouterFault Global)
+abbrev pub IsRuleRead : RuleView × List FaultView → Result RouterRule (Vec RouterFault Global)
     → Type 0
 IsRuleRead (rule, faults) (Ok read) = (rule_view read ≡ rule) × (faults ≡ [])
-IsRuleRead (rule, faults) (Err found) = (found.items ≡ faults) × ¬ (faults ≡ [])
+IsRuleRead (rule, faults) (Err found) = (map fault_view found.items ≡ faults) × ¬ (faults ≡ [])
 
 -- The rules of a call: those of an array, or a single one.
 abbrev pub rules_in : Data → List Data
@@ -57,5 +57,5 @@ rules_in (array items) = all_items items
 rules_in tree = tree ∷ []
 
 -- The rules that a call gives, each with its faults.
-abbrev pub readings_of : RouterLimits → Data → List (RuleView × List RouterFault)
+abbrev pub readings_of : RouterLimits → Data → List (RuleView × List FaultView)
 readings_of limits tree = map (reading_of limits) (rules_in tree)

@@ -1,14 +1,14 @@
 -- The source of a rule, as read from its JSON, and its fault.
-use Rattle.std.specs.Prelude.{ℕ, Bool, List, Err, None, Ok, Option, Some, codes, if◌then◌else◌}
+use Rattle.std.specs.Prelude.{ℕ, Bool, List, Err, None, Ok, Option, Some, codes, if◌then◌else◌, option_and_then}
 use Rattle.std.specs.Result.{result_unwrap_or}
 use Rattle.std.specs.Str.{bytes_eq}
 use Rattle.serde_json.specs.Data.{Data, string}
-use Rattle.serde_json.specs.Find.{get}
+use Rattle.serde_json.specs.Find.{as_str, get}
+use Rattle.urlpattern_routes.specs.Faults.{FaultView}
 use Rattle.urlpattern_routes.specs.Members.{fault_of}
 use Rattle.urlpattern_routes.specs.Names.{Read}
 use Rattle.urlpattern_routes.specs.Texts.{text_read}
 use Rattle.urlpattern_routes.specs.Views.{SourceView, cache, fetch_event, named_cache, network, race}
-use Rattle.urlpattern_routes.specs.declared.fault.RouterFault.{RouterFault}
 use Rattle.urlpattern_routes.specs.declared.fault.RouterMember.TheVariants as members
 use Rattle.urlpattern_routes.specs.declared.fault.RouterReason.TheVariants as reasons
 
@@ -59,5 +59,7 @@ source_read has_handler tree = source_there has_handler (get (codes "source") tr
 abbrev pub source_in : (has_handler : Bool) → Data → SourceView
 source_in has_handler tree = result_unwrap_or (source_read has_handler tree) network
 
-abbrev pub source_faults : (has_handler : Bool) → Data → List RouterFault
-source_faults has_handler tree = fault_of members.Source (source_read has_handler tree)
+abbrev pub source_faults : (has_handler : Bool) → Data → List FaultView
+source_faults has_handler tree =
+    fault_of members.Source (option_and_then as_str (get (codes "source") tree))
+    (source_read has_handler tree)

@@ -1,10 +1,10 @@
 -- The views of rules as they are given. Texts are their bytes.
-use Rattle.std.specs.Prelude.{ℕ, List, [], ◌∷◌, Option, option_map, string_bytes}
+use Rattle.std.specs.Prelude.{ℕ, List, [], ◌∷◌, Option, map, option_map, string_bytes}
 use Rattle.urlpattern_inputs.specs.InputValues.{InputView, input_view}
+use Rattle.urlpattern_routes.specs.Faults.{FaultView, fault_view}
 use Rattle.urlpattern_routes.specs.declared.condition.RouterCondition.{RouterCondition, fold-RouterCondition}
 use Rattle.urlpattern_routes.specs.declared.condition.RouterCondition.TheOpen.{RouterCondition-F}
 use Rattle.urlpattern_routes.specs.declared.condition.RouterRequest.{RouterRequest}
-use Rattle.urlpattern_routes.specs.declared.fault.RouterFault.{RouterFault}
 use Rattle.urlpattern_routes.specs.declared.reading.RuleReading.{RuleReading}
 use Rattle.urlpattern_routes.specs.declared.rule.RouterRule.{RouterRule}
 use Rattle.urlpattern_routes.specs.declared.source.RouterSource.{RouterSource}
@@ -80,5 +80,5 @@ rule_view rule = record {
 }
 
 -- The view of a `RuleReading`: the rule, and its faults.
-abbrev pub reading_view : RuleReading → RuleView × List RouterFault
-reading_view reading = (rule_view reading.rule, reading.faults.items)
+abbrev pub reading_view : RuleReading → RuleView × List FaultView
+reading_view reading = (rule_view reading.rule, map fault_view reading.faults.items)

@@ -136,7 +136,7 @@ fn unless_among(names: &[&str], text: &str) -> Option<RouterReason>
 }
 
 /// Whether a text is one of the names.
-fn is_among(names: &[&str], text: &str) -> bool
+pub(crate) fn is_among(names: &[&str], text: &str) -> bool
     ensures { result ≡ list_any (λ name. bytes_eq name.now text.now) names.now }
 {
     names.iter().any(|name| *name == text)

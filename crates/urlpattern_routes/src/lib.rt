@@ -4,6 +4,7 @@
 mod attribute;
 mod condition;
 mod fault;
+mod ignored;
 mod method;
 mod reading;
 mod rule;
@@ -19,7 +20,8 @@ type Made<T> = Result<T, AllocError>;
 pub use attribute::RouterAttribute;
 pub use condition::{RouterCondition, RouterRequest};
 pub use fault::{RouterFault, RouterMember, RouterReason};
-pub use method::normalized_method;
+pub use ignored::{IgnoredMember, RouterDictionary, ignored_members};
+pub use method::{is_forbidden, is_method, normalized_method};
 pub use reading::{RouterLimits, RuleReading, read_rule, rule_reading, rules_in};
 pub use rule::RouterRule;
 pub use source::RouterSource;

@@ -15,7 +15,7 @@ const NORMALIZED: [&str; 6] = ["DELETE", "GET", "HEAD", "OPTIONS", "POST", "PUT"
 /// Whether a text is the name of a method: a token of HTTP.
 ///
 /// <https://fetch.spec.whatwg.org/#concept-method>
-pub(crate) fn is_method(text: &str) -> bool
+pub fn is_method(text: &str) -> bool
     ensures { result ≡ is_method text.now }
 {
     !text.is_empty() && has_token_bytes(text)
@@ -38,7 +38,7 @@ fn is_token_byte(byte: u8) -> bool
 /// Whether `fetch` rejects the method, in any case.
 ///
 /// <https://fetch.spec.whatwg.org/#forbidden-method>
-pub(crate) fn is_forbidden(text: &str) -> bool
+pub fn is_forbidden(text: &str) -> bool
     ensures { result ≡ is_forbidden text.now }
 {
     is_among_any_case(&FORBIDDEN, text)

@@ -1,8 +1,8 @@
 //! Reads rules from JSON, each with all of its faults.
 
-ghost use Rattle.std.specs.Prelude.{◌≡◌, IfOk, OnOk, map};
+ghost use Rattle.std.specs.Prelude.{◌≡◌, ◌∷◌, [], IfOk, OnOk, map, option_copied};
 ghost use Rattle.serde_json.specs.View.{view};
-ghost use Rattle.urlpattern_routes.specs.Faults.{fault_unless};
+ghost use Rattle.urlpattern_routes.specs.Faults.{fault_at, fault_unless};
 ghost use Rattle.urlpattern_routes.specs.Readers.{Finds};
 ghost use Rattle.urlpattern_routes.specs.Rules.{IsRuleRead, browser_limits, reading_of, rules_in};
 ghost use Rattle.urlpattern_routes.specs.Views.{reading_view};
@@ -12,7 +12,7 @@ mod members;
 mod sources;
 
 use crate::Made;
-use crate::fault::{RouterFault, RouterMember, RouterReason};
+use crate::fault::{RouterFault, RouterMember, RouterReason, fault_words};
 use crate::rule::RouterRule;
 use serde_json::Value;
 use std::alloc::{AllocError, Global};
@@ -114,9 +114,28 @@ impl Reader {
     fn expect(&mut self, is_met: bool, member: RouterMember, reason: RouterReason) -> Made<()>
         ensures { OnOk result (Finds self.old self.new (fault_unless is_met member reason)) }
     {
-        if !is_met {
-            self.faults.push(RouterFault { member, reason })?;
+        if is_met {
+            return Ok(());
         }
+        self.reject(member, reason, None)
+    }
+
+    /// Appends a fault of a member, which is `given` if it is a text.
+    fn reject(
+        &mut self,
+        member: RouterMember,
+        reason: RouterReason,
+        given: Option<&str>,
+    ) -> Made<()>
+        ensures { OnOk result (Finds self.old self.new
+            (fault_at member reason (option_copied given.entry) ∷ [])) }
+    {
+        let words = fault_words(self.alloc, member, reason, given)?;
+        self.faults.push(RouterFault {
+            member,
+            reason,
+            words,
+        })?;
         Ok(())
     }
 }

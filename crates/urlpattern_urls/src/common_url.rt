@@ -52,7 +52,7 @@ impl UrlFacts {
         let avoided = self.before(alloc, none_of)?;
         let found = find_common(alloc, all_of, &avoided, limits)?;
         match found {
-            Common::Texts(texts) => match read(alloc, &texts)? {
+            Common::Texts(texts) => match url_with(alloc, &texts)? {
                 Ok(url) => {
                     drop(texts);
                     Ok(CommonUrl::Url(url))
@@ -96,7 +96,7 @@ pub(crate) fn own_doubt(doubt: Doubt, count: usize) -> Doubt
 }
 
 /// Returns the URL with the texts, or why there is none.
-pub(crate) fn read(alloc: Global, texts: &Eight<String>) -> Result<Result<Url, NoLink>, AllocError>
+pub fn url_with(alloc: Global, texts: &Eight<String>) -> Result<Result<Url, NoLink>, AllocError>
     ensures { IfOk result (IsRead (string_texts texts.now)) }
 {
     match url_of(alloc, texts) {

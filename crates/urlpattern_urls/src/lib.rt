@@ -10,6 +10,6 @@ mod common_url;
 mod unlike;
 mod url_reach;
 
-pub use common_url::CommonUrl;
+pub use common_url::{CommonUrl, url_with};
 pub use unlike::{UrlFacts, made_of, no_url_is_unlike, push_part};
 pub use url_reach::UrlReach;

@@ -4,7 +4,7 @@ ghost use Rattle.urlpattern_compare.specs.CommonTexts.{AreAutomata};
 ghost use Rattle.urlpattern_urls.specs.Unlike.{AreUnlike};
 ghost use Rattle.urlpattern_urls.specs.UrlReaching.{IsUrlReach, later, later_one};
 
-use crate::common_url::{own_doubt, read};
+use crate::common_url::{own_doubt, url_with};
 use crate::unlike::UrlFacts;
 use std::alloc::{AllocError, Global};
 use url::Url;
@@ -51,7 +51,7 @@ impl UrlFacts {
         let before = self.before(alloc, earlier)?;
         let found = reach_of(alloc, &before, asked, limits)?;
         match found {
-            Reach::First(texts) => match read(alloc, &texts)? {
+            Reach::First(texts) => match url_with(alloc, &texts)? {
                 Ok(url) => {
                     drop(texts);
                     Ok(UrlReach::First(url))

@@ -73,7 +73,7 @@ impl Reader {
         match attribute.read(self.alloc, member)? {
             Ok(name) => Ok(Some(name)),
             Err(reason) => {
-                self.expect(false, RouterMember::Attribute(attribute), reason)?;
+                self.reject(RouterMember::Attribute(attribute), reason, member.as_str())?;
                 Ok(None)
             }
         }

@@ -1,6 +1,7 @@
 //! Reads sources from JSON.
 
-ghost use Rattle.std.specs.Prelude.{◌≡◌, IfOk, OnOk};
+ghost use Rattle.std.specs.Prelude.{◌≡◌, IfOk, OnOk, codes, option_and_then, option_copied};
+ghost use Rattle.serde_json.specs.Find.{as_str, get};
 ghost use Rattle.serde_json.specs.View.{view};
 ghost use Rattle.urlpattern_routes.specs.Names.{Reads};
 ghost use Rattle.urlpattern_routes.specs.Readers.{Finds};
@@ -27,10 +28,21 @@ impl Reader {
         match read_source(self.alloc, has_handler, rule)? {
             Ok(source) => Ok(source),
             Err(reason) => {
-                self.expect(false, RouterMember::Source, reason)?;
+                self.reject(RouterMember::Source, reason, text_in(rule))?;
                 Ok(RouterSource::Network)
             }
         }
+    }
+}
+
+/// Returns the source of a rule, if it is a text.
+fn text_in(rule: &Value) -> Option<&str>
+    ensures { option_copied result
+        ≡ option_and_then as_str (get (codes "source") (view rule.now)) }
+{
+    match rule.get("source") {
+        Some(source) => source.as_str(),
+        None => None,
     }
 }
 

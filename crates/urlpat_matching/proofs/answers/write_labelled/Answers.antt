@@ -1,5 +1,4 @@
-use Rattle.std.proofs.Common.{subst, sym, ◌∙◌}
-use Rattle.std.specs.Io.KnownBytes.{Appends}
+use Rattle.std.proofs.Common.{sym, ◌∙◌}
 use Rattle.urlpat_matching.proofs.LineAnswerLemmas.{labelled-empty, labelled-written}
 use Rattle.urlpat_matching.proofs.answers.write_labelled.Goals as goal
 
@@ -9,7 +8,6 @@ returns-then-is_empty g c =
 
 pub returns : goal.returns
 returns g c =
-    labelled-written c.args.style c.args.number c.args.piece.now (g.Out.Write.contents c.args.out.now) (g.Out.Write.contents c.write_piece.new.out)
-    (g.Out.Write.contents c.write_piece-2.new.out) (g.Out.Write.contents c.flush_if.new.out) (sym c.is_empty.ensures ∙ c.if-is_empty.false)
-    (subst (Appends (g.Out.Write.contents c.args.out.now) (g.Out.Write.contents c.write_piece.new.out)) (c.as_bytes.ensures.value ∙ c.in_ok-label.ensures) c.in_ok-write_piece.ensures)
-    c.in_ok-write_piece-2.ensures c.in_ok-flush_if.ensures
+    labelled-written c.args.style c.args.number c.args.piece.now (g.Out.Write.contents c.args.out.now) (g.Out.Write.contents c.write_label.new.out)
+    (g.Out.Write.contents c.write_piece.new.out) (g.Out.Write.contents c.flush_if.new.out) (sym c.is_empty.ensures ∙ c.if-is_empty.false)
+    c.in_ok-write_label.ensures c.in_ok-write_piece.ensures c.in_ok-flush_if.ensures

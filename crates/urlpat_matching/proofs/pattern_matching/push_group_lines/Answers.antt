@@ -1,9 +1,9 @@
-use Rattle.std.proofs.Common.{◌≡◌, ◌∙◌, ◌∷◌, ◌++◌, [], ℕ, List, ap, ap₂, chars, map, refl, rules, string_bytes, sym, take, take_all}
+use Rattle.std.proofs.Common.{◌≡◌, ◌∙◌, ◌++◌, ℕ, List, ap, chars, map, option_copied, rules, string_bytes, take, take_all}
 use Rattle.std.specs.List.{flat_map}
 use Rattle.std.specs.Prelude.{String}
 use Rattle.std.specs.Str.{IsUtf8}
 use Rattle.std.specs.declared.alloc.Global.{Global}
-use Rattle.urlpat_matching.proofs.GroupNames.{lines-of_texts, only-line, only-name, texts}
+use Rattle.urlpat_matching.proofs.GroupNames.{only-text, texts, texts-of_names}
 use Rattle.urlpat_matching.specs.GroupLines.{group_bytes, group_line}
 use Rattle.urlpattern_matches.specs.BorrowedMatches.{pattern_captures_view}
 use Rattle.urlpattern_components.specs.Eight.{name_text}
@@ -14,13 +14,11 @@ returns-in-Some c =
     let found = c.args.found.now in
     let name = c.args.name in
     let group = c.in-Some.group.now in
+    let capture = option_copied c.in-Some.capture in
     let utf8 : IsUtf8 group = search rules in (
       _,
-      c.in_ok-push_group_line.ensures
-          ∙ ap (λ line. string_bytes c.args.text.now ++ line)
-          (ap₂ (λ component capture. group_line component group capture) c.as_str.ensures c.capture_of.ensures
-          ∙ sym (only-line (name_text name) (pattern_captures_view found name) group utf8)),
-      (chars group ∷ [], only-name found name (chars group) c.in-Some.ensures, refl),
+      c.in_ok-push_group_line.ensures ∙ ap (λ component. string_bytes c.args.text.now ++ group_line component group capture) c.as_str.ensures,
+      only-text group_line (name_text name) found name group capture c.in-Some.ensures.alone c.in-Some.ensures.capture utf8,
     )
 
 pub returns : goal.returns
@@ -33,5 +31,5 @@ returns c =
     take_all c.loop-group.group-index c.deref-group-items.result.now c.loop-group-test.false ∙ c.deref-group-items.ensures.value in (
       flat_map line (bytes items),
       c.loop-group.invariant ∙ ap (λ names. string_bytes c.args.text.now ++ flat_map line (bytes names)) all,
-      (texts items, c.in_ok-groups.ensures, lines-of_texts (name_text c.args.name) found items),
+      (texts items, c.in_ok-groups.ensures, texts-of_names group_line (name_text c.args.name) found items),
     )

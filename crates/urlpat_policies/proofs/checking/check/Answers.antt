@@ -1,11 +1,12 @@
-use Rattle.std.proofs.Common.{inl, inr, refl}
+use Rattle.std.proofs.Common.{List, map, subst, sym}
+use Rattle.std.specs.List.{AllZip}
+use Rattle.urlpat_policies.specs.PolicyFindings.{IsFoundIn}
+use Rattle.urlpat_policies.specs.declared.findings.PolicyFindings.{PolicyFindings}
 use Rattle.urlpat_policies.proofs.checking.check.Goals as goal
 
-pub returns-in-Ok-clause-answers : goal.returns-in-Ok-clause-answers
-returns-in-Ok-clause-answers g c = λ answered. inl (refl, refl, (c.in-Ok.policy, c.in-Ok.ensures.policy))
-
-pub returns-in-Err-clause-answers : goal.returns-in-Err-clause-answers
-returns-in-Err-clause-answers g c = λ answered. elim c.print_refusal-status.ensures.either [
-  | inl none ↦ inr (none, (c.in-Err.refusal, c.in-Err.ensures.refused, c.print_refusal-status.ensures.answers answered))
-  | inr failed ↦ absurd (answered failed)
-]
+pub returns-clause-answers : goal.returns-clause-answers
+returns-clause-answers g c = λ answered. (
+  c.deref.result.now,
+  subst (λ (them : List PolicyFindings). AllZip (IsFoundIn g.R.RegExp (g.T.Tables.Has c.args.files.now)) (map (λ name. name.now) c.args.names.now) them) (sym c.deref.ensures.value) c.in-Ok.ensures,
+  c.print_found-status.ensures.answers answered,
+)

@@ -1,7 +1,7 @@
--- The rules that are taken away are in an order.
+-- The rules so far that lead on to themselves.
 use Rattle.std.proofs.Common.{map}
-use Rattle.urlpat_tables.proofs.EndlessLemmas.{AreTakenAway}
+use Rattle.urlpat_tables.proofs.LoopLemmas.{AreEndlessSoFar}
 use Rattle.urlpat_tables.proofs.endless.endless_among.Given as goal
 
-abbrev pub invariant-loop-round : goal.invariant-loop-round
-invariant-loop-round l = AreTakenAway (map (λ it. it.items) l.leads) l.rest.items l.round
+abbrev pub invariant-loop-index : goal.invariant-loop-index
+invariant-loop-index l = AreEndlessSoFar (map (λ row. row.items) l.leads) l.rest.items l.index

@@ -17,7 +17,7 @@ loop-first-preserved c =
       before ++ rule ∷ [],
       are ∙ ap (λ (rest : RewriteRules). before ++ rest) c.in-Some.ensures.steps ∙ sym (append_assoc before (rule ∷ []) c.next.new.self),
       subst (AllZip AreRuleAutomata (before ++ rule ∷ [])) (sym c.in_ok-push.ensures.items)
-          (all_zipped_more AreRuleAutomata before c.loop-first.all.items rule _ zipped (c.in_ok-automata_of.ensures, c.in_ok-automata_of-2.ensures)),
+          (all_zipped_more AreRuleAutomata before c.loop-first.all.items rule _ zipped (c.in_ok-automata_of.ensures, c.in_ok-automata_of-2.ensures, c.redirects.ensures)),
     )
 
 pub returns : goal.returns

@@ -1,20 +1,29 @@
-use Rattle.std.proofs.Common.{List, subst}
+use Rattle.std.proofs.Common.{List, [], subst, sym, take, ◌+◌}
 use Rattle.std.proofs.lemmas.List.{take_all}
-use Rattle.urlpat_tables.proofs.EndlessLemmas.{leads-more, leads-none}
-use Rattle.urlpat_tables.specs.RewriteRules.{AreLeads}
+use Rattle.std.proofs.lemmas.List.Elements.{All-get_or}
+use Rattle.std.specs.List.{AllZip}
+use Rattle.urlpat_tables.proofs.ListLemmas.{zip-taken}
+use Rattle.urlpat_tables.specs.RewriteRules.{DecidesLeading}
 use Rattle.urlpat_tables.specs.declared.endless_rules.RuleAutomata.{RuleAutomata}
+use Rattle.urlpattern_compare.specs.CommonTexts.{AreAutomata}
 use Rattle.urlpat_tables.proofs.endless_rules.leads_of.Goals as goal
 
-pub loop-index-init : goal.loop-index-init
-loop-index-init c = leads-none c.args.second.now c.args.all.now c.new-leads.result.items c.new-leads.ensures.items
+pub leads_to-requires-clause-first : goal.leads_to-requires-clause-first
+leads_to-requires-clause-first c =
+    subst (λ (it : RuleAutomata). AreAutomata it.first) (sym c.other-item.is)
+    (All-get_or (λ (it : RuleAutomata). AreAutomata it.first) c.args.all.now c.loop-other.other-index c.other-item.result c.loop-other-test.true c.requires.all)
 
-pub loop-index-preserved : goal.loop-index-preserved
-loop-index-preserved c =
-    leads-more c.args.second.now c.args.all.now c.loop-index.index c.index-all-index.result c.loop-index.leads.items c.push_if.new.leads.items c.in_ok-led.led c.loop-index-test.true
-    c.loop-index.invariant.0 c.loop-index.invariant.1
-    c.in_ok-led.ensures c.in_ok-push_if.ensures
+pub loop-other-init : goal.loop-other-init
+loop-other-init c = subst (AllZip (DecidesLeading c.args.one.now) []) (sym c.in_ok-leads.ensures.items) tt
+
+pub loop-other-preserved : goal.loop-other-preserved
+loop-other-preserved c =
+    let led = c.in_ok-leads_to.field-0 in
+    subst (AllZip (DecidesLeading c.args.one.now) (take (c.loop-other.other-index + 1) c.args.all.now)) (sym c.in_ok-push.ensures.items)
+    (zip-taken (DecidesLeading c.args.one.now) c.args.all.now c.loop-other.other-index c.other-item.result c.loop-other.leads.items led c.loop-other-test.true c.loop-other.invariant
+    (subst (λ (it : RuleAutomata). DecidesLeading c.args.one.now it led) c.other-item.is c.in_ok-leads_to.ensures))
 
 pub returns : goal.returns
 returns c =
-    subst (λ (them : List RuleAutomata). AreLeads c.args.second.now them c.loop-index.leads.items) (take_all c.loop-index.index c.args.all.now c.loop-index-test.false)
-    c.loop-index.invariant.0
+    subst (λ (them : List RuleAutomata). AllZip (DecidesLeading c.args.one.now) them c.loop-other.leads.items)
+    (take_all c.loop-other.other-index c.args.all.now c.loop-other-test.false) c.loop-other.invariant

@@ -1,7 +1,8 @@
--- The indices so far of the rules that are led to.
-use Rattle.std.proofs.Common.{◌<◌, All, take}
-use Rattle.urlpat_tables.specs.RewriteRules.{AreLeads}
+-- Whether the rule leads to those so far.
+use Rattle.std.proofs.Common.{take}
+use Rattle.std.specs.List.{AllZip}
+use Rattle.urlpat_tables.specs.RewriteRules.{DecidesLeading}
 use Rattle.urlpat_tables.proofs.endless_rules.leads_of.Given as goal
 
-abbrev pub invariant-loop-index : goal.invariant-loop-index
-invariant-loop-index l = AreLeads l.second (take l.index l.all) l.leads.items × All (λ next. next < l.index) l.leads.items
+abbrev pub invariant-loop-other : goal.invariant-loop-other
+invariant-loop-other l = AllZip (DecidesLeading l.one) (take l.other-index l.all) l.leads.items

@@ -1,4 +1,7 @@
 use Rattle.urlpat_tables.proofs.findings.findings_of.Goals as goal
 
-pub returns : goal.returns
-returns c = ((c.read_each.new.rules, c.in_ok-rejected.ensures, c.in_ok-compared.ensures), c.in_ok-repeated.ensures)
+pub returns-in-Patterns : goal.returns-in-Patterns
+returns-in-Patterns c = rw c.in-Patterns.is c.pattern_findings.ensures
+
+pub returns-in-Rules : goal.returns-in-Rules
+returns-in-Rules c = rw c.in-Rules.is c.rule_findings.ensures

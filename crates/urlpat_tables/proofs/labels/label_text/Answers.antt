@@ -4,4 +4,4 @@ use Rattle.urlpat_tables.proofs.LabelLemmas.{label-text}
 use Rattle.urlpat_tables.proofs.labels.label_text.Goals as goal
 
 pub returns : goal.returns
-returns c = label-text (view c.in_ok-label_value.field-0) (option_copied c.args.label) c.to_string.result c.in_ok-label_value.ensures c.to_string.ensures.text
+returns c = label-text (view c.in_ok-text_value.field-0) (option_copied c.args.label) c.to_string.result c.in_ok-text_value.ensures c.to_string.ensures.text

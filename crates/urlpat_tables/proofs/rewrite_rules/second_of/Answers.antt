@@ -1,5 +1,6 @@
-use Rattle.std.proofs.Common.{List, ap, option_copied, refl, subst, sym, ℕ, ◌∙◌}
+use Rattle.std.proofs.Common.{List, [], ap, option_copied, refl, subst, sym, ℕ, ◌∙◌, ◌≢◌}
 use Rattle.urlpat_matching.specs.Tables.{entry_view}
+use Rattle.urlpat_tables.proofs.CheckLemmas.{some-name}
 use Rattle.urlpat_tables.proofs.SecondLemmas.{group-lacking, no-status, no-target, rejected-second}
 use Rattle.urlpat_tables.specs.RewriteRules.{code_in}
 use Rattle.urlpat_tables.specs.TableRules.{IsCompiledTo}
@@ -23,6 +24,8 @@ returns-in-Err-clause-fault c =
 pub returns-in-Ok-None-clause-rule : goal.returns-in-Ok-None-clause-rule
 returns-in-Ok-None-clause-rule c = record {
   has_entry = refl;
+  has_second = subst (λ (text : List ℕ). text ≢ []) c.cells_of.ensures.first
+      (some-name c.cells_of.result.0.now (sym c.is_empty.ensures ∙ c.if-is_empty.false));
   compiled = subst (λ (text : List ℕ). IsCompiledTo c.args.how.ignore_case (option_copied c.args.how.base) text c.in-Ok.to) c.cells_of.ensures.first
       (rw c.in-Ok.is at c.in_ok-to.ensures.compiled);
   code = ap code_in (sym c.cells_of.ensures.others) ∙ sym c.code_in.ensures ∙ c.in-Some.is;

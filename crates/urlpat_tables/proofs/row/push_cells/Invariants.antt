@@ -1,9 +1,12 @@
--- The lines so far are appended.
-use Rattle.std.proofs.Common.{◌≡◌, ◌++◌, ℕ, List}
-use Rattle.std.specs.List.{flat_map}
-use Rattle.urlpat_tables.specs.TableRoutes.{bare_lines, cell_text}
+-- The cells of the components so far are appended.
+use Rattle.std.proofs.Common.{take}
+use Rattle.urlpat_matching.specs.Filters.{AppendsPiece}
+use Rattle.urlpat_matching.specs.GroupLines.{AreCells, named_results}
+use Rattle.urlpat_tables.specs.TableRoutes.{shown_among}
+use Rattle.urlpattern.specs.BorrowedMatches.{pattern_captures_view}
+use Rattle.urlpattern.specs.Patterns.{pattern_view}
 use Rattle.urlpat_tables.proofs.row.push_cells.Given as goal
 
-abbrev pub invariant-loop-line : goal.invariant-loop-line
-invariant-loop-line l =
-    (before : List (List ℕ)) × (bare_lines l.fn.text ≡ before ++ l.line-iterator) × (l.row.items ≡ l.initial.row.items ++ flat_map cell_text before)
+abbrev pub invariant-loop-name : goal.invariant-loop-name
+invariant-loop-name l =
+    AppendsPiece (AreCells (named_results (pattern_captures_view l.found) (shown_among (pattern_view l.pattern) (take l.name-index l.name-items)))) l.initial.row.items l.row.items

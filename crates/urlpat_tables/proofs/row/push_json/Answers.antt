@@ -1,12 +1,9 @@
-use Rattle.std.proofs.Common.{ap, ◌∙◌}
+use Rattle.std.proofs.Common.{Some, refl}
 use Rattle.serde_json.specs.View.{view}
-use Rattle.serde_json.specs.Written.{has_float}
 use Rattle.urlpat_matching.proofs.MatchJsonLemmas.{match-none}
-use Rattle.urlpat_matching.specs.MatchJson.{json_line}
 use Rattle.urlpat_matching.specs.Tables.{entry_view}
-use Rattle.urlpat_tables.proofs.LabelLemmas.{text-appended}
-use Rattle.urlpat_tables.proofs.RowLemmas.{route-none}
-use Rattle.urlpat_tables.specs.TableRoutes.{IsRouteJson}
+use Rattle.urlpat_tables.proofs.LineJsonLemmas.{route-none, tree-appended}
+use Rattle.urlpat_tables.specs.TableRoutes.{IsRouteJson, name_of, route_tree}
 use Rattle.urlpattern.specs.BorrowedMatches.{pattern_captures_view}
 use Rattle.urlpat_tables.proofs.row.push_json.Goals as goal
 
@@ -14,8 +11,10 @@ pub returns : goal.returns
 returns c =
     let entry = entry_view c.args.entry.now in
     let result = pattern_captures_view c.args.found.now in
-    let found = view c.in_ok-match_tree.field-0 in
-    let matched = c.in_ok-match_tree.ensures in
-    let none = ap has_float c.in_ok-tree.ensures ∙ route-none entry found (match-none result found matched) in
-    text-appended (IsRouteJson entry result) c.extend_from_slice.result c.args.row.now.items c.extend_from_slice.new.self.items c.as_bytes.result.now c.extend_from_slice.ensures.items
-    (found, matched, c.as_bytes.ensures.value ∙ c.in_ok-line.ensures none ∙ ap json_line c.in_ok-tree.ensures)
+    let line = c.args.line.now in
+    let found = view c.in_ok-matched.matched in
+    let is = c.in_ok-matched.ensures in
+    let none = match-none result found is in
+    tree-appended c.push_tree.result (view c.in_ok-tree.tree) (route_tree line (Some entry.number) (name_of entry) found) c.args.written.now.items c.push_tree.new.written.items
+    (rw c.name_of.ensures at c.in_ok-tree.ensures) (route-none line (Some entry.number) (name_of entry) found none) c.push_tree.ensures
+    (IsRouteJson entry result line) (found, is, refl)

@@ -1,4 +1,3 @@
-use Rattle.std.proofs.Common.{◌≡◌, rules}
 use Rattle.serde_json.specs.View.{view}
 use Rattle.urlpattern_routes.specs.Rules.{reading_of}
 use Rattle.urlpattern_route_rules.proofs.CompileLemmas.{rule-compiled}
@@ -6,6 +5,5 @@ use Rattle.urlpattern_route_rules.proofs.compiled.compiled_rule.Goals as goal
 
 pub returns : goal.returns
 returns g c =
-    let slice_is : c.deref.result.now ≡ c.in_ok-rule.field-0.faults.items = search rules in
-    rule-compiled g.R.RegExp c.args.script.now c.args.index (reading_of c.args.limits.now (view c.args.tree.now)) _ c.deref.result.now c.in_ok-rule.field-0.faults.items c.in_ok-condition.inner.items c.in_ok-faults.faults.items
-    c.in_ok-rule.ensures slice_is c.in_ok-faults.ensures c.in_ok-condition.ensures
+    rule-compiled g.R.RegExp c.args.script.now c.args.index (reading_of c.args.limits.now (view c.args.tree.now)) _ c.in_ok-rule.field-0.faults.items c.in_ok-condition.inner.items c.in_ok-faults.faults.items
+    c.in_ok-rule.ensures c.in_ok-faults.ensures c.in_ok-condition.ensures

@@ -11,7 +11,7 @@ use Rattle.urlpat_tables.proofs.rewriting.NewUrlsReplyRewriteRule.matched.Goals 
 
 pub returns-in-Ok : goal.returns-in-Ok
 returns-in-Ok c = (
-  new_text c.args.self.now.json c.args.rule.now c.in-Ok.url,
+  new_text c.args.self.now.json c.args.rule.now c.in-Ok.url c.args.line.now,
   c.in_ok-pushed-in-Ok.ensures,
   inl (
     c.in-Ok.url,

@@ -4,7 +4,7 @@ use Rattle.serde_json.specs.Data.{Data}
 use Rattle.serde_json.specs.View.{view}
 use Rattle.serde_json.specs.declared.value.Value.{Value}
 use Rattle.urlpattern_routes.specs.Conditions.{condition_faults, condition_of, is_or_alone, items_of, list_faults}
-use Rattle.urlpattern_routes.specs.Faults.{fault_unless}
+use Rattle.urlpattern_routes.specs.Faults.{fault_unless, fault_view}
 use Rattle.urlpattern_routes.specs.Views.{ConditionView}
 use Rattle.urlpattern_routes.specs.declared.fault.RouterMember.TheVariants as members
 use Rattle.urlpattern_routes.specs.declared.fault.RouterReason.TheVariants as reasons
@@ -17,7 +17,7 @@ condition_of-returns-in-Some-clause-faults t c =
     let tree = view c.args.tree.now in
     let list = view c.in-Some.list.now in
     let alone = fault_unless (is_or_alone tree) members.Or reasons.NotAlone in
-    joined c.args.self.now.faults.items c.expect-in-Some.new.self.faults.items c.conditions_of.new.self.faults.items alone (list_faults list ++ flat_map (condition_faults (c.args.depth - 1) members.Or) (items_of list)) _
+    joined (map fault_view c.args.self.now.faults.items) (map fault_view c.expect-in-Some.new.self.faults.items) (map fault_view c.conditions_of.new.self.faults.items) alone (list_faults list ++ flat_map (condition_faults (c.args.depth - 1) members.Or) (items_of list)) _
     (or-faults c.args.depth c.args.member tree list c.if-depth-eq0.false (sym c.in-Some.ensures))
     (search rules) c.in_ok-conditions_of.ensures.faults
 
@@ -33,5 +33,5 @@ pub conditions_of-returns-clause-faults : goal.conditions_of-returns-clause-faul
 conditions_of-returns-clause-faults t c =
     let its = c.deref-item-items.result.now in
     let all : length its ≤ c.loop-item.item-index = omega arith in
-    found-all c.args.depth (view c.args.list.now) c.in-Some.items.now.items c.args.self.now.faults.items c.loop-item.self.faults.items (sym c.in-Some.ensures)
-    (c.loop-item.invariant.1 ∙ ap (λ (xs : List Value). c.args.self.now.faults.items ++ flat_map (λ one. condition_faults c.args.depth members.Or (view one)) xs) (take_all c.loop-item.item-index its all ∙ c.deref-item-items.ensures.value))
+    found-all c.args.depth (view c.args.list.now) c.in-Some.items.now.items (map fault_view c.args.self.now.faults.items) (map fault_view c.loop-item.self.faults.items) (sym c.in-Some.ensures)
+    (c.loop-item.invariant.1 ∙ ap (λ (xs : List Value). map fault_view c.args.self.now.faults.items ++ flat_map (λ one. condition_faults c.args.depth members.Or (view one)) xs) (take_all c.loop-item.item-index its all ∙ c.deref-item-items.ensures.value))

@@ -1,0 +1,4 @@
+use Rattle.urlpat_tables.proofs.findings.rule_findings.Goals as goal
+
+pub returns : goal.returns
+returns c = ((c.read_each.new.rules, c.in_ok-rejected.ensures, c.in_ok-compared.ensures, c.in_ok-endless.ensures), c.new-repeated.ensures.items)
